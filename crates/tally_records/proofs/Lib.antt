@@ -1,0 +1,5 @@
+pub mod Texts
+pub mod Words
+pub mod Decoded
+pub mod Members
+pub mod SortedLemmas

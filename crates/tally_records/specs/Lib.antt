@@ -1,0 +1,9 @@
+pub mod Compressed
+pub mod Decoding
+pub mod Event
+pub mod Items
+pub mod LoginRecord
+pub mod ProcRecord
+pub mod Records
+pub mod Sorted
+pub mod Text

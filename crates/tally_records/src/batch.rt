@@ -1,0 +1,182 @@
+ghost use Rattle.std.specs.Prelude.{◌≡◌, ◌≤◌, ◌<◌, ◌+◌, ◌/◌, MatchResult, OnOk, IfOk, IfErr, IfSome, All, Ok, Err, [], length, vec_len, vec_capacity};
+ghost use Rattle.tally_records.specs.Decoding.{decoded};
+ghost use Rattle.tally_records.specs.LoginRecord.{login_result};
+ghost use Rattle.tally_records.specs.ProcRecord.{IsBounded, proc_result};
+ghost use Rattle.tally_records.specs.Records.{NamesRecordBelow};
+
+use crate::fault::BatchFault;
+use crate::login::{LOGIN_SIZE, LoginRecord, read_login};
+use crate::process::{PROC_SIZE, ProcRecord, read_proc};
+use std::alloc::Global;
+use std::marker::Model;
+
+/// The most records that a batch holds.
+pub const BATCH_LIMIT: usize = 1024;
+
+/// The kinds of records.
+#[derive(Clone, Copy, Debug, PartialEq, Eq)]
+pub enum Kind {
+    /// Login records of utmp(5).
+    Login,
+    /// Process records of acct(5).
+    Proc,
+}
+
+#[derive(Drop)]
+enum Items {
+    Logins(Vec<LoginRecord>),
+    Procs(Vec<ProcRecord>),
+}
+
+/// At most 1,024 records of one kind.
+#[derive(Drop)]
+pub struct Batch {
+    items: Items,
+}
+
+impl Model for Batch {
+    ghost use Rattle.tally_records.specs.Records.{Records};
+
+    ghost Value = { Records };
+
+    ghost use Rattle.tally_records.specs.Items.{records_of, IsSound};
+
+    ghost view = { λ b. records_of b.items };
+
+    ghost invariant = { λ b. IsSound b.items };
+}
+
+/// Reads all login records into a vector that has room for them.
+fn read_logins(
+    blocks: &[[u8; LOGIN_SIZE]],
+    records: &mut Vec<LoginRecord>,
+) -> Result<(), BatchFault>
+    requires empty { records.old.items ≡ [] }
+    requires room { length blocks.now ≤ vec_capacity records.old }
+    ensures count { OnOk result (vec_len records.new ≡ length blocks.now) }
+    ensures exact { MatchResult result
+        (λ _. decoded login_result 0 blocks.now ≡ Ok records.new.items)
+        (λ fault. decoded login_result 0 blocks.now ≡ Err fault) }
+    ensures place { IfErr result (NamesRecordBelow (length blocks.now)) }
+{
+    for (index, block) in blocks.iter().enumerate() {
+        match read_login(block) {
+            Ok(record) => records.push_reserved(record),
+            Err(fault) => return Err(BatchFault::Bad { index, fault }),
+        }
+    }
+    Ok(())
+}
+
+/// Reads all process records into a vector that has room for them.
+fn read_procs(blocks: &[[u8; PROC_SIZE]], records: &mut Vec<ProcRecord>) -> Result<(), BatchFault>
+    requires empty { records.old.items ≡ [] }
+    requires room { length blocks.now ≤ vec_capacity records.old }
+    ensures count { OnOk result (vec_len records.new ≡ length blocks.now) }
+    ensures bounded { OnOk result (All IsBounded records.new.items) }
+    ensures exact { MatchResult result
+        (λ _. decoded proc_result 0 blocks.now ≡ Ok records.new.items)
+        (λ fault. decoded proc_result 0 blocks.now ≡ Err fault) }
+    ensures place { IfErr result (NamesRecordBelow (length blocks.now)) }
+{
+    for (index, block) in blocks.iter().enumerate() {
+        match read_proc(block) {
+            Ok(record) => records.push_reserved(record),
+            Err(fault) => return Err(BatchFault::Bad { index, fault }),
+        }
+    }
+    Ok(())
+}
+
+impl Batch {
+    ghost use Rattle.tally_records.specs.Records.{Records, Logins, IsAnswer, logins_of, procs_of, IsLogins, IsProcs, record_count, procs_in, login_at, proc_at, kind_of};
+
+    /// The login records of these bytes, `LOGIN_SIZE` bytes each. An empty slice is an empty batch.
+    pub fn logins(alloc: Global, bytes: &[u8]) -> Result<Batch, BatchFault>
+        ensures exact { IsAnswer result (logins_of bytes.now) }
+        ensures kind { IfOk result IsLogins }
+        ensures place { IfErr result (NamesRecordBelow (length bytes.now / LOGIN_SIZE)) }
+    {
+        if bytes.len() % LOGIN_SIZE != 0 {
+            return Err(BatchFault::Length(bytes.len()));
+        }
+        let count = bytes.len() / LOGIN_SIZE;
+        if count > BATCH_LIMIT {
+            return Err(BatchFault::TooMany(count));
+        }
+        let Ok(mut records) = Vec::with_capacity(alloc, count) else {
+            return Err(BatchFault::Memory);
+        };
+        let (blocks, _) = bytes.as_chunks::<LOGIN_SIZE>();
+        read_logins(blocks, &mut records)?;
+        Ok(Batch {
+            items: Items::Logins(records),
+        })
+    }
+
+    /// The process records of these bytes, `PROC_SIZE` bytes each. An empty slice is an empty batch.
+    pub fn procs(alloc: Global, bytes: &[u8]) -> Result<Batch, BatchFault>
+        ensures exact { IsAnswer result (procs_of bytes.now) }
+        ensures kind { IfOk result IsProcs }
+        ensures place { IfErr result (NamesRecordBelow (length bytes.now / PROC_SIZE)) }
+    {
+        if bytes.len() % PROC_SIZE != 0 {
+            return Err(BatchFault::Length(bytes.len()));
+        }
+        let count = bytes.len() / PROC_SIZE;
+        if count > BATCH_LIMIT {
+            return Err(BatchFault::TooMany(count));
+        }
+        let Ok(mut records) = Vec::with_capacity(alloc, count) else {
+            return Err(BatchFault::Memory);
+        };
+        let (blocks, _) = bytes.as_chunks::<PROC_SIZE>();
+        read_procs(blocks, &mut records)?;
+        Ok(Batch {
+            items: Items::Procs(records),
+        })
+    }
+
+    /// What kind of records it holds.
+    pub fn kind(&self) -> Kind
+        ensures { result ≡ kind_of self.now }
+    {
+        match &self.items {
+            Items::Logins(_) => Kind::Login,
+            Items::Procs(_) => Kind::Proc,
+        }
+    }
+
+    /// How many records it holds.
+    pub fn len(&self) -> usize
+        ensures count { result ≡ record_count self.now }
+        ensures limit { result ≤ BATCH_LIMIT }
+        ensures bounded { All IsBounded (procs_in self.now) }
+    {
+        match &self.items {
+            Items::Logins(records) => records.len(),
+            Items::Procs(records) => records.len(),
+        }
+    }
+
+    /// The login record at a place, counted from 0.
+    pub fn login_at(&self, index: usize) -> Option<LoginRecord>
+        ensures { result ≡ login_at self.now index }
+    {
+        match &self.items {
+            Items::Logins(records) => records.get(index).copied(),
+            Items::Procs(_) => None,
+        }
+    }
+
+    /// The process record at a place, counted from 0.
+    pub fn proc_at(&self, index: usize) -> Option<ProcRecord>
+        ensures value { result ≡ proc_at self.now index }
+        ensures bounded { IfSome result IsBounded }
+    {
+        match &self.items {
+            Items::Logins(_) => None,
+            Items::Procs(records) => records.get(index).copied(),
+        }
+    }
+}

@@ -1,0 +1,29 @@
+ghost use Rattle.std.specs.Prelude.{◌≡◌, ◌==◌, length, position};
+ghost use Rattle.tally_records.specs.Text.{text_of};
+
+/// A line or a user, `ut_line` and `ut_user` of utmp(5): the text's bytes, then zeros.
+pub type Name = [u8; 32];
+
+/// A remote host, `ut_host` of utmp(5): the text's bytes, then zeros.
+pub type Remote = [u8; 256];
+
+/// The name of a command, `ac_comm` of acct(5): the text's bytes, then zeros.
+pub type Comm = [u8; 17];
+
+/// Where a field has its first NUL.
+fn first_nul(field: &[u8]) -> Option<usize>
+    ensures { result ≡ position (λ b. b == 0) field.now }
+{
+    field.iter().position(|byte| *byte == 0)
+}
+
+/// The text of a field, which ends at its first NUL or fills the field.
+pub(crate) fn text<const N: usize>(field: &[u8]) -> [u8; N]
+    requires { length field.now ≡ N }
+    ensures { result ≡ text_of field.now }
+{
+    let end = first_nul(field).unwrap_or(N);
+    let mut kept = [0; N];
+    kept[..end].copy_from_slice(&field[..end]);
+    kept
+}

@@ -1,0 +1,71 @@
+ghost use Rattle.std.specs.Prelude.{◌≡◌};
+ghost use Rattle.tally_records.specs.LoginRecord.{login_result, login_type};
+ghost use Rattle.tally_records.specs.Text.{i32_at};
+
+use crate::fault::RecordFault;
+use crate::field::{Name, Remote, text};
+use byteorder::{ByteOrder, LittleEndian};
+
+/// The size of a login record in bytes.
+pub const LOGIN_SIZE: usize = 384;
+
+/// A record of a wtmp file, as utmp(5) has it on Linux x86-64.
+#[derive(Clone, Copy, Debug, PartialEq, Eq)]
+pub struct LoginRecord {
+    /// `ut_type`, 0 to 9.
+    pub kind: u8,
+    pub line: Name,
+    pub user: Name,
+    pub remote: Remote,
+    /// Seconds since 1970-01-01 00:00:00 UTC.
+    pub time: i32,
+}
+
+/// What a login record tells.
+#[derive(Clone, Copy, Debug, PartialEq, Eq)]
+pub enum Event {
+    /// A user logs in on a line.
+    Login,
+    /// The session on a line ends.
+    Logout,
+    /// The host starts.
+    Boot,
+    /// The host is shut down.
+    Down,
+    /// The clock is about to be changed; the record's time is the old one.
+    OldTime,
+    /// The clock was changed; the record's time is the new one.
+    NewTime,
+    /// Nothing about sessions.
+    Nothing,
+}
+
+fn type_of(bytes: &[u8; LOGIN_SIZE]) -> i16
+    ensures { result ≡ login_type bytes.now }
+{
+    LittleEndian::read_i16(bytes)
+}
+
+fn time_of(bytes: &[u8; LOGIN_SIZE]) -> i32
+    ensures { result ≡ i32_at 340 bytes.now }
+{
+    let time = &bytes[340..];
+    LittleEndian::read_i32(time)
+}
+
+/// Reads a login record by the layout of utmp(5).
+pub fn read_login(bytes: &[u8; LOGIN_SIZE]) -> Result<LoginRecord, RecordFault>
+    ensures { result ≡ login_result bytes.now }
+{
+    let kind = type_of(bytes);
+    if kind < 0 || kind > 9 {
+        return Err(RecordFault::LoginType(kind));
+    }
+    Ok(LoginRecord {
+        kind: kind as u8,
+        line: text(&bytes[8..40]),
+        user: text(&bytes[44..76]),
+        remote: text(&bytes[76..332]),
+        time: time_of(bytes),
+    })
+}
