@@ -1,0 +1,4 @@
+pub mod Civil
+pub mod ConnectText
+pub mod Output
+pub mod Text

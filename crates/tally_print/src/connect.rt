@@ -1,0 +1,77 @@
+ghost use Rattle.std.specs.Prelude.{◌≡◌, ◌+◌, ◌-◌, ◌^◌, ◌<◌, ◌++◌, All, IfSome, IsTrue, OnOk};
+ghost use Rattle.tally_print.specs.Civil.{IsReportDay};
+ghost use Rattle.tally_print.specs.Output.{AppendsPrefix, failed_calls};
+ghost use Rattle.tally_print.specs.Text.{left};
+ghost use Rattle.tally_print.specs.ConnectText.{day_column, user_column, connect_line, connect_text};
+
+use crate::date::push_date;
+use crate::put::{new_page, put_all, turn_page};
+use crate::row::ConnectRow;
+use crate::text::{push_left, push_left_shown, push_right_hours};
+use crate::{Output, PrintFault};
+use std::alloc::{AllocError, Global};
+use tally_records::Name;
+
+fn push_day(line: &mut Vec<u8>, day: Option<i32>) -> Result<(), AllocError>
+    requires { IfSome day IsReportDay }
+    ensures { OnOk result (line.new.items ≡ line.old.items ++ day_column day) }
+{
+    if let Some(day) = day {
+        push_date(line, day)?;
+        line.push(b' ')?;
+    }
+    Ok(())
+}
+
+fn push_user(line: &mut Vec<u8>, user: &Option<Name>) -> Result<(), AllocError>
+    ensures { OnOk result (line.new.items ≡ line.old.items ++ left (user_column user.now) 20) }
+{
+    match user {
+        Some(user) => push_left_shown(line, user, 20),
+        None => push_left(line, b"total", 20),
+    }
+}
+
+#[tactic(auto, unfolding(crate::specs::ConnectText::connect_line))]
+fn push_row(line: &mut Vec<u8>, row: &ConnectRow) -> Result<(), AllocError>
+    requires { IfSome row.now.day IsReportDay }
+    ensures { OnOk result (line.new.items ≡ line.old.items ++ connect_line row.now) }
+{
+    push_day(line, row.day)?;
+    push_user(line, &row.user)?;
+    line.push(b' ')?;
+    push_right_hours(line, row.seconds, 12)?;
+    line.push(b'\n')?;
+    Ok(())
+}
+
+/// Prints connect times as ac(1) does: a line for each row, then the total, in hours. `Write`
+/// is a failure of the output in this call; a first part of the text was written then.
+pub fn print_connect<O: Output>(
+    alloc: Global,
+    rows: &[ConnectRow],
+    total: u64,
+    out: &mut O,
+) -> Result<(), PrintFault>
+    requires failures { O.failures out.old < 2 ^ 64 - 1 }
+    requires days { All (λ row. IfSome row.day IsReportDay) rows.now }
+    ensures prefix { IsTrue (O.tells out.old)
+        → AppendsPrefix (O.written out.old) (O.written out.new) (connect_text rows.now total) }
+    ensures ok { OnOk result (IsTrue (O.tells out.old)
+        → O.written out.new ≡ O.written out.old ++ connect_text rows.now total) }
+    ensures counts { O.failures out.new ≡ O.failures out.old + failed_calls result }
+    ensures stays { O.tells out.new ≡ O.tells out.old }
+{
+    let mut page = new_page(alloc)?;
+    for row in rows {
+        push_row(&mut page, row)?;
+        turn_page(&mut page, out)?;
+    }
+    let total = ConnectRow {
+        day: None,
+        user: None,
+        seconds: total,
+    };
+    push_row(&mut page, &total)?;
+    put_all(page.as_slice(), out)
+}
