@@ -1,0 +1,16 @@
+pub mod Clocks
+pub mod HostSteps
+pub mod Lengths
+pub mod Forward
+pub mod Places
+pub mod TrackSteps
+pub mod TrackAdvance
+pub mod Posted
+pub mod Tracks
+pub mod Staging
+pub mod StayCounts
+pub mod EveryHost
+pub mod HostCounts
+pub mod StaysNow
+pub mod Rows
+pub mod DaysLemmas

@@ -1,0 +1,151 @@
+-- The stays of a host as they stand now, from its track.
+use Rattle.std.proofs.Common.{◌≡◌, ℕ, ◌+◌, ◌<◌, ◌≤◌, List, [], ◌∷◌, ◌++◌, map, filter, not, length, get_or, take, drop, reverse, Bool, true, false, cond, Option, Some, None, ℤ, pos, refl, sym, ap, ◌∙◌, arith}
+use Rattle.std.proofs.lemmas.Bool.{false≢true}
+use Rattle.std.proofs.lemmas.List.{take_more, take_all, map-append, length-map, at_drop_more, reverse-append, take-append-le, take-append-drop, get_or-map}
+use Rattle.std.proofs.lemmas.List.Elements.{filter-append}
+use Rattle.std.proofs.lemmas.List.Sums.{sum_by-append}
+use Rattle.std.proofs.Math.Seq.{take-length}
+use Rattle.std.specs.Prelude.{◌&&◌, bytes_eq, sum_by}
+use Rattle.tally_records.specs.declared.login.Event.{Event}
+use Rattle.tally_records.specs.declared.login.Event.TheVariants.{Login, Logout, Boot, Down, OldTime, NewTime, Nothing}
+use Rattle.tally_records.specs.Event.{event_of}
+use Rattle.tally_sessions.specs.declared.entry.Entry.{Entry}
+use Rattle.tally_sessions.specs.declared.entry.Stay.{Stay}
+use Rattle.tally_sessions.specs.declared.ending.Ending.{Ending}
+use Rattle.tally_sessions.specs.declared.ending.TrackedStay.{TrackedStay}
+use Rattle.tally_sessions.specs.declared.track.Track.{Track}
+use Rattle.tally_sessions.specs.Hosts.{of_host}
+use Rattle.tally_sessions.specs.Stays.{is_boot_event, is_login_event, last_time, starts_stay}
+use Rattle.tally_sessions.specs.Totals.{session_seconds, stays_of, user_seconds}
+use Rattle.tally_sessions.specs.Track.{start_of, ending_now, stay_now, tracked_in, IsTrack}
+use Rattle.tally_sessions.specs.Tracking.{clock, completed, tracked_from}
+use Rattle.tally_sessions.proofs.Forward.{stays_from-tracked}
+use Rattle.tally_sessions.proofs.StayCounts.{length-stays_from}
+
+stay_now-completed : (host : ℕ) (es : List Entry) (now time : ℤ) (t : TrackedStay) → stay_now host es now time t ≡ completed host now time (tracked_in host es t)
+stay_now-completed host es now time t = by t.ended
+  where
+    by : (e : Option Ending) → stay_now host es now time (record t { ended = e }) ≡ completed host now time (tracked_in host es (record t { ended = e }))
+    by (Some e) = refl
+    by None = refl
+
+map-stay_now : (host : ℕ) (es : List Entry) (now time : ℤ) (ts : List TrackedStay) → map (stay_now host es now time) ts ≡ map (completed host now time) (map (tracked_in host es) ts)
+map-stay_now host es now time [] = refl
+map-stay_now host es now time (t ∷ ts) =
+    ap (λ s. s ∷ map (stay_now host es now time) ts) (stay_now-completed host es now time t)
+    ∙ ap (λ ss. completed host now time (tracked_in host es t) ∷ ss) (map-stay_now host es now time ts)
+
+-- the tracked stays are the stays
+pub stays_now : (host : ℕ) (es : List Entry) (a : Track) → IsTrack host es (length es) a → map (stay_now host es a.clock a.last) a.stays.items ≡ stays_of host es
+stays_now host es a h =
+    let all : of_host host (take (length es) es) ≡ of_host host es = ap (of_host host) (take-length es) in
+    map-stay_now host es a.clock a.last a.stays.items
+    ∙ ap (map (completed host a.clock a.last)) (h.stays ∙ ap (tracked_from host []) all)
+    ∙ ap (λ (z : ℤ). map (completed host z a.last) (tracked_from host [] (of_host host es))) (h.clock ∙ ap clock all)
+    ∙ ap (λ (z : ℤ). map (completed host (clock (of_host host es)) z) (tracked_from host [] (of_host host es))) (h.last ∙ ap (last_time (pos 0)) all)
+    ∙ sym (stays_from-tracked host [] (of_host host es) (pos 0))
+
+pub count_now : (host : ℕ) (es : List Entry) (a : Track) → IsTrack host es (length es) a → length a.stays.items ≤ length (of_host host es)
+count_now host es a h =
+    let same = ap length (stays_now host es a h) in
+    let mapped = length-map a.stays.items (stay_now host es a.clock a.last) in
+    let few = length-stays_from host [] (of_host host es) in omega arith
+
+session_seconds-append : (xs ys : List Stay) → session_seconds (xs ++ ys) ≡ session_seconds xs + session_seconds ys
+session_seconds-append xs ys =
+    ap (sum_by (λ (s : Stay). s.length)) (filter-append (λ (s : Stay). not s.is_boot) xs ys)
+    ∙ sum_by-append (λ (s : Stay). s.length) (filter (λ (s : Stay). not s.is_boot) xs) (filter (λ (s : Stay). not s.is_boot) ys)
+
+-- one stay more
+pub seconds_more : (f : TrackedStay → Stay) (ts : List TrackedStay) (i : ℕ) (t : TrackedStay) → i < length ts → session_seconds (map f (take (i + 1) ts)) ≡ session_seconds (map f (take i ts)) + session_seconds (f (get_or ts i t) ∷ [])
+seconds_more f ts i t lt =
+    ap (λ us. session_seconds (map f us)) (take_more ts i t lt)
+    ∙ ap session_seconds (map-append f (take i ts) (get_or ts i t ∷ []))
+    ∙ session_seconds-append (map f (take i ts)) (f (get_or ts i t) ∷ [])
+
+-- a login adds the length of its stay, and a boot nothing
+pub seconds_login : (host : ℕ) (es : List Entry) (now time : ℤ) (t : TrackedStay) → is_login_event (event_of (start_of es t)) ≡ true → session_seconds (stay_now host es now time t ∷ []) ≡ (ending_now es now time t).length
+seconds_login host es now time t login = by (event_of (start_of es t)) login
+  where
+    by : (e : Event) → is_login_event e ≡ true → sum_by (λ (x : Stay). x.length) (cond (not (is_boot_event e)) (stay_now host es now time t ∷ []) []) ≡ (ending_now es now time t).length
+    by Login h = omega arith
+    by Boot h = absurd (false≢true h)
+    by Logout h = absurd (false≢true h)
+    by Down h = absurd (false≢true h)
+    by OldTime h = absurd (false≢true h)
+    by NewTime h = absurd (false≢true h)
+    by Nothing h = absurd (false≢true h)
+
+pub seconds_boot : (host : ℕ) (es : List Entry) (now time : ℤ) (t : TrackedStay) → is_login_event (event_of (start_of es t)) ≡ false → starts_stay (event_of (start_of es t)) ≡ true → session_seconds (stay_now host es now time t ∷ []) ≡ 0
+seconds_boot host es now time t other starts = by (event_of (start_of es t)) other starts
+  where
+    by : (e : Event) → is_login_event e ≡ false → starts_stay e ≡ true → sum_by (λ (x : Stay). x.length) (cond (not (is_boot_event e)) (stay_now host es now time t ∷ []) []) ≡ 0
+    by Login h starts = absurd (false≢true (sym h))
+    by Boot h starts = refl
+    by Logout h starts = absurd (false≢true starts)
+    by Down h starts = absurd (false≢true starts)
+    by OldTime h starts = absurd (false≢true starts)
+    by NewTime h starts = absurd (false≢true starts)
+    by Nothing h starts = absurd (false≢true starts)
+
+user_seconds-append : (user : List ℕ) (xs ys : List Stay) → user_seconds user (xs ++ ys) ≡ user_seconds user xs + user_seconds user ys
+user_seconds-append user xs ys =
+    ap (sum_by (λ (s : Stay). s.length)) (filter-append (λ (s : Stay). not s.is_boot && bytes_eq s.user user) xs ys)
+    ∙ sum_by-append (λ (s : Stay). s.length) (filter (λ (s : Stay). not s.is_boot && bytes_eq s.user user) xs) (filter (λ (s : Stay). not s.is_boot && bytes_eq s.user user) ys)
+
+pub user_seconds_more : (user : List ℕ) (f : TrackedStay → Stay) (ts : List TrackedStay) (i : ℕ) (t : TrackedStay) → i < length ts
+    → user_seconds user (map f (take (i + 1) ts)) ≡ user_seconds user (map f (take i ts)) + user_seconds user (f (get_or ts i t) ∷ [])
+user_seconds_more user f ts i t lt =
+    ap (λ us. user_seconds user (map f us)) (take_more ts i t lt)
+    ∙ ap (user_seconds user) (map-append f (take i ts) (get_or ts i t ∷ []))
+    ∙ user_seconds-append user (map f (take i ts)) (f (get_or ts i t) ∷ [])
+
+-- a login of the user adds the length of its stay, and every other stay nothing
+pub user_seconds_login : (user : List ℕ) (host : ℕ) (es : List Entry) (now time : ℤ) (t : TrackedStay) → (is_login_event (event_of (start_of es t)) && bytes_eq (start_of es t).user user) ≡ true
+    → user_seconds user (stay_now host es now time t ∷ []) ≡ (ending_now es now time t).length
+user_seconds_login user host es now time t login = by (event_of (start_of es t)) (bytes_eq (start_of es t).user user) login
+  where
+    by : (e : Event) (b : Bool) → (is_login_event e && b) ≡ true → sum_by (λ (x : Stay). x.length) (cond (not (is_boot_event e) && b) (stay_now host es now time t ∷ []) []) ≡ (ending_now es now time t).length
+    by Login true h = omega arith
+    by Login false h = absurd (false≢true h)
+    by Boot b h = absurd (false≢true h)
+    by Logout b h = absurd (false≢true h)
+    by Down b h = absurd (false≢true h)
+    by OldTime b h = absurd (false≢true h)
+    by NewTime b h = absurd (false≢true h)
+    by Nothing b h = absurd (false≢true h)
+
+pub user_seconds_other : (user : List ℕ) (host : ℕ) (es : List Entry) (now time : ℤ) (t : TrackedStay) → (is_login_event (event_of (start_of es t)) && bytes_eq (start_of es t).user user) ≡ false
+    → starts_stay (event_of (start_of es t)) ≡ true → user_seconds user (stay_now host es now time t ∷ []) ≡ 0
+user_seconds_other user host es now time t other starts = by (event_of (start_of es t)) (bytes_eq (start_of es t).user user) other starts
+  where
+    by : (e : Event) (b : Bool) → (is_login_event e && b) ≡ false → starts_stay e ≡ true → sum_by (λ (x : Stay). x.length) (cond (not (is_boot_event e) && b) (stay_now host es now time t ∷ []) []) ≡ 0
+    by Login true h starts = absurd (false≢true (sym h))
+    by Login false h starts = refl
+    by Boot b h starts = refl
+    by Logout b h starts = absurd (false≢true starts)
+    by Down b h starts = absurd (false≢true starts)
+    by OldTime b h starts = absurd (false≢true starts)
+    by NewTime b h starts = absurd (false≢true starts)
+    by Nothing b h starts = absurd (false≢true starts)
+
+-- one stay further back
+pub latest_more : (f : TrackedStay → Stay) (ts : List TrackedStay) (i : ℕ) (t : TrackedStay) (d : Stay) → i < length ts → reverse (drop i (map f ts)) ≡ reverse (drop (i + 1) (map f ts)) ++ f (get_or ts i t) ∷ []
+latest_more f ts i t d lt =
+    ap reverse (at_drop_more (λ (ss : List Stay). ss) (map f ts) i d (omega (arith, length-map ts f)))
+    ∙ reverse-append (get_or (map f ts) i d ∷ []) (drop (i + 1) (map f ts))
+    ∙ ap (λ s. reverse (drop (i + 1) (map f ts)) ++ s ∷ []) (get_or-map f ts i t d lt)
+
+-- no stay is left, or the limit is reached
+pub latest_all : (all found : List Stay) (i limit : ℕ) → found ≡ reverse (drop i all) → i ≡ 0 → length found ≤ limit → found ≡ take limit (reverse all)
+latest_all all found i limit e zero few = sym (take_all limit found few) ∙ ap (take limit) (e ∙ ap (λ k. reverse (drop k all)) zero)
+
+pub latest_limit : (all found : List Stay) (i limit : ℕ) → found ≡ reverse (drop i all) → length found ≡ limit → found ≡ take limit (reverse all)
+latest_limit all found i limit e n =
+    sym (
+    ap (λ ss. take limit (reverse ss)) (sym (take-append-drop i all))
+    ∙ ap (take limit) (reverse-append (take i all) (drop i all))
+    ∙ ap (λ ss. take limit (ss ++ reverse (take i all))) (sym e)
+    ∙ take-append-le limit found (reverse (take i all)) (omega arith)
+    ∙ take_all limit found (omega arith)
+    )

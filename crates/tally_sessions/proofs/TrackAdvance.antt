@@ -1,0 +1,317 @@
+-- The track of a host, behind one record more.
+use Rattle.std.proofs.Common.{◌≡◌, ◌≢◌, ◌⊎◌, inl, inr, ℕ, ◌+◌, ◌<◌, ◌≤◌, ◌&&◌, List, [], ◌∷◌, ◌++◌, map, length, get_or, take, Bool, true, false, cond, Option, Some, None, IsSome, unwrap_or, ℤ, pos, ◌+ℤ◌, refl, sym, ap, ◌∙◌, arith, subst, length-append}
+use Rattle.std.proofs.lemmas.Int.{ints}
+use Rattle.std.proofs.lemmas.Bool.{false≢true, cases_eq}
+use Rattle.std.proofs.lemmas.List.{length-map, get_or-map, get_or_append_left, map-append, with_items_is}
+use Rattle.std.proofs.Math.Seq.{get_or-append_seam}
+use Rattle.std.proofs.lemmas.Slice.Eq.{bytes_eq-Decides}
+use Rattle.std.specs.Map.{lookup}
+use Rattle.std.specs.Option.{option_map}
+use Rattle.std.specs.Prelude.{bytes_eq, slice_get}
+use Rattle.std.specs.Vec.{with_items, vec_len, vec_capacity}
+use Rattle.std.specs.HashMap.{spare}
+use Rattle.tally_records.specs.declared.login.LoginRecord.{LoginRecord}
+use Rattle.tally_records.specs.declared.login.Event.{Event}
+use Rattle.tally_records.specs.declared.login.Event.TheVariants.{Login, Logout, Boot, Down, OldTime, NewTime, Nothing}
+use Rattle.tally_records.specs.Event.{event_of}
+use Rattle.tally_sessions.specs.declared.entry.Entry.{Entry}
+use Rattle.tally_sessions.specs.declared.ending.TrackedStay.{TrackedStay}
+use Rattle.tally_sessions.specs.declared.track.Track.{Track}
+use Rattle.tally_sessions.specs.Clock.{pending_old_time, shift_at}
+use Rattle.tally_sessions.specs.Hosts.{of_host, entry_at}
+use Rattle.tally_sessions.specs.Stays.{ends_event, ends_stay, starts_stay, is_login_event, last_time}
+use Rattle.tally_sessions.specs.Track.{no_stay, stay_at, start_of, behind, tracked_in, IsWithin, IsTracked, IsOnLine, AreTracked, IsTrack, started, LeadsTo, ends_every_stay, HasRoom}
+use Rattle.tally_sessions.specs.Tracking.{Tracked, pending_at, clock, tracked_from, advanced, fresh}
+use Rattle.tally_sessions.proofs.Clocks.{pending_old_time-push}
+use Rattle.tally_sessions.proofs.Forward.{clock-push, last_time-push, tracked_from-push}
+use Rattle.tally_sessions.proofs.HostSteps.{of_host-take_same}
+use Rattle.tally_sessions.proofs.TrackSteps.{tracked_in-behind, behind-ended, behind-ends, behind-pending, ends_all, some_inj}
+
+pub IsWithin-more : (n : ℕ) (z : ℤ) → IsWithin n z → IsWithin (n + 1) z
+IsWithin-more n z h = let a = h.low in let b = h.high in record { low = omega (arith, ints); high = omega (arith, ints) }
+
+pub IsWithin-all : (n m : ℕ) (z : ℤ) → n ≤ m → IsWithin n z → IsWithin m z
+IsWithin-all n m z le h = let a = h.low in let b = h.high in record { low = omega (arith, ints); high = omega (arith, ints) }
+
+-- a record's line leads to it, where it is a login
+same_line : (a b : List ℕ) → bytes_eq a b ≡ false → bytes_eq b a ≡ false
+same_line a b h = by (bytes_eq b a) refl
+  where
+    by : (t : Bool) → bytes_eq b a ≡ t → bytes_eq b a ≡ false
+    by false e = e
+    by true e = absurd (false≢true (sym h ∙ (bytes_eq-Decides a b).1 (sym ((bytes_eq-Decides b a).0 e))))
+
+-- a login that is pending behind a record is not on the line of a login
+off_line : (r x : LoginRecord) → event_of r ≡ Login → ends_stay r x ≡ false → (is_login_event (event_of x) && bytes_eq x.line r.line) ≡ false
+off_line r x login none = by (event_of x) (ap (λ e. ends_event e (event_of x) (bytes_eq r.line x.line)) (sym login) ∙ none)
+  where
+    by : (e : Event) → ends_event Login e (bytes_eq r.line x.line) ≡ false → (is_login_event e && bytes_eq x.line r.line) ≡ false
+    by Login h = same_line r.line x.line h
+    by Logout h = refl
+    by Boot h = refl
+    by Down h = refl
+    by OldTime h = refl
+    by NewTime h = refl
+    by Nothing h = refl
+
+module _ (es : List Entry) (n : ℕ) (lines lines' : List (List ℕ × ℕ)) (swept swept' : ℕ) (stays : List TrackedStay) (now : ℤ) where
+  abbrev x : LoginRecord
+  x = (entry_at es n).item
+
+  abbrev after : List TrackedStay
+  after = map (behind es now x) stays ++ started es n now
+
+  stay_before : (k : ℕ) → k < length stays → stay_at after k ≡ behind es now x (stay_at stays k)
+  stay_before k lt =
+      get_or_append_left (map (behind es now x) stays) (started es n now) no_stay k (omega (arith, length-map stays (behind es now x)))
+      ∙ get_or-map (behind es now x) stays k no_stay no_stay lt
+
+  abbrev new : TrackedStay
+  new = record { entry = n; clock_at = now; ended = None }
+
+  started_is : (b : Bool) → starts_stay (event_of x) ≡ b → started es n now ≡ cond b (new ∷ []) []
+  started_is b h = ap (λ t. cond t (new ∷ []) []) h
+
+  stay_new : starts_stay (event_of x) ≡ true → stay_at after (length stays) ≡ new
+  stay_new h =
+      ap (λ ss. get_or (map (behind es now x) stays ++ ss) (length stays) no_stay) (started_is true h)
+      ∙ ap (λ k. get_or (map (behind es now x) stays ++ new ∷ []) k no_stay) (sym (length-map stays (behind es now x)))
+      ∙ get_or-append_seam (map (behind es now x) stays) new [] no_stay
+
+  length_after : (b : Bool) → starts_stay (event_of x) ≡ b → length after ≡ length stays + length (cond b (new ∷ []) [])
+  length_after b h =
+      length-append (map (behind es now x) stays) (started es n now)
+      ∙ ap (λ k. k + length (started es n now)) (length-map stays (behind es now x))
+      ∙ ap (λ ss. length stays + length ss) (started_is b h)
+
+  login_starts : is_login_event (event_of x) ≡ true → starts_stay (event_of x) ≡ true
+  login_starts = by (event_of x)
+    where
+      by : (e : Event) → is_login_event e ≡ true → starts_stay e ≡ true
+      by Login h = refl
+      by Logout h = absurd (false≢true h)
+      by Boot h = refl
+      by Down h = absurd (false≢true h)
+      by OldTime h = absurd (false≢true h)
+      by NewTime h = absurd (false≢true h)
+      by Nothing h = absurd (false≢true h)
+
+  is_login : (e : Event) → is_login_event e ≡ true → e ≡ Login
+  is_login Login h = refl
+  is_login Logout h = absurd (false≢true h)
+  is_login Boot h = absurd (false≢true h)
+  is_login Down h = absurd (false≢true h)
+  is_login OldTime h = absurd (false≢true h)
+  is_login NewTime h = absurd (false≢true h)
+  is_login Nothing h = absurd (false≢true h)
+
+  both : (a b : Bool) → (a && b) ≡ true → (a ≡ true) × (b ≡ true)
+  both true b h = (refl, h)
+  both false b h = absurd (false≢true h)
+
+  -- the record ends every stay, or the sweep is where it was
+  abbrev pub Sweeps : Type 0
+  Sweeps = (swept' ≡ swept) ⊎ ((t : TrackedStay) → starts_stay (event_of (start_of es t)) ≡ true → ends_stay (start_of es t) x ≡ true)
+
+  pub AreTracked-advance : AreTracked es n lines swept stays → IsWithin (n + 1) now → Sweeps → swept' ≤ length stays → LeadsTo lines lines' x (length stays) → AreTracked es (n + 1) lines' swept' after
+  AreTracked-advance h within sweeps swept_in leads = record { at = at; on = on }
+    where
+      old_at : (k : ℕ) → k < length stays → IsTracked es (n + 1) lines' swept' k (behind es now x (stay_at stays k))
+      old_at k lt =
+          let t = stay_at stays k in
+          let old = h.at k lt in record {
+            placed = let p = old.placed in omega arith;
+            starts = old.starts;
+            moved = IsWithin-more n t.clock_at old.moved;
+            ended = λ below. by_sweep sweeps below;
+            found = λ none login.
+                let was = behind-pending es now x t none in
+                leads (start_of es t).line
+                ∙ ap (λ b. cond b (Some (length stays)) (lookup (bytes_eq (start_of es t).line) lines)) (off_line (start_of es t) x login was.1)
+                ∙ old.found was.0 login;
+          }
+        where
+          by_sweep : Sweeps → k < swept' → IsSome (behind es now x (stay_at stays k)).ended
+          by_sweep (inl same) below = subst (λ (t : TrackedStay). IsSome t.ended) (sym (behind-ended es now x (stay_at stays k) ((h.at k lt).ended (omega arith)))) ((h.at k lt).ended (omega arith))
+          by_sweep (inr all) below = behind-ends es now x (stay_at stays k) (all (stay_at stays k) (h.at k lt).starts)
+
+      new_at : (k : ℕ) → k ≡ length stays → starts_stay (event_of x) ≡ true → IsTracked es (n + 1) lines' swept' k new
+      new_at k e starts = record {
+        placed = omega arith;
+        starts = starts;
+        moved = within;
+        ended = λ below. absurd (let bad : k < length stays = omega arith in omega arith);
+        found = λ none login.
+            leads x.line
+            ∙ ap (λ ev. cond (is_login_event ev && bytes_eq x.line x.line) (Some (length stays)) (lookup (bytes_eq x.line) lines)) login
+            ∙ ap (λ b. cond b (Some (length stays)) (lookup (bytes_eq x.line) lines)) ((bytes_eq-Decides x.line x.line).1 refl)
+            ∙ ap Some (sym e);
+      }
+
+      by_start : (k : ℕ) → k < length after → k ≢ length stays → k < length stays
+      by_start k lt other = by (starts_stay (event_of x)) refl
+        where
+          by : (b : Bool) → starts_stay (event_of x) ≡ b → k < length stays
+          by true e = let l = length_after true e in omega arith
+          by false e = let l = length_after false e in omega arith
+
+      starts_if : (k : ℕ) → k < length after → k ≡ length stays → starts_stay (event_of x) ≡ true
+      starts_if k lt e = by (starts_stay (event_of x)) refl
+        where
+          by : (b : Bool) → starts_stay (event_of x) ≡ b → starts_stay (event_of x) ≡ true
+          by true e' = e'
+          by false e' = let l = length_after false e' in absurd (let bad : k < k = omega arith in omega arith)
+
+      at : (k : ℕ) → k < length after → IsTracked es (n + 1) lines' swept' k (stay_at after k)
+      at k lt = by (cases_eq k (length stays))
+        where
+          by : (k ≡ length stays) ⊎ (k ≢ length stays) → IsTracked es (n + 1) lines' swept' k (stay_at after k)
+          by (inl e) =
+              let starts = starts_if k lt e in
+              subst (IsTracked es (n + 1) lines' swept' k) (sym (ap (stay_at after) e ∙ stay_new starts)) (new_at k e starts)
+          by (inr other) =
+              let lt' = by_start k lt other in
+              subst (IsTracked es (n + 1) lines' swept' k) (sym (stay_before k lt')) (old_at k lt')
+
+      on : (line : List ℕ) (i : ℕ) → lookup (bytes_eq line) lines' ≡ Some i → IsOnLine es after line i
+      on line i found = by (is_login_event (event_of x) && bytes_eq x.line line) refl
+        where
+          by : (b : Bool) → (is_login_event (event_of x) && bytes_eq x.line line) ≡ b → IsOnLine es after line i
+          by true e =
+              let login = (both (is_login_event (event_of x)) (bytes_eq x.line line) e).0 in
+              let same = (bytes_eq-Decides x.line line).0 (both (is_login_event (event_of x)) (bytes_eq x.line line) e).1 in
+              let starts = login_starts login in
+              let place : length stays ≡ i = some_inj (length stays) i (sym (leads line ∙ ap (λ b. cond b (Some (length stays)) (lookup (bytes_eq line) lines)) e) ∙ found) in
+              let long = length_after true starts in
+              let there : stay_at after i ≡ new = ap (stay_at after) (sym place) ∙ stay_new starts in record {
+                within = omega arith;
+                login = ap (λ (t : TrackedStay). event_of (start_of es t)) there ∙ is_login (event_of x) login;
+                same = ap (λ (t : TrackedStay). (start_of es t).line) there ∙ same;
+              }
+          by false e =
+              let old = h.on line i (sym (leads line ∙ ap (λ b. cond b (Some (length stays)) (lookup (bytes_eq line) lines)) e) ∙ found) in
+              let lt = old.within in
+              let there = stay_before i lt in record {
+                within = let l = length-append (map (behind es now x) stays) (started es n now) in let m = length-map stays (behind es now x) in omega arith;
+                login = ap (λ (t : TrackedStay). event_of (start_of es t)) there ∙ old.login;
+                same = ap (λ (t : TrackedStay). (start_of es t).line) there ∙ old.same;
+              }
+
+map-tracked_in : (host : ℕ) (es : List Entry) (now : ℤ) (x : LoginRecord) (ts : List TrackedStay) → map (tracked_in host es) (map (behind es now x) ts) ≡ map (advanced host now x) (map (tracked_in host es) ts)
+map-tracked_in host es now x [] = refl
+map-tracked_in host es now x (t ∷ ts) =
+    ap (λ y. y ∷ map (tracked_in host es) (map (behind es now x) ts)) (tracked_in-behind host es now x t)
+    ∙ ap (λ ys. advanced host now x (tracked_in host es t) ∷ ys) (map-tracked_in host es now x ts)
+
+started-fresh : (host : ℕ) (es : List Entry) (n : ℕ) (rs : List LoginRecord) (now : ℤ) → now ≡ clock (rs ++ (entry_at es n).item ∷ []) → map (tracked_in host es) (started es n now) ≡ fresh rs (entry_at es n).item
+started-fresh host es n rs now e = by (starts_stay (event_of (entry_at es n).item)) ∙ ap (λ (z : ℤ). cond (starts_stay (event_of (entry_at es n).item)) (record { start = (entry_at es n).item; clock_at = z; ended = None } ∷ []) []) e
+  where
+    by : (b : Bool) → map (tracked_in host es) (cond b (record { entry = n; clock_at = now; ended = None } ∷ []) []) ≡ cond b (record { start = (entry_at es n).item; clock_at = now; ended = None } ∷ []) []
+    by true = refl
+    by false = refl
+
+first_more : (rs : List LoginRecord) (x : LoginRecord) → Some (unwrap_or (option_map (λ (r : LoginRecord). r.time) (slice_get rs 0)) x.time) ≡ option_map (λ (r : LoginRecord). r.time) (slice_get (rs ++ x ∷ []) 0)
+first_more [] x = refl
+first_more (r ∷ rs) x = refl
+
+pub IsTrack-advance : (es : List Entry) (n : ℕ) (track track' : Track) → n < length es → IsTrack (entry_at es n).host es n track
+    → track'.clock ≡ track.clock +ℤ shift_at (event_of (entry_at es n).item) track.old_time (entry_at es n).item.time → IsWithin (n + 1) track'.clock
+    → track'.old_time ≡ pending_at (event_of (entry_at es n).item) (entry_at es n).item.time track.old_time
+    → track'.first ≡ Some (unwrap_or track.first (entry_at es n).item.time) → track'.last ≡ (entry_at es n).item.time
+    → track'.stays.items ≡ map (behind es track'.clock (entry_at es n).item) track.stays.items ++ started es n track'.clock
+    → Sweeps es n track.lines.entries track'.lines.entries track.swept track'.swept track.stays.items track'.clock → track'.swept ≤ length track.stays.items
+    → LeadsTo track.lines.entries track'.lines.entries (entry_at es n).item (length track.stays.items)
+    → IsTrack (entry_at es n).host es (n + 1) track'
+IsTrack-advance es n track track' lt h clock_is within old_time_is first_is last_is stays_are sweeps swept_in leads =
+    let x : LoginRecord = (entry_at es n).item in
+    let host : ℕ = (entry_at es n).host in
+    let rs : List LoginRecord = of_host host (take n es) in
+    let more : of_host host (take (n + 1) es) ≡ rs ++ x ∷ [] = of_host-take_same host es n lt refl in
+    let now : track'.clock ≡ clock (rs ++ x ∷ []) = clock_is ∙ ap (λ (z : ℤ). z +ℤ shift_at (event_of x) track.old_time x.time) h.clock ∙ ap (λ (o : Option ℤ). clock rs +ℤ shift_at (event_of x) o x.time) h.old_time ∙ sym (clock-push rs x) in
+    let tracked : AreTracked es (n + 1) track'.lines.entries track'.swept (map (behind es track'.clock x) track.stays.items ++ started es n track'.clock) =
+    AreTracked-advance es n track.lines.entries track'.lines.entries track.swept track'.swept track.stays.items track'.clock h.tracked within sweeps swept_in leads in record {
+      stays =
+          ap (map (tracked_in host es)) stays_are
+          ∙ map-append (tracked_in host es) (map (behind es track'.clock x) track.stays.items) (started es n track'.clock)
+          ∙ ap (λ (ts : List Tracked). ts ++ map (tracked_in host es) (started es n track'.clock)) (map-tracked_in host es track'.clock x track.stays.items ∙ ap (map (advanced host track'.clock x)) h.stays)
+          ∙ ap (λ (ts : List Tracked). map (advanced host track'.clock x) (tracked_from host [] rs) ++ ts) (started-fresh host es n rs track'.clock now)
+          ∙ ap (λ (z : ℤ). map (advanced host z x) (tracked_from host [] rs) ++ fresh rs x) now
+          ∙ sym (tracked_from-push host [] rs x)
+          ∙ ap (tracked_from host []) (sym more);
+      clock = now ∙ ap clock (sym more);
+      moved = within;
+      old_time = old_time_is ∙ ap (pending_at (event_of x) x.time) h.old_time ∙ sym (pending_old_time-push rs x) ∙ ap pending_old_time (sym more);
+      first = first_is ∙ ap (λ (o : Option ℤ). Some (unwrap_or o x.time)) h.first ∙ first_more rs x ∙ ap (λ (ps : List LoginRecord). option_map (λ (r : LoginRecord). r.time) (slice_get ps 0)) (sym more);
+      last = last_is ∙ sym (last_time-push (pos 0) rs x) ∙ ap (last_time (pos 0)) (sym more);
+      swept = let e = ap length stays_are in
+          let l = length-append (map (behind es track'.clock x) track.stays.items) (started es n track'.clock) in
+          let m = length-map track.stays.items (behind es track'.clock x) in omega arith;
+      tracked = subst (AreTracked es (n + 1) track'.lines.entries track'.swept) (sym stays_are) tracked;
+    }
+
+-- a boot and a shutdown end every stay
+pub sweeps_all : (es : List Entry) (x : LoginRecord) → ends_every_stay (event_of x) ≡ true → (t : TrackedStay) → starts_stay (event_of (start_of es t)) ≡ true → ends_stay (start_of es t) x ≡ true
+sweeps_all es x h t starts = by (event_of x) refl h
+  where
+    by : (e : Event) → event_of x ≡ e → ends_every_stay e ≡ true → ends_stay (start_of es t) x ≡ true
+    by Boot e h = ends_all (start_of es t) x Boot e starts (λ b. refl) (λ b. refl)
+    by Down e h = ends_all (start_of es t) x Down e starts (λ b. refl) (λ b. refl)
+    by Login e h = absurd (false≢true h)
+    by Logout e h = absurd (false≢true h)
+    by OldTime e h = absurd (false≢true h)
+    by NewTime e h = absurd (false≢true h)
+    by Nothing e h = absurd (false≢true h)
+
+-- the steps of one record: the times, the stays that end, the stay that starts
+pub IsTrack-step : (es : List Entry) (n : ℕ) (old ticked swept done : Track) (ended : List TrackedStay) (sweep : ℕ) → n < length es → IsTrack (entry_at es n).host es n old
+    → ticked.clock ≡ old.clock +ℤ shift_at (event_of (entry_at es n).item) old.old_time (entry_at es n).item.time → ((k : ℕ) → IsWithin k old.clock → IsWithin (k + 1) ticked.clock)
+    → ticked.old_time ≡ pending_at (event_of (entry_at es n).item) (entry_at es n).item.time old.old_time
+    → ticked.first ≡ Some (unwrap_or old.first (entry_at es n).item.time) → ticked.last ≡ (entry_at es n).item.time
+    → ticked.lines ≡ old.lines → ticked.stays ≡ old.stays
+    → ended ≡ map (behind es ticked.clock (entry_at es n).item) old.stays.items
+    → swept ≡ record { stays = with_items ticked.stays ended; swept = sweep; lines = ticked.lines; old_time = ticked.old_time; clock = ticked.clock; first = ticked.first; last = ticked.last }
+    → (sweep ≡ old.swept) ⊎ ((sweep ≡ length old.stays.items) × (ends_every_stay (event_of (entry_at es n).item) ≡ true))
+    → done.stays.items ≡ swept.stays.items ++ started es n swept.clock
+    → LeadsTo swept.lines.entries done.lines.entries (entry_at es n).item (vec_len swept.stays)
+    → done ≡ record swept { stays = done.stays; lines = done.lines }
+    → IsTrack (entry_at es n).host es (n + 1) done
+IsTrack-step es n old ticked swept done ended sweep lt h clock_is within old_time_is first_is last_is lines_are same_stays ended_are swept_is sweeps stays_are leads rest =
+    let x : LoginRecord = (entry_at es n).item in
+    let count : ticked.stays.len ≡ length old.stays.items = ap (λ v. v.len) same_stays ∙ old.stays.ok.0 in
+    let clock : done.clock ≡ ticked.clock = ap (λ (t : Track). t.clock) rest ∙ ap (λ (t : Track). t.clock) swept_is in
+    let place : done.swept ≡ sweep = ap (λ (t : Track). t.swept) rest ∙ ap (λ (t : Track). t.swept) swept_is in
+    let lines : swept.lines.entries ≡ old.lines.entries = ap (λ (t : Track). t.lines.entries) swept_is ∙ ap (λ l. l.entries) lines_are in
+    let stays : done.stays.items ≡ map (behind es done.clock x) old.stays.items ++ started es n done.clock =
+    stays_are
+    ∙ ap (λ (t : Track). t.stays.items ++ started es n t.clock) swept_is
+    ∙ ap (λ (ts : List TrackedStay). ts ++ started es n ticked.clock) (with_items_is ticked.stays ended (ap length ended_are ∙ length-map old.stays.items (behind es ticked.clock x) ∙ sym count) ∙ ended_are)
+    ∙ ap (λ (z : ℤ). map (behind es z x) old.stays.items ++ started es n z) (sym clock) in
+    IsTrack-advance es n old done lt h
+    (clock ∙ clock_is)
+    (subst (IsWithin (n + 1)) (sym clock) (within n h.moved))
+    (ap (λ (t : Track). t.old_time) rest ∙ ap (λ (t : Track). t.old_time) swept_is ∙ old_time_is)
+    (ap (λ (t : Track). t.first) rest ∙ ap (λ (t : Track). t.first) swept_is ∙ first_is)
+    (ap (λ (t : Track). t.last) rest ∙ ap (λ (t : Track). t.last) swept_is ∙ last_is)
+    stays
+    (by_sweep place sweeps)
+    (within_stays place sweeps)
+    (subst (λ k. LeadsTo old.lines.entries done.lines.entries x k) (ap (λ (t : Track). vec_len t.stays) swept_is ∙ count)
+    (subst (λ ls. LeadsTo ls done.lines.entries x (vec_len swept.stays)) lines leads))
+  where
+    by_sweep : done.swept ≡ sweep → (sweep ≡ old.swept) ⊎ ((sweep ≡ length old.stays.items) × (ends_every_stay (event_of (entry_at es n).item) ≡ true))
+        → Sweeps es n old.lines.entries done.lines.entries old.swept done.swept old.stays.items done.clock
+    by_sweep e (inl same) = inl (e ∙ same)
+    by_sweep e (inr all) = inr (sweeps_all es (entry_at es n).item all.1)
+
+    within_stays : done.swept ≡ sweep → (sweep ≡ old.swept) ⊎ ((sweep ≡ length old.stays.items) × (ends_every_stay (event_of (entry_at es n).item) ≡ true)) → done.swept ≤ length old.stays.items
+    within_stays e (inl same) = let i = h.swept in omega arith
+    within_stays e (inr all) = let i = all.0 in omega arith
+
+pub HasRoom-step : (m : ℕ) (old ticked swept : Track) (ended : List TrackedStay) (sweep : ℕ) → HasRoom m old → ticked.stays ≡ old.stays → ticked.lines ≡ old.lines
+    → swept ≡ record { stays = with_items ticked.stays ended; swept = sweep; lines = ticked.lines; old_time = ticked.old_time; clock = ticked.clock; first = ticked.first; last = ticked.last }
+    → HasRoom m swept
+HasRoom-step m old ticked swept ended sweep h stays lines is =
+    subst (HasRoom m) (sym is) (record {
+      stays = subst (λ v. vec_len v + m ≤ vec_capacity v) (sym stays) h.stays;
+      lines = subst (λ l. m ≤ spare l) (sym lines) h.lines;
+    })

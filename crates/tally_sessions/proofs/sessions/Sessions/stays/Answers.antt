@@ -1,0 +1,29 @@
+use Rattle.std.proofs.Common.{◌≡◌, sym, ap, ◌∙◌, subst, List, length, take, reverse, IfOk, arith}
+use Rattle.tally_sessions.specs.declared.entry.Entry.{Entry}
+use Rattle.tally_sessions.specs.declared.entry.Stay.{Stay}
+use Rattle.tally_sessions.specs.State.{State}
+use Rattle.tally_sessions.specs.Totals.{latest_stays, limited, stays_of}
+use Rattle.tally_sessions.proofs.StayCounts.{stays_of-all}
+use Rattle.tally_sessions.proofs.Staging.{track_of}
+use Rattle.tally_sessions.proofs.sessions.Sessions.stays.Goals as goal
+
+pub latest-requires-clause-track : goal.latest-requires-clause-track
+latest-requires-clause-track c =
+    let hosts = ap (λ (s : State). s.hosts) c.self.view_is in
+    track_of c.self.inside c.args.host c.index-track.result.now c.entries-entries.result.now c.self.invariant (omega (arith, hosts, c.requires, c.self.invariant.few_hosts)) c.index-track.ensures
+    (c.entries-entries.ensures.value ∙ sym (ap (λ (s : State). s.entries) c.self.view_is))
+
+pub latest-requires-in-None-clause-track : goal.latest-requires-in-None-clause-track
+latest-requires-in-None-clause-track c =
+    let hosts = ap (λ (s : State). s.hosts) c.self.view_is in
+    track_of c.self.inside c.args.host c.index-track.result.now c.entries-entries.result.now c.self.invariant (omega (arith, hosts, c.requires, c.self.invariant.few_hosts)) c.index-track.ensures
+    (c.entries-entries.ensures.value ∙ sym (ap (λ (s : State). s.entries) c.self.view_is))
+
+pub returns-in-None-clause-value : goal.returns-in-None-clause-value
+returns-in-None-clause-value c =
+    let es : List Entry = c.entries-entries.result.now in
+    let all : take (length es) (reverse (stays_of c.args.host es)) ≡ latest_stays c.args.host c.args.limit c.args.self.now.entries =
+    stays_of-all c.args.host es
+    ∙ ap (λ (xs : List Entry). reverse (stays_of c.args.host xs)) c.entries-entries.ensures.value
+    ∙ sym (ap (λ o. limited o (reverse (stays_of c.args.host c.args.self.now.entries))) c.in-None.is) in
+    subst (λ (xs : List Stay). IfOk c.latest-in-None.result (λ found. found ≡ xs)) all c.latest-in-None.ensures.value

@@ -1,0 +1,38 @@
+use Rattle.std.proofs.Common.{◌≡◌, ◌<◌, All, subst, ◌+◌, ◌-◌, ◌++◌, ◌∷◌, [], List, map, take, drop, reverse, length, sym, ap, ◌∙◌, arith, length-append}
+use Rattle.std.proofs.lemmas.List.Elements.{All-push}
+use Rattle.tally_sessions.specs.declared.entry.Stay.{Stay}
+use Rattle.tally_sessions.specs.Track.{no_stay, stay_now}
+use Rattle.tally_sessions.proofs.StaysNow.{stays_now, latest_more, latest_all, latest_limit}
+use Rattle.tally_sessions.proofs.track.Track.latest.Goals as goal
+use Rattle.tally_sessions.proofs.track.Track.latest.Goals.{then-loop-i-test+else-len-limit, else-loop-i-test}
+
+pub loop-i-preserved : goal.loop-i-preserved
+loop-i-preserved c =
+    let es = c.args.entries.now in
+    let a = c.args.self.now in
+    let f = stay_now c.args.host es a.clock a.last in
+    let all : List Stay = map f a.stays.items in
+    let i = c.loop-i.i in
+    let place : i - 1 + 1 ≡ i = omega (arith, c.loop-i-test.true) in
+    let pushed : c.push.new.self ≡ c.loop-i.found ++ c.stay.result ∷ [] = c.in_ok-push.ensures.stored in
+    let more = latest_more f a.stays.items (i - 1) no_stay c.stay.result (omega (arith, c.loop-i-test.true, c.loop-i.invariant.within, a.stays.ok.0)) in record {
+      within = omega (arith, c.loop-i.invariant.within);
+      told = pushed ∙ ap (λ (ss : List Stay). ss ++ c.stay.result ∷ []) (c.loop-i.invariant.told ∙ ap (λ k. reverse (drop k all)) (sym place))
+          ∙ ap (λ (s : Stay). reverse (drop (i - 1 + 1) all) ++ s ∷ []) c.stay.ensures.value ∙ sym more;
+      few = omega (arith, ap length pushed, length-append c.loop-i.found (c.stay.result ∷ []), c.if-len-limit.true, c.len.ensures);
+      lengths = subst (All (λ (s : Stay). s.length < 4294967296)) (sym pushed) (All-push (λ (s : Stay). s.length < 4294967296) c.loop-i.found c.stay.result c.loop-i.invariant.lengths c.stay.ensures.fits);
+    }
+
+pub returns-clause-value : goal.returns-clause-value
+returns-clause-value c =
+    let es = c.args.entries.now in
+    let a = c.args.self.now in
+    let all : List Stay = map (stay_now c.args.host es a.clock a.last) a.stays.items in
+    let same = stays_now c.args.host es a c.requires.track in
+    elim c.loop-i-test.branch [
+      | then-loop-i-test+else-len-limit w ↦
+          let full : length c.loop-i.found ≡ c.args.limit = omega (arith, w.if-len-limit.false, w.len.ensures, c.loop-i.invariant.few) in
+          latest_limit all c.loop-i.found c.loop-i.i c.args.limit c.loop-i.invariant.told full ∙ ap (λ ss. take c.args.limit (reverse ss)) same
+      | else-loop-i-test w ↦
+          latest_all all c.loop-i.found c.loop-i.i c.args.limit c.loop-i.invariant.told (omega (arith, w.loop-i-test.false)) c.loop-i.invariant.few ∙ ap (λ ss. take c.args.limit (reverse ss)) same
+    ]

@@ -1,0 +1,15 @@
+use Rattle.std.proofs.Common.{◌≡◌, ◌≤◌, ◌<◌, ◌^◌, All, map, drop, reverse, length, vec_len}
+use Rattle.tally_sessions.specs.declared.entry.Stay.{Stay}
+use Rattle.tally_sessions.specs.Track.{stay_now}
+use Rattle.tally_sessions.proofs.track.Track.latest.Given as goal
+
+abbrev pub decreases-loop-i : goal.decreases-loop-i
+decreases-loop-i l = l.i
+
+abbrev pub invariant-loop-i : goal.invariant-loop-i
+invariant-loop-i l = record {
+  within : l.i ≤ vec_len l.self.stays;
+  told : l.found ≡ reverse (drop l.i (map (stay_now l.host l.entries l.self.clock l.self.last) l.self.stays.items));
+  few : length l.found ≤ l.limit;
+  lengths : All (λ (s : Stay). s.length < 2 ^ 32) l.found;
+}

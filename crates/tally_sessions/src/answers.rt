@@ -1,0 +1,113 @@
+//! What the track of a host answers.
+ghost use Rattle.std.specs.Prelude.{◌≡◌, ◌≤◌, ◌<◌, ◌*◌, ◌^◌, All, IfOk, length, reverse, take, vec_len};
+ghost use Rattle.tally_sessions.specs.Hosts.{of_host};
+ghost use Rattle.tally_sessions.specs.Totals.{session_seconds, stays_of, user_seconds};
+ghost use Rattle.tally_sessions.specs.Track as spec;
+
+use crate::ending::{Ending, TrackedStay, still};
+use crate::entry::{Entry, Stay};
+use crate::rules::{is_boot, is_login, is_login_of};
+use crate::sessions::ENTRY_LIMIT;
+use crate::track::Track;
+use std::alloc::Global;
+use tally_records::{List, Memory, Name, event};
+
+impl Track {
+    /// The end of a stay as it stands now.
+    fn ending(&self, entries: &[Entry], stay: TrackedStay) -> Ending
+        requires placed { stay.entry < length entries.now }
+        requires before { spec.IsWithin ENTRY_LIMIT stay.clock_at }
+        requires now { spec.IsWithin ENTRY_LIMIT self.now.clock }
+        ensures value { result ≡ spec.ending_now entries.now self.now.clock self.now.last stay }
+        ensures fits { result.length < 2 ^ 32 }
+    {
+        match stay.ended {
+            Some(ended) => ended,
+            None => {
+                let start = &entries[stay.entry].item;
+                still(start, self.clock - stay.clock_at, self.last)
+            }
+        }
+    }
+
+    /// A stay as it stands now.
+    fn stay(&self, host: u32, entries: &[Entry], i: usize) -> Stay
+        requires i_in { i < vec_len self.now.stays }
+        requires placed { spec.ArePlaced (length entries.now) self.now.stays.items }
+        requires now { spec.IsWithin ENTRY_LIMIT self.now.clock }
+        ensures value { result ≡ spec.stay_now host entries.now self.now.clock self.now.last (spec.stay_at self.now.stays.items i) }
+        ensures fits { result.length < 2 ^ 32 }
+    {
+        let stay = self.stays[i];
+        let start = &entries[stay.entry].item;
+        let ending = self.ending(entries, stay);
+        Stay {
+            host,
+            is_boot: is_boot(event(start)),
+            user: start.user,
+            line: start.line,
+            remote: start.remote,
+            start: start.time,
+            begin: ending.begin,
+            end: ending.end,
+            end_time: ending.end_time,
+            length: u64::from(ending.length),
+        }
+    }
+
+    /// The stays of the host, that of the latest record first, and no more than the limit.
+    pub(crate) fn latest(
+        &self,
+        alloc: Global,
+        host: u32,
+        entries: &[Entry],
+        limit: usize,
+    ) -> Result<List<Stay>, Memory>
+        requires few { length entries.now ≤ ENTRY_LIMIT }
+        requires track { spec.IsTrack host entries.now (length entries.now) self.now }
+        ensures value { IfOk result (λ found. found ≡ take limit (reverse (stays_of host entries.now))) }
+        ensures lengths { IfOk result (All (λ s. s.length < 2 ^ 32)) }
+    {
+        let mut found = List::new(alloc);
+        let mut i = self.stays.len();
+        while i > 0 && found.len() < limit {
+            i -= 1;
+            found.push(self.stay(host, entries, i))?;
+        }
+        Ok(found)
+    }
+
+    /// The lengths of the sessions of the host.
+    pub(crate) fn seconds(&self, host: u32, entries: &[Entry]) -> u64
+        requires few { length entries.now ≤ ENTRY_LIMIT }
+        requires track { spec.IsTrack host entries.now (length entries.now) self.now }
+        ensures value { result ≡ session_seconds (stays_of host entries.now) }
+        ensures fits { result ≤ 4294967295 * length (of_host host entries.now) }
+    {
+        let mut seconds = 0;
+        for i in 0..self.stays.len() {
+            let stay = self.stays[i];
+            if is_login(event(&entries[stay.entry].item)) {
+                seconds += u64::from(self.ending(entries, stay).length);
+            }
+        }
+        seconds
+    }
+
+    /// The lengths of a user's sessions on the host.
+    pub(crate) fn user_seconds(&self, host: u32, entries: &[Entry], user: &Name) -> u64
+        requires few { length entries.now ≤ ENTRY_LIMIT }
+        requires track { spec.IsTrack host entries.now (length entries.now) self.now }
+        ensures value { result ≡ user_seconds user.now (stays_of host entries.now) }
+        ensures fits { result ≤ 4294967295 * length (of_host host entries.now) }
+    {
+        let mut seconds = 0;
+        for i in 0..self.stays.len() {
+            let stay = self.stays[i];
+            if is_login_of(&entries[stay.entry].item, user) {
+                seconds += u64::from(self.ending(entries, stay).length);
+            }
+        }
+        seconds
+    }
+}

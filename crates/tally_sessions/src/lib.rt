@@ -1,0 +1,17 @@
+//! Sessions of login records: what ends each, how long it was, and what clock changes move.
+#![tactic(auto)]
+
+mod answers;
+mod days;
+mod ending;
+mod entry;
+mod rules;
+mod sessions;
+mod track;
+
+pub use crate::days::days_add_up;
+pub use crate::entry::{End, Entry, Stay};
+pub use crate::sessions::{ENTRY_LIMIT, HOST_LIMIT, Sessions};
+
+#[cfg(test)]
+mod tests;

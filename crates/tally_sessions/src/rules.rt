@@ -1,0 +1,89 @@
+//! What one login record means for the stays and the clock of its host.
+ghost use Rattle.std.specs.Prelude.{◌≡◌, ◌<◌, ◌^◌, ◌&&◌, bytes_eq, pos, neg_ℤ, ◌+ℤ◌, ◌≤ℤ◌};
+ghost use Rattle.tally_records.specs.Event.{event_of};
+ghost use Rattle.tally_sessions.specs.Clock.{shift_at};
+ghost use Rattle.tally_sessions.specs.Stays as stays;
+ghost use Rattle.tally_sessions.specs.Track.{ends_every_stay};
+ghost use Rattle.tally_sessions.specs.Tracking.{pending_at};
+
+use crate::entry::End;
+use tally_records::{Event, LoginRecord, Name, event};
+
+/// The old time that waits for its new one, behind one record more.
+pub(crate) fn pending_behind(pending: Option<i32>, event: Event, time: i32) -> Option<i32>
+    ensures { result ≡ pending_at event time pending }
+{
+    match event {
+        Event::OldTime => Some(time),
+        Event::NewTime => None,
+        _ => pending,
+    }
+}
+
+/// By how many seconds a record moves the clock, where this old time waits for its new one.
+pub(crate) fn shift_of(pending: Option<i32>, event: Event, time: i32) -> i64
+    ensures value { result ≡ shift_at event pending time }
+    ensures low { neg_ℤ (pos (2 ^ 32)) ≤ℤ result }
+    ensures high { result ≤ℤ pos (2 ^ 32) }
+{
+    match (event, pending) {
+        (Event::NewTime, Some(old)) => i64::from(time) - i64::from(old),
+        _ => 0,
+    }
+}
+
+/// How an event ends a stay.
+pub(crate) fn end_at(event: Event) -> End
+    ensures { result ≡ stays.end_at event }
+{
+    match event {
+        Event::Logout => End::Logout,
+        Event::Login => End::Next,
+        Event::Down => End::Down,
+        Event::Boot => End::Crash,
+        _ => End::Still,
+    }
+}
+
+pub(crate) fn is_boot(event: Event) -> bool
+    ensures { result ≡ stays.is_boot_event event }
+{
+    matches!(event, Event::Boot)
+}
+
+pub(crate) fn is_login(event: Event) -> bool
+    ensures { result ≡ stays.is_login_event event }
+{
+    matches!(event, Event::Login)
+}
+
+/// Whether a record is a login of a user.
+pub(crate) fn is_login_of(r: &LoginRecord, user: &Name) -> bool
+    ensures { result ≡ (stays.is_login_event (event_of r.now) && bytes_eq r.now.user user.now) }
+{
+    is_login(event(r)) && r.user == *user
+}
+
+/// Whether an event ends every stay of its host.
+pub(crate) fn ends_every(event: Event) -> bool
+    ensures { result ≡ ends_every_stay event }
+{
+    matches!(event, Event::Boot | Event::Down)
+}
+
+/// A recorded start by the clock that moved so many seconds since then.
+pub(crate) fn begin_of(start: i32, moved: i64) -> i32
+    requires low { neg_ℤ (pos (2 ^ 62)) ≤ℤ moved }
+    requires high { moved ≤ℤ pos (2 ^ 62) }
+    ensures { result ≡ stays.clamped (start +ℤ moved) }
+{
+    (i64::from(start) + moved).clamp(i64::from(i32::MIN), i64::from(i32::MAX)) as i32
+}
+
+/// The length of a stay in seconds.
+pub(crate) fn seconds_between(begin: i32, end_time: i32) -> u64
+    ensures value { result ≡ stays.seconds_between begin end_time }
+    ensures fits { result < 2 ^ 32 }
+{
+    (i64::from(end_time) - i64::from(begin)).max(0) as u64
+}
