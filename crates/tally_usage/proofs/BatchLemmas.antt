@@ -1,0 +1,13 @@
+-- A batch of process records, seen as the list that it holds.
+use Rattle.std.proofs.Common.{◌≡◌, ℕ, length, refl}
+use Rattle.std.specs.Prelude.{slice_get}
+use Rattle.tally_records.specs.Records.{Records, Logins, Procs, IsProcs, proc_at, procs_in, record_count}
+use Rattle.tally_records.specs.declared.batch.Kind.TheVariants.{Login, Proc}
+
+pub record_count-is : (b : Records) → IsProcs b → record_count b ≡ length (procs_in b)
+record_count-is (Logins rs) e = absurd (let f : Login ≡ Proc = e in cc)
+record_count-is (Procs rs) e = refl
+
+pub proc_at-is : (b : Records) (i : ℕ) → IsProcs b → proc_at b i ≡ slice_get (procs_in b) i
+proc_at-is (Logins rs) i e = absurd (let f : Login ≡ Proc = e in cc)
+proc_at-is (Procs rs) i e = refl

@@ -1,0 +1,138 @@
+-- What the steps of a summary keep.
+use Rattle.std.proofs.Common.{◌≡◌, ℕ, ◌+◌, ◌-◌, ◌<◌, ◌≤◌, ◌^◌, Bool, true, List, [], ◌∷◌, ◌++◌, length, take, drop, get_or, All, Option, None, Some, is_some, unwrap_or, refl, sym, ap, subst, ◌∙◌, arith, append_assoc, length-append, length-drop}
+use Rattle.std.proofs.lemmas.List.{drop-append-le, length-map, map-append, take-append-le, take_all, take_more, take-take, take-map, length-take}
+use Rattle.std.proofs.Math.ListN.{drop_of_length-le}
+use Rattle.std.proofs.lemmas.List.Elements.{All-append, All-head, All-map, All-tail, All-take}
+use Rattle.std.proofs.lemmas.Bool.{false≢true}
+use Rattle.std.specs.Option.{option_map}
+use Rattle.std.specs.Prelude.{MatchOption, nat_eq}
+use Rattle.tally_records.specs.ProcRecord.{IsBounded}
+use Rattle.tally_usage.specs.declared.summary.Summary.TheInside.{Inside}
+use Rattle.tally_usage.specs.declared.usage.Usage.{Usage}
+use Rattle.tally_usage.specs.Command.{command_of, is_same_command}
+use Rattle.tally_usage.specs.Sound.{CanCount, IsSound, contents_of, stored_of, waiting_of}
+use Rattle.tally_usage.specs.Totals.{HasTotals, records_of}
+use Rattle.tally_usage.specs.Usage.{no_usage, usage_of}
+use Rattle.tally_usage.proofs.UsageLemmas.{usage_of-none}
+use Rattle.tally_records.specs.declared.process.ProcRecord.{ProcRecord}
+use Rattle.tally_usage.specs.declared.entry.ProcEntry.{ProcEntry}
+use Rattle.tally_usage.specs.Summary.{Prepared, entries_of}
+
+-- one more record is placed
+pub placed_more : (host : ℕ) (start : List ProcEntry) (batch : List ProcRecord) (i : ℕ) (r : ProcRecord) (now next : List ProcEntry) → now ≡ start ++ entries_of host (take i batch) → i < length batch → get_or batch i r ≡ r → next ≡ now ++ record { host = host; item = r } ∷ []
+    → next ≡ start ++ entries_of host (take (i + 1) batch)
+placed_more host start batch i r now next is within at more =
+    more ∙ ap (λ l. l ++ record { host = host; item = r } ∷ []) is ∙ append_assoc start (entries_of host (take i batch)) (record { host = host; item = r } ∷ [])
+    ∙ ap (λ l. start ++ l) (sym (map-append (λ (x : ProcRecord). record { host = host; item = x }) (take i batch) (r ∷ []))
+    ∙ ap (λ x. entries_of host (take i batch ++ x ∷ [])) (sym at) ∙ ap (entries_of host) (sym (take_more batch i r within)))
+
+-- the first n, then others
+pub front_of : {X : Type 0} (n : ℕ) (xs zs : List X) → n ≤ length xs → take n (take n xs ++ zs) ≡ take n xs
+front_of n xs zs within = take-append-le n (take n xs) zs (omega (arith, length-take n xs)) ∙ take-take n n xs (omega arith)
+
+pub back_of : {X : Type 0} (n : ℕ) (xs zs : List X) → n ≤ length xs → drop n (take n xs ++ zs) ≡ zs
+back_of n xs zs within =
+    drop-append-le n (take n xs) zs (omega (arith, length-take n xs))
+    ∙ ap (λ l. l ++ zs) (drop_of_length-le (take n xs) (omega (arith, length-take n xs)))
+
+-- other fields with the same stored entries, and zs behind them, are sound
+pub keeps : (s t : Inside) (zs : List ProcEntry) → IsSound s → t.stored ≡ s.stored → t.total ≡ s.total → t.entries.items ≡ take s.stored s.entries.items ++ zs → length zs + s.stored ≤ 2 ^ 20 → All IsBounded (records_of zs)
+    → ((rs : List ProcRecord) → HasTotals is_same_command command_of s.commands.entries rs → HasTotals is_same_command command_of t.commands.entries rs)
+    → ((rs : List ProcRecord) → HasTotals nat_eq (λ r. r.uid) s.users.entries rs → HasTotals nat_eq (λ r. r.uid) t.users.entries rs)
+    → MatchOption t.ready (zs ≡ []) (λ host. All (CanCount t host) zs) → IsSound t
+keeps s t zs sound stored total items few bounded commands users waiting =
+    let front : stored_of t ≡ stored_of s = (λ i. take (stored i) (items i)) ∙ front_of s.stored s.entries.items zs sound.stored in
+    let back : waiting_of t ≡ zs = (λ i. drop (stored i) (items i)) ∙ back_of s.stored s.entries.items zs sound.stored in
+    let count : length t.entries.items ≡ s.stored + length zs = ap length items ∙ length-append (take s.stored s.entries.items) zs ∙ (let n : length (take s.stored s.entries.items) ≡ s.stored = omega (arith, length-take s.stored s.entries.items, sound.stored) in ap (λ m. m + length zs) n) in
+    record {
+      few = omega (arith, count, few);
+      bounded = subst (λ es. All IsBounded (records_of es)) (sym items)
+          (subst (All IsBounded) (sym (map-append (λ (e : ProcEntry). e.item) (take s.stored s.entries.items) zs))
+          (All-append IsBounded (records_of (take s.stored s.entries.items)) (records_of zs) (subst (All IsBounded) (take-map (λ (e : ProcEntry). e.item) s.stored s.entries.items) (All-take IsBounded s.stored (records_of s.entries.items) sound.bounded)) bounded));
+      stored = omega (arith, count, stored);
+      total = total ∙ sound.total ∙ ap (λ es. usage_of (records_of es)) (sym front);
+      commands = commands (records_of (stored_of t)) (subst (λ es. HasTotals is_same_command command_of s.commands.entries (records_of es)) (sym front) sound.commands);
+      users = users (records_of (stored_of t)) (subst (λ es. HasTotals nat_eq (λ r. r.uid) s.users.entries (records_of es)) (sym front) sound.users);
+      waiting = subst (λ es. MatchOption t.ready (es ≡ []) (λ host. All (CanCount t host) es)) (sym back) waiting;
+    }
+
+-- the records of placed entries
+pub records_of-entries_of : (host : ℕ) (rs : List ProcRecord) → records_of (entries_of host rs) ≡ rs
+records_of-entries_of host [] = refl
+records_of-entries_of host (r ∷ rs) = λ i. r ∷ records_of-entries_of host rs i
+
+pub hosts-entries_of : (host : ℕ) (rs : List ProcRecord) → All (λ (e : ProcEntry). e.host ≡ host) (entries_of host rs)
+hosts-entries_of host rs = All-map (λ (e : ProcEntry). e.host ≡ host) (λ (r : ProcRecord). record { host = host; item = r }) rs (λ k d l. refl)
+
+-- a table with the same entries has the same totals
+pub same_totals : {K : Type 0} (eq : K → K → Bool) (key_of : ProcRecord → K) (es fs : List (K × Usage)) → fs ≡ es → (rs : List ProcRecord) → HasTotals eq key_of es rs → HasTotals eq key_of fs rs
+same_totals eq key_of es fs same rs h = subst (λ l. HasTotals eq key_of l rs) (sym same) h
+
+pub length-entries_of : (host : ℕ) (rs : List ProcRecord) → length (entries_of host rs) ≡ length rs
+length-entries_of host rs = length-map rs (λ (r : ProcRecord). let e : ProcEntry = record { host = host; item = r } in e)
+
+-- all from n on, as a range gives it
+pub tail_of : {X : Type 0} (n : ℕ) (xs : List X) → take (length xs - n) (drop n xs) ≡ drop n xs
+tail_of n xs = take_all (length xs - n) (drop n xs) (omega (arith, length-drop n xs))
+
+-- the stored records are bounded, and no more than a summary holds
+pub stored-bounded : (s : Inside) → IsSound s → All IsBounded (records_of (stored_of s))
+stored-bounded s sound = subst (All IsBounded) (take-map (λ (e : ProcEntry). e.item) s.stored s.entries.items) (All-take IsBounded s.stored (records_of s.entries.items) sound.bounded)
+
+pub stored-few : (s : Inside) → IsSound s → length (records_of (stored_of s)) ≤ 2 ^ 20
+stored-few s sound = omega (arith, length-map (stored_of s) (λ (e : ProcEntry). e.item), length-take s.stored s.entries.items, sound.few)
+
+-- an empty table has the totals of no records
+pub empty-HasTotals : {K : Type 0} (eq : K → K → Bool) (key_of : ProcRecord → K) → HasTotals eq key_of [] []
+empty-HasTotals eq key_of = record { at = λ k. sym usage_of-none }
+
+-- fields with nothing in them are sound
+pub empty-IsSound : (s : Inside) → s.entries.items ≡ [] → s.stored ≡ 0 → s.ready ≡ None → s.commands.entries ≡ [] → s.users.entries ≡ [] → s.total ≡ no_usage → IsSound s
+empty-IsSound s items stored ready commands users total =
+    let front : stored_of s ≡ [] = (λ i. take (stored i) (items i)) in
+    let back : waiting_of s ≡ [] = (λ i. drop (stored i) (items i)) in
+    let none : records_of (stored_of s) ≡ [] = ap records_of front in
+    record {
+      few = omega (arith, ap length items);
+      bounded = subst (λ l. All IsBounded (records_of l)) (sym items) (λ k d l. absurd (omega (arith, l)));
+      stored = omega (arith, stored);
+      total = total ∙ sym usage_of-none ∙ ap usage_of (sym none);
+      commands = subst (HasTotals is_same_command command_of s.commands.entries) (sym none) (subst (λ es. HasTotals is_same_command command_of es []) (sym commands) (empty-HasTotals is_same_command command_of));
+      users = subst (HasTotals nat_eq (λ r. r.uid) s.users.entries) (sym none) (subst (λ es. HasTotals nat_eq (λ r. r.uid) es []) (sym users) (empty-HasTotals nat_eq (λ r. r.uid)));
+      waiting = subst (λ o. MatchOption o (waiting_of s ≡ []) (λ host. All (CanCount s host) (waiting_of s))) (sym ready) back;
+    }
+
+-- entries of one host are that host's entries of their records
+same_host : (host : ℕ) (es : List ProcEntry) → All (λ (e : ProcEntry). e.host ≡ host) es → es ≡ entries_of host (records_of es)
+same_host host [] all = refl
+same_host host (e ∷ es) all =
+    let rest = same_host host es (All-tail (λ (x : ProcEntry). x.host ≡ host) e es all) in
+    let first : e.host ≡ host = All-head (λ (x : ProcEntry). x.host ≡ host) e es all in
+    λ i. record { host = first i; item = e.item } ∷ rest i
+
+-- what waits is the batch that the summary is ready for
+pub waiting_is : (s : Inside) (host : ℕ) (batch : List ProcRecord) → IsSound s → (contents_of s).ready ≡ Some (record { host = host; records = batch }) → waiting_of s ≡ entries_of host batch
+waiting_is s host batch sound ready = by s.ready sound.waiting ready
+  where
+    by : (o : Option ℕ) → MatchOption o (waiting_of s ≡ []) (λ h. All (CanCount s h) (waiting_of s)) → option_map (λ h. let p : Prepared = record { host = h; records = records_of (waiting_of s) } in p) o ≡ Some (record { host = host; records = batch }) → waiting_of s ≡ entries_of host batch
+    by None none e = absurd (let f : is_some (option_map (λ (h : ℕ). let p : Prepared = record { host = h; records = records_of (waiting_of s) } in p) None) ≡ true = ap is_some e in false≢true f)
+    by (Some h) all e =
+        let p : Prepared = record { host = h; records = records_of (waiting_of s) } in
+        let same : p ≡ record { host = host; records = batch } = ap (λ o. unwrap_or o p) e in
+        same_host h (waiting_of s) (λ k d l. (all k d l).of_host) ∙ (λ i. entries_of (same i).host (same i).records)
+
+-- once all entries are counted, they are the stored ones
+pub all_counted : (s t : Inside) → IsSound s → t.entries.items ≡ s.entries.items → t.stored ≡ length s.entries.items → t.ready ≡ None → t.total ≡ usage_of (records_of s.entries.items)
+    → HasTotals is_same_command command_of t.commands.entries (records_of s.entries.items) → HasTotals nat_eq (λ r. r.uid) t.users.entries (records_of s.entries.items) → IsSound t
+all_counted s t sound items stored ready total commands users =
+    let front : stored_of t ≡ s.entries.items = (λ i. take (stored i) (items i)) ∙ take_all (length s.entries.items) s.entries.items (omega arith) in
+    let back : waiting_of t ≡ [] = (λ i. drop (stored i) (items i)) ∙ drop_of_length-le s.entries.items (omega arith) in
+    record {
+      few = omega (arith, sound.few, ap length items);
+      bounded = subst (λ es. All IsBounded (records_of es)) (sym items) sound.bounded;
+      stored = omega (arith, stored, ap length items);
+      total = total ∙ ap (λ es. usage_of (records_of es)) (sym front);
+      commands = subst (λ es. HasTotals is_same_command command_of t.commands.entries (records_of es)) (sym front) commands;
+      users = subst (λ es. HasTotals nat_eq (λ r. r.uid) t.users.entries (records_of es)) (sym front) users;
+      waiting = subst (λ o. MatchOption o (waiting_of t ≡ []) (λ host. All (CanCount t host) (waiting_of t))) (sym ready) back;
+    }

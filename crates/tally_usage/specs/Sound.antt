@@ -1,0 +1,39 @@
+-- How a summary's fields hold its contents.
+use Rattle.std.specs.Prelude.{◌≡◌, ℕ, ◌≤◌, ◌^◌, nat_eq, List, [], MatchOption, All, take, drop, length}
+use Rattle.std.specs.HashMap.{ContainsKey}
+use Rattle.std.specs.Option.{option_map}
+use Rattle.tally_records.specs.ProcRecord.{IsBounded}
+use Rattle.tally_usage.specs.declared.entry.ProcEntry.{ProcEntry}
+use Rattle.tally_usage.specs.declared.summary.Summary.TheInside.{Inside}
+use Rattle.tally_usage.specs.Command.{command_of, is_same_command}
+use Rattle.tally_usage.specs.Summary.{Contents}
+use Rattle.tally_usage.specs.Totals.{HasTotals, records_of}
+use Rattle.tally_usage.specs.Usage.{usage_of}
+
+-- the entries that are counted, and those behind them that wait for `add`
+abbrev pub stored_of : Inside → List ProcEntry
+stored_of s = take s.stored s.entries.items
+
+abbrev pub waiting_of : Inside → List ProcEntry
+waiting_of s = drop s.stored s.entries.items
+
+abbrev pub contents_of : Inside → Contents
+contents_of s = record {
+  entries = stored_of s;
+  ready = option_map (λ host. record { host = host; records = records_of (waiting_of s) }) s.ready;
+}
+
+-- the entry can be counted: it is the host's, and both tables have its key
+pub record CanCount (s : Inside) (host : ℕ) (e : ProcEntry) : Type 0 where
+  pub of_host : e.host ≡ host
+  pub command : ContainsKey is_same_command s.commands (command_of e.item)
+  pub user : ContainsKey nat_eq s.users e.item.uid
+
+pub record IsSound (s : Inside) : Type 0 where
+  pub few : length s.entries.items ≤ 2 ^ 20
+  pub bounded : All IsBounded (records_of s.entries.items)
+  pub stored : s.stored ≤ length s.entries.items
+  pub total : s.total ≡ usage_of (records_of (stored_of s))
+  pub commands : HasTotals is_same_command command_of s.commands.entries (records_of (stored_of s))
+  pub users : HasTotals nat_eq (λ r. r.uid) s.users.entries (records_of (stored_of s))
+  pub waiting : MatchOption s.ready (waiting_of s ≡ []) (λ host. All (CanCount s host) (waiting_of s))

@@ -1,0 +1,18 @@
+//! What processes used: the sums of each command and of each user.
+#![tactic(auto)]
+
+mod command;
+mod entry;
+mod group;
+mod order;
+mod summary;
+mod table;
+mod usage;
+mod user;
+
+pub use command::CommandRow;
+pub use entry::ProcEntry;
+pub use order::Order;
+pub use summary::Summary;
+pub use usage::Usage;
+pub use user::UidRow;
