@@ -43,12 +43,10 @@ impl Model for Sessions {
 /// Puts the records of a batch behind the entries, or leaves these as they are.
 fn stage(entries: &mut Vec<Entry>, host: u32, b: &Batch) -> Result<(), Memory>
     requires { IsLogins b.now }
-    ensures ok { OnOk result (entries.new.items ≡ entries.old.items ++ posted_by host (logins_in b.now)) }
-    ensures err { OnErr result (entries.new.items ≡ entries.old.items) }
+    ensures stored { OnOk result (entries.new.items ≡ entries.old.items ++ posted_by host (logins_in b.now)) }
+    ensures refused { OnErr result (entries.new.items ≡ entries.old.items) }
 {
-    if entries.reserve(b.len()).is_err() {
-        return Err(Memory);
-    }
+    entries.reserve(b.len())?;
     for i in 0..b.len() {
         let item = b.login_at(i).unwrap();
         entries.push_reserved(Entry { host, item });
@@ -62,9 +60,7 @@ fn new_tracks(alloc: Global) -> Result<Vec<Track>, Memory>
 {
     let mut tracks = Vec::new(alloc);
     for _host in 0..HOST_LIMIT {
-        if tracks.push(Track::new(alloc)).is_err() {
-            return Err(Memory);
-        }
+        tracks.push(Track::new(alloc))?;
     }
     Ok(tracks)
 }
@@ -91,8 +87,8 @@ impl Sessions {
         requires host_in { host < self.old.hosts }
         requires kind { IsLogins b.now }
         requires room { length self.old.entries + record_count b.now ≤ ENTRY_LIMIT }
-        ensures ok { OnOk result (self.new ≡ record self.old { ready = Some (record { host = host; records = logins_in b.now }) }) }
-        ensures err { OnErr result (self.new ≡ record self.old { ready = None }) }
+        ensures ready { OnOk result (self.new ≡ record self.old { ready = Some (record { host = host; records = logins_in b.now }) }) }
+        ensures refused { OnErr result (self.new ≡ record self.old { ready = None }) }
     {
         self.ready = None;
         self.entries.truncate(self.stored);
@@ -115,6 +111,7 @@ impl Sessions {
     /// The stored entries, in stored order.
     pub fn entries(&self) -> &[Entry]
         ensures value { result.now ≡ self.now.entries }
+        ensures hosts { All (λ e. e.host < self.now.hosts) result.now }
         ensures few { length result.now ≤ ENTRY_LIMIT }
     {
         &self.entries[..self.stored]
@@ -122,7 +119,9 @@ impl Sessions {
 
     /// Hands out the stored entries.
     pub fn into_entries(self) -> Vec<Entry>
-        ensures { result.items ≡ self.entries }
+        ensures value { result.items ≡ self.entries }
+        ensures hosts { All (λ e. e.host < self.hosts) result.items }
+        ensures few { vec_len result ≤ ENTRY_LIMIT }
     {
         let Sessions {
             hosts: _,

@@ -54,9 +54,8 @@ impl Track {
         ensures rest { self.new ≡ record self.old { stays = self.new.stays; lines = self.new.lines } }
         ensures room { OnOk result (spec.HasRoom count self.new) }
     {
-        if self.stays.reserve(count).is_err() || self.lines.reserve(count).is_err() {
-            return Err(Memory);
-        }
+        self.stays.reserve(count)?;
+        self.lines.reserve(count)?;
         Ok(())
     }
 
