@@ -20,3 +20,6 @@ pub use crate::list::List;
 pub use crate::login::{Event, LOGIN_SIZE, LoginRecord, read_login};
 pub use crate::process::{PROC_SIZE, ProcRecord, read_proc};
 pub use crate::telling::event;
+
+#[cfg(test)]
+mod tests;

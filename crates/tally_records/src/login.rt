@@ -1,4 +1,4 @@
-ghost use Rattle.std.specs.Prelude.{◌≡◌};
+ghost use Rattle.std.specs.Prelude.{◌≡◌, ◌≤◌, ◌+◌};
 ghost use Rattle.tally_records.specs.LoginRecord.{login_result, login_type};
 ghost use Rattle.tally_records.specs.Text.{i32_at};
 
@@ -46,11 +46,12 @@ fn type_of(bytes: &[u8; LOGIN_SIZE]) -> i16
     LittleEndian::read_i16(bytes)
 }
 
-fn time_of(bytes: &[u8; LOGIN_SIZE]) -> i32
-    ensures { result ≡ i32_at 340 bytes.now }
+fn time_at(bytes: &[u8; LOGIN_SIZE], offset: usize) -> i32
+    requires { offset + 4 ≤ 384 }
+    ensures { result ≡ i32_at offset bytes.now }
 {
-    let time = &bytes[340..];
-    LittleEndian::read_i32(time)
+    let field = &bytes[offset..];
+    LittleEndian::read_i32(field)
 }
 
 /// Reads a login record by the layout of utmp(5).
@@ -66,6 +67,6 @@ pub fn read_login(bytes: &[u8; LOGIN_SIZE]) -> Result<LoginRecord, RecordFault>
         line: text(&bytes[8..40]),
         user: text(&bytes[44..76]),
         remote: text(&bytes[76..332]),
-        time: time_of(bytes),
+        time: time_at(bytes, 340),
     })
 }

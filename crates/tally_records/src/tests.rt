@@ -1,0 +1,141 @@
+//! Worked records, and each public function once.
+use crate::{
+    Batch, BatchFault, Event, Kind, List, LoginRecord, RecordFault, comp, event, read_login,
+    read_proc,
+};
+use std::test::Fail;
+
+fn put(bytes: &mut [u8], at: usize, text: &[u8]) {
+    for (to, from) in bytes.iter_mut().skip(at).zip(text) {
+        *to = *from;
+    }
+}
+
+fn login_record(kind: u8, line: &str, user: &str, time: i32) -> [u8; 384] {
+    let mut bytes = [0; 384];
+    bytes[0] = kind;
+    put(&mut bytes, 8, line.as_bytes());
+    put(&mut bytes, 44, user.as_bytes());
+    put(&mut bytes, 340, &time.to_le_bytes());
+    bytes
+}
+
+fn proc_record(version: u8) -> [u8; 64] {
+    let mut bytes = [0; 64];
+    bytes[1] = version;
+    put(
+        &mut bytes,
+        12,
+        &[0x78, 0, 0x3c, 0, 0x58, 2, 0xf4, 1, 0xe8, 3],
+    );
+    put(&mut bytes, 36, b"make");
+    put(&mut bytes, 56, &[0xe8, 3]);
+    bytes
+}
+
+#[test]
+fn compressed_numbers_have_a_base_eight_exponent(rt: HostRuntime) {
+    let cases = [
+        (0x0000, 0),
+        (0x1FFF, 8191),
+        (0x2001, 8),
+        (0x3FFF, 65528),
+        (0xFFFF, 17_177_772_032),
+    ];
+    for (word, value) in cases {
+        assert_eq!(rt; comp(word), value, "at {word}");
+    }
+}
+
+#[test]
+fn a_login_record_is_read_by_its_offsets(rt: HostRuntime) -> Result<(), Fail> {
+    let found = read_login(&login_record(7, "tty1", "ann\0x", 1_000_000))?;
+    let mut wanted = LoginRecord {
+        kind: 7,
+        line: [0; 32],
+        user: [0; 32],
+        remote: [0; 256],
+        time: 1_000_000,
+    };
+    put(&mut wanted.line, 0, b"tty1");
+    put(&mut wanted.user, 0, b"ann");
+    assert_eq!(rt; found, wanted);
+    assert_eq!(rt; event(&found), Event::Login);
+    Ok(())
+}
+
+#[test]
+fn a_type_outside_zero_to_nine_is_refused(rt: HostRuntime) {
+    let mut bytes = login_record(10, "", "", 0);
+    assert_eq!(rt; read_login(&bytes), Err(RecordFault::LoginType(10)));
+    put(&mut bytes, 0, &[255, 255]);
+    assert_eq!(rt; read_login(&bytes), Err(RecordFault::LoginType(-1)));
+}
+
+#[test]
+fn a_process_record_is_read_by_its_offsets(rt: HostRuntime) -> Result<(), Fail> {
+    let found = read_proc(&proc_record(2))?;
+    let ticks = (found.user_ticks, found.system_ticks, found.real_ticks);
+    assert_eq!(rt; ticks, (120, 60, 600));
+    assert_eq!(rt; (found.mem, found.io, found.uid), (500, 1000, 1000));
+    assert_eq!(rt; found.comm, *b"make\0\0\0\0\0\0\0\0\0\0\0\0\0");
+    Ok(())
+}
+
+#[test]
+fn a_big_endian_process_record_is_refused(rt: HostRuntime) {
+    let big_endian = read_proc(&proc_record(0x82));
+    assert_eq!(rt; big_endian, Err(RecordFault::ProcVersion(130)));
+}
+
+#[test]
+fn a_batch_names_its_first_bad_record(rt: HostRuntime) -> Result<(), Fail> {
+    let mut bytes = Vec::new(rt.alloc());
+    for kind in [7, 0, 10, 11] {
+        bytes.extend_from_slice(&login_record(kind, "", "", 0))?;
+    }
+    let wanted = BatchFault::Bad {
+        index: 2,
+        fault: RecordFault::LoginType(10),
+    };
+    assert_eq!(rt;
+        Batch::logins(rt.alloc(), bytes.as_slice()).err(),
+        Some(wanted)
+    );
+    Ok(())
+}
+
+#[test]
+fn a_batch_holds_up_to_1024_records(rt: HostRuntime) -> Result<(), Fail> {
+    let zeros = vec![in rt.alloc(); 0u8; 393_600]?;
+    let full = Batch::logins(rt.alloc(), &zeros.as_slice()[..393_216])?;
+    assert_eq!(rt; full.len(), 1024);
+    let more = Batch::logins(rt.alloc(), zeros.as_slice());
+    assert_eq!(rt; more.err(), Some(BatchFault::TooMany(1025)));
+    let torn = Batch::logins(rt.alloc(), &zeros.as_slice()[..385]);
+    assert_eq!(rt; torn.err(), Some(BatchFault::Length(385)));
+    Ok(())
+}
+
+#[test]
+fn a_batch_of_process_records_shows_them(rt: HostRuntime) -> Result<(), Fail> {
+    let batch = Batch::procs(rt.alloc(), &proc_record(2))?;
+    assert_eq!(rt; batch.kind(), Kind::Proc);
+    assert_eq!(rt; batch.len(), 1);
+    assert_eq!(rt; batch.proc_at(0), read_proc(&proc_record(2)).ok());
+    assert_eq!(rt; batch.login_at(0), None);
+    Ok(())
+}
+
+#[test]
+fn a_list_keeps_its_values_in_order(rt: HostRuntime) -> Result<(), Fail> {
+    let mut list = List::new(rt.alloc());
+    list.push(5)?;
+    list.push(7)?;
+    let copy = list.try_copy(rt.alloc())?;
+    assert_eq!(rt; copy.as_slice(), [5, 7].as_slice());
+    assert_eq!(rt; (copy.len(), copy.get(1), copy.get(2)), (2, Some(7), None));
+    let vector = List::from_vec(vec![in rt.alloc(); 1, 2]?);
+    assert_eq!(rt; vector.as_slice(), [1, 2].as_slice());
+    Ok(())
+}
