@@ -14,4 +14,6 @@ pub use crate::entry::{End, Entry, Stay};
 pub use crate::sessions::{ENTRY_LIMIT, HOST_LIMIT, Sessions};
 
 #[cfg(test)]
+mod scan;
+#[cfg(test)]
 mod tests;
