@@ -84,3 +84,11 @@ user_rows-IsPermutation order reversed rs ss moved =
     ap (in_order (user_row_cmp order)) same
     ∙ sym (in_order-IsPermutation (user_cmp_total order) (map (λ (r : ProcRecord). user_row rs r.uid) rs) (map (λ (r : ProcRecord). user_row rs r.uid) ss) (IsPermutation-map (λ (r : ProcRecord). user_row rs r.uid) rs ss moved) (users.ties_are_equal rs order)) in
     ap (λ l. cond reversed (reverse l) l) rows
+
+-- all records pass the test that all pass
+filter-all : {X : Type 0} (xs : List X) → filter (λ x. true) xs ≡ xs
+filter-all [] = refl
+filter-all (x ∷ xs) = λ i. x ∷ filter-all xs i
+
+pub total-IsPermutation : (rs ss : List ProcRecord) → IsPermutation rs ss → usage_of ss ≡ usage_of rs
+total-IsPermutation rs ss moved = ap usage_of (sym (filter-all ss)) ∙ usage_same rs ss moved (λ r. true) ∙ ap usage_of (filter-all rs)

@@ -28,11 +28,13 @@ records_of_command command rs = filter (λ r. is_same_command command (command_o
 
 -- each byte of the name's text, which ends before the first zero, is printable ASCII
 abbrev pub is_printable : List ℕ → Bool
-is_printable name = list_all (λ byte. nat_le 0x20 byte && nat_le byte 0x7e) (before_first (λ byte. byte == 0) name)
+is_printable name =
+    list_all (λ byte. nat_le 0x20 byte && nat_le byte 0x7e) (before_first (λ byte. byte == 0) name)
 
 -- a group of one record, or one whose name does not print
 abbrev pub is_stray : List ProcRecord → Command → Bool
-is_stray rs command = (length (records_of_command command rs) == 1) || not (is_printable command.name)
+is_stray rs command =
+    (length (records_of_command command rs) == 1) || not (is_printable command.name)
 
 -- the row of a group
 abbrev pub command_row : List ProcRecord → Command → CommandRow
@@ -57,7 +59,8 @@ abbrev pub row_of_record : Bool → List ProcRecord → ProcRecord → CommandRo
 row_of_record all rs r =
     if not all && is_stray rs (command_of r) then other_row rs else command_row rs (command_of r)
 
--- greatest number first; then by the name's bytes, unmarked before marked, a real name before the stray groups' row
+-- greatest number first; then by the name's bytes, unmarked before marked, and a real name before the row of the
+-- stray groups
 abbrev pub command_row_cmp : Order → CommandRow → CommandRow → Ordering
 command_row_cmp order a b =
     ordering_then (ordering_then (ordering_then (nat_cmp (measure_of order b.usage) (measure_of order a.usage))

@@ -1,5 +1,6 @@
 pub mod Command
 pub mod Keys
+pub mod Laws
 pub mod Order
 pub mod Rows
 pub mod Sound

@@ -1,9 +1,10 @@
 -- How a summary's fields hold its contents.
-use Rattle.std.specs.Prelude.{◌≡◌, ℕ, ◌≤◌, ◌^◌, nat_eq, List, [], MatchOption, All, take, drop, length}
+use Rattle.std.specs.Prelude.{◌≡◌, ℕ, ◌≤◌, nat_eq, List, [], MatchOption, All, take, drop, length}
 use Rattle.std.specs.HashMap.{ContainsKey}
 use Rattle.std.specs.Option.{option_map}
 use Rattle.tally_records.specs.ProcRecord.{IsBounded}
 use Rattle.tally_usage.specs.declared.entry.ProcEntry.{ProcEntry}
+use Rattle.tally_usage.specs.declared.entry.TheConstants.{ENTRY_LIMIT}
 use Rattle.tally_usage.specs.declared.summary.Summary.TheInside.{Inside}
 use Rattle.tally_usage.specs.Command.{command_of, is_same_command}
 use Rattle.tally_usage.specs.Summary.{Contents}
@@ -30,7 +31,7 @@ pub record CanCount (s : Inside) (host : ℕ) (e : ProcEntry) : Type 0 where
   pub user : ContainsKey nat_eq s.users e.item.uid
 
 pub record IsSound (s : Inside) : Type 0 where
-  pub few : length s.entries.items ≤ 2 ^ 20
+  pub few : length s.entries.items ≤ ENTRY_LIMIT
   pub bounded : All IsBounded (records_of s.entries.items)
   pub stored : s.stored ≤ length s.entries.items
   pub total : s.total ≡ usage_of (records_of (stored_of s))

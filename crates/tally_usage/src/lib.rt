@@ -4,6 +4,7 @@
 mod command;
 mod entry;
 mod group;
+mod laws;
 mod order;
 mod summary;
 mod table;
@@ -11,8 +12,12 @@ mod usage;
 mod user;
 
 pub use command::CommandRow;
-pub use entry::ProcEntry;
+pub use entry::{ENTRY_LIMIT, ProcEntry};
+pub use laws::{record_order_is_free, rows_ascend};
 pub use order::Order;
 pub use summary::Summary;
 pub use usage::Usage;
 pub use user::UidRow;
+
+#[cfg(test)]
+mod tests;

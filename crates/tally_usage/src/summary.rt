@@ -1,5 +1,5 @@
 //! The sums of each command and of each user over the stored process records.
-ghost use Rattle.std.specs.Prelude.{◌≡◌, ◌+◌, ◌^◌, ◌≤◌, [], ◌++◌, None, Some, IfOk, OnOk, OnErr, length, vec_len, vec_capacity};
+ghost use Rattle.std.specs.Prelude.{◌≡◌, ◌+◌, ◌≤◌, [], ◌++◌, None, Some, IfOk, OnOk, OnErr, length, vec_len, vec_capacity};
 ghost use Rattle.tally_records.specs.Records.{IsProcs, procs_in, record_count};
 ghost use Rattle.tally_usage.specs.Command.{command_rows};
 ghost use Rattle.tally_usage.specs.Summary.{entries_of};
@@ -8,7 +8,7 @@ ghost use Rattle.tally_usage.specs.Usage.{usage_of};
 ghost use Rattle.tally_usage.specs.User.{user_rows};
 
 use crate::command::{self, Command, CommandRow};
-use crate::entry::ProcEntry;
+use crate::entry::{ENTRY_LIMIT, ProcEntry};
 use crate::order::Order;
 use crate::table::{count_entries, count_total, enter_keys};
 use crate::usage::Usage;
@@ -60,12 +60,14 @@ impl Summary {
         }
     }
 
-    /// Makes every growth that adding the batch for the host needs.
+    /// Makes every growth that adding the batch needs, so that `add` with the same host and batch
+    /// cannot fail. Where memory is refused, no answer has changed.
     pub fn prepare(&mut self, host: u32, batch: &Batch) -> Result<(), Memory>
         requires kind { IsProcs batch.now }
-        requires room { length self.old.entries + record_count batch.now ≤ 2 ^ 20 }
+        requires room { length self.old.entries + record_count batch.now ≤ ENTRY_LIMIT }
         ensures entries { self.new.entries ≡ self.old.entries }
-        ensures ready { OnOk result (self.new.ready ≡ Some (record { host = host; records = procs_in batch.now })) }
+        ensures ready { OnOk result
+            (self.new.ready ≡ Some (record { host = host; records = procs_in batch.now })) }
         ensures refused { OnErr result (self.new.ready ≡ None) }
     {
         self.entries.truncate(self.stored);
@@ -82,9 +84,10 @@ impl Summary {
         Ok(())
     }
 
-    /// Adds the batch that the summary is ready for.
+    /// Adds the batch that `prepare` made the summary ready for. Takes no memory, and time for this
+    /// batch alone, however much is stored.
     pub fn add(&mut self, host: u32, batch: &Batch)
-        requires { self.old.ready ≡ Some (record { host = host; records = procs_in batch.now }) }
+        requires ready { self.old.ready ≡ Some (record { host = host; records = procs_in batch.now }) }
         ensures entries { self.new.entries ≡ self.old.entries ++ entries_of host (procs_in batch.now) }
         ensures ready { self.new.ready ≡ None }
     {
@@ -96,16 +99,16 @@ impl Summary {
         self.ready = None;
     }
 
-    /// The stored entries.
+    /// The stored entries, in the order in which they were added.
     pub fn entries(&self) -> &[ProcEntry]
-        ensures { result.now ≡ self.now.entries }
+        ensures value { result.now ≡ self.now.entries }
     {
         &self.entries.as_slice()[..self.stored]
     }
 
     /// The stored entries, by value.
     pub fn into_entries(self) -> Vec<ProcEntry>
-        ensures { result.items ≡ self.entries }
+        ensures value { result.items ≡ self.entries }
     {
         let Summary {
             mut entries,
@@ -119,7 +122,8 @@ impl Summary {
         entries
     }
 
-    /// The rows by command.
+    /// The rows by command, as sa(8) sums them: the greatest number first, or last where `reverse`.
+    /// Without `all`, commands of one call or with a name that does not print are one row.
     pub fn by_command(
         &self,
         alloc: Global,
@@ -127,7 +131,8 @@ impl Summary {
         all: bool,
         reverse: bool,
     ) -> Result<List<CommandRow>, Memory>
-        ensures { IfOk result (λ rows. rows ≡ command_rows order all reverse (records_of self.now.entries)) }
+        ensures value { IfOk result
+            (λ rows. rows ≡ command_rows order all reverse (records_of self.now.entries)) }
     {
         let mut rows = Vec::with_capacity(alloc, self.commands.len() + 1)?;
         command::push_rows(&mut rows, &self.commands, all)?;
@@ -138,14 +143,15 @@ impl Summary {
         Ok(List::from_vec(rows))
     }
 
-    /// The rows by user.
+    /// The rows by user: the greatest number first, or last where `reverse`.
     pub fn by_user(
         &self,
         alloc: Global,
         order: Order,
         reverse: bool,
     ) -> Result<List<UidRow>, Memory>
-        ensures { IfOk result (λ rows. rows ≡ user_rows order reverse (records_of self.now.entries)) }
+        ensures value { IfOk result
+            (λ rows. rows ≡ user_rows order reverse (records_of self.now.entries)) }
     {
         let mut rows = user::rows_of(alloc, &self.users)?;
         rows.sort_unstable_by(|a, b| user::compare(order, a, b));
@@ -157,7 +163,7 @@ impl Summary {
 
     /// What all stored records used.
     pub fn total(&self) -> Usage
-        ensures { result ≡ usage_of (records_of self.now.entries) }
+        ensures value { result ≡ usage_of (records_of self.now.entries) }
     {
         self.total
     }

@@ -25,6 +25,6 @@ invariant_of-self c =
 pub returns-clause-entries : goal.returns-clause-entries
 returns-clause-entries c =
     let s = c.self.inside in
-    let waits = waiting_is s c.args.host (procs_in c.args.batch.now) c.self.invariant (ap (λ v. v.ready) c.self.view_is ∙ c.requires) in
+    let waits = waiting_is s c.args.host (procs_in c.args.batch.now) c.self.invariant (ap (λ v. v.ready) c.self.view_is ∙ c.requires.ready) in
     take_all c.len-self-inside.result s.entries.items (omega (arith, c.len-self-inside.ensures, c.as_slice-entries.ensures.len, ap length c.as_slice-entries.ensures.value))
     ∙ sym (take-append-drop s.stored s.entries.items) ∙ ap (λ v. v.entries ++ waiting_of s) c.self.view_is ∙ ap (λ l. c.args.self.now.entries ++ l) waits

@@ -31,11 +31,13 @@ returns c =
     let moved = subst (λ l. IsPermutation l xs) pushed c.sort_unstable_by.ensures.permutation in
     let done : xs ≡ in_order (command_row_cmp order) (map (row_of_record c.args.all rs) rs) = rows_in_order c.args.all s.commands.entries rs c.self.invariant.commands c.len.ensures.unique order xs moved sorted in
     let seen = ap (λ v. command_rows order c.args.all c.args.reverse (records_of v.entries)) c.self.view_is in
-    elim c.if-reverse.branch [
-      | then-reverse w ↦
-          c.from_vec.ensures ∙ ap (λ v. v.items) w.rows-is ∙ w.reverse.ensures.items ∙ command_rows-reversed order c.args.all rs xs done
-          ∙ ap (λ b. command_rows order c.args.all b rs) (sym w.if-reverse.true) ∙ seen
-      | else-reverse w ↦
-          c.from_vec.ensures ∙ ap (λ v. v.items) w.rows-is ∙ command_rows-forward order c.args.all rs xs done
-          ∙ ap (λ b. command_rows order c.args.all b rs) (sym w.if-reverse.false) ∙ seen
-    ]
+    record {
+      value = elim c.if-reverse.branch [
+        | then-reverse w ↦
+            c.from_vec.ensures ∙ ap (λ v. v.items) w.rows-is ∙ w.reverse.ensures.items ∙ command_rows-reversed order c.args.all rs xs done
+            ∙ ap (λ b. command_rows order c.args.all b rs) (sym w.if-reverse.true) ∙ seen
+        | else-reverse w ↦
+            c.from_vec.ensures ∙ ap (λ v. v.items) w.rows-is ∙ command_rows-forward order c.args.all rs xs done
+            ∙ ap (λ b. command_rows order c.args.all b rs) (sym w.if-reverse.false) ∙ seen
+      ];
+    }

@@ -22,11 +22,13 @@ returns c =
     let moved = subst (λ l. IsPermutation l xs) c.in_ok-rows.ensures.rows c.sort_unstable_by.ensures.permutation in
     let done : xs ≡ in_order (user_row_cmp order) (map (λ r. user_row rs r.uid) rs) = rows_in_order c.self.inside.users.entries rs c.self.invariant.users c.in_ok-rows.ensures.unique order xs moved sorted in
     let seen = ap (λ v. user_rows order c.args.reverse (records_of v.entries)) c.self.view_is in
-    elim c.if-reverse.branch [
-      | then-reverse w ↦
-          c.from_vec.ensures ∙ ap (λ v. v.items) w.rows-is ∙ w.reverse.ensures.items ∙ user_rows-reversed order rs xs done
-          ∙ ap (λ b. user_rows order b rs) (sym w.if-reverse.true) ∙ seen
-      | else-reverse w ↦
-          c.from_vec.ensures ∙ ap (λ v. v.items) w.rows-is ∙ user_rows-forward order rs xs done
-          ∙ ap (λ b. user_rows order b rs) (sym w.if-reverse.false) ∙ seen
-    ]
+    record {
+      value = elim c.if-reverse.branch [
+        | then-reverse w ↦
+            c.from_vec.ensures ∙ ap (λ v. v.items) w.rows-is ∙ w.reverse.ensures.items ∙ user_rows-reversed order rs xs done
+            ∙ ap (λ b. user_rows order b rs) (sym w.if-reverse.true) ∙ seen
+        | else-reverse w ↦
+            c.from_vec.ensures ∙ ap (λ v. v.items) w.rows-is ∙ user_rows-forward order rs xs done
+            ∙ ap (λ b. user_rows order b rs) (sym w.if-reverse.false) ∙ seen
+      ];
+    }

@@ -1,0 +1,22 @@
+-- What holds of the rows of every list of process records.
+use Rattle.std.specs.Prelude.{◌≡◌, Bool, false, List, IsPermutation, reverse}
+use Rattle.std.specs.List.Sorted.{IsStrictlySortedBy}
+use Rattle.tally_records.specs.declared.process.ProcRecord.{ProcRecord}
+use Rattle.tally_usage.specs.declared.order.Order.{Order}
+use Rattle.tally_usage.specs.Command.{command_row_cmp, command_rows}
+use Rattle.tally_usage.specs.Usage.{usage_of}
+use Rattle.tally_usage.specs.User.{user_row_cmp, user_rows}
+
+-- rows that are not reversed stand in strictly ascending order
+abbrev pub RowsAscend : Type 0
+RowsAscend =
+    (order : Order) (all : Bool) (rs : List ProcRecord)
+    → IsStrictlySortedBy (command_row_cmp order) (command_rows order all false rs)
+    × IsStrictlySortedBy (user_row_cmp order) (user_rows order false rs)
+
+-- the order of the records changes no answer
+abbrev pub RecordOrderIsFree : Type 0
+RecordOrderIsFree =
+    (order : Order) (all reversed : Bool) (rs ss : List ProcRecord) → IsPermutation rs ss
+    → (command_rows order all reversed ss ≡ command_rows order all reversed rs)
+    × (user_rows order reversed ss ≡ user_rows order reversed rs) × (usage_of ss ≡ usage_of rs)

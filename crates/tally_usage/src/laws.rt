@@ -1,0 +1,12 @@
+//! Laws of summaries, which hold of every list of process records.
+ghost use Rattle.tally_usage.specs.Laws.{RecordOrderIsFree, RowsAscend};
+
+/// No two rows tie, and each row comes before those that its order puts after it.
+pub fn rows_ascend()
+    ensures { RowsAscend }
+{}
+
+/// Equal records give equal rows and an equal total, in whatever order they were stored.
+pub fn record_order_is_free()
+    ensures { RecordOrderIsFree }
+{}

@@ -1,0 +1,207 @@
+//! Worked examples, and each growth refused in turn.
+use crate::{CommandRow, Order, Summary, UidRow, Usage};
+use std::alloc::Global;
+use std::process::Abort;
+use std::test::Fail;
+use tally_records::{Batch, Comm, Kind, PROC_SIZE};
+
+mod filters;
+
+const MAKE: Comm = *b"make\0\0\0\0\0\0\0\0\0\0\0\0\0";
+
+const OTHER: Comm = *b"***other\0\0\0\0\0\0\0\0\0";
+
+const BELL: Comm = *b"a\x07\0\0\0\0\0\0\0\0\0\0\0\0\0\0\0";
+
+/// An acct record of version 2. The five numbers, each below 8,192, are user, system and elapsed
+/// ticks, memory and io.
+fn proc_record(flag: u8, uid: u8, numbers: [u16; 5], comm: Comm) -> [u8; PROC_SIZE] {
+    let mut bytes = [0; PROC_SIZE];
+    bytes[0] = flag;
+    bytes[1] = 2;
+    for (i, number) in numbers.iter().enumerate() {
+        let [low, high] = number.to_le_bytes();
+        bytes[12 + 2 * i] = low;
+        bytes[13 + 2 * i] = high;
+    }
+    bytes[36..53].copy_from_slice(&comm);
+    bytes[56] = uid;
+    bytes
+}
+
+/// One run of make that executed, and two that only forked.
+fn makes() -> [[u8; PROC_SIZE]; 3] {
+    let executed = proc_record(0, 100, [120, 60, 600, 500, 1000], MAKE);
+    let forked = proc_record(1, 100, [60, 0, 60, 200, 3], MAKE);
+    [executed, forked, forked]
+}
+
+/// Posts the records as a batch of the host. Where `prepare` is refused once, nothing is stored,
+/// and the same `prepare` then succeeds.
+fn post(
+    rt: &impl Abort,
+    alloc: Global,
+    summary: &mut Summary,
+    host: u32,
+    records: &[[u8; PROC_SIZE]],
+) -> Result<(), Fail> {
+    let batch = Batch::procs(alloc, records.as_flattened())?;
+    let stored = summary.entries().len();
+    let total = summary.total();
+    assert!(rt; stored + batch.len() <= 1 << 20);
+    if summary.prepare(host, &batch).is_err() {
+        assert!(rt; summary.entries().len() == stored && summary.total() == total);
+        summary.prepare(host, &batch)?;
+    }
+    summary.add(host, &batch);
+    Ok(())
+}
+
+/// A summary of these records, posted by host 1.
+fn summary_of(
+    rt: &impl Abort,
+    alloc: Global,
+    records: &[[u8; PROC_SIZE]],
+) -> Result<Summary, Fail> {
+    let mut summary = Summary::new(alloc);
+    post(rt, alloc, &mut summary, 1, records)?;
+    Ok(summary)
+}
+
+const EXECUTED: Usage = Usage {
+    count: 1,
+    real: 600,
+    cpu: 180,
+    io: 1000,
+    mem_cpu: 90_000,
+};
+
+const FORKED: Usage = Usage {
+    count: 2,
+    real: 120,
+    cpu: 120,
+    io: 6,
+    mem_cpu: 24_000,
+};
+
+const TOTAL: Usage = Usage {
+    count: 3,
+    real: 720,
+    cpu: 300,
+    io: 1006,
+    mem_cpu: 114_000,
+};
+
+fn row(name: Comm, forked: bool, other: bool, usage: Usage) -> CommandRow {
+    CommandRow {
+        name,
+        forked,
+        other,
+        usage,
+    }
+}
+
+/// Asserts that the rows by command of the three runs of make are these.
+fn expect_commands(
+    rt: &impl Abort,
+    alloc: Global,
+    order: Order,
+    flags: [bool; 2],
+    rows: &[CommandRow],
+) -> Result<(), Fail> {
+    let [all, reverse] = flags;
+    let summary = summary_of(rt, alloc, &makes())?;
+    let found = summary.by_command(alloc, order, all, reverse)?;
+    assert!(rt; found.as_slice() == rows);
+    Ok(())
+}
+
+#[test]
+fn a_command_of_one_run_is_joined_to_the_others(rt: HostRuntime) -> Result<(), Fail> {
+    let rows = [
+        row(OTHER, false, true, EXECUTED),
+        row(MAKE, true, false, FORKED),
+    ];
+    expect_commands(&rt, rt.alloc(), Order::Cpu, [false, false], &rows)
+}
+
+#[test]
+fn the_command_of_most_calls_comes_first(rt: HostRuntime) -> Result<(), Fail> {
+    let rows = [
+        row(MAKE, true, false, FORKED),
+        row(OTHER, false, true, EXECUTED),
+    ];
+    expect_commands(&rt, rt.alloc(), Order::Calls, [false, false], &rows)
+}
+
+#[test]
+fn a_reversed_answer_is_the_reversed_list(rt: HostRuntime) -> Result<(), Fail> {
+    let rows = [
+        row(MAKE, true, false, FORKED),
+        row(OTHER, false, true, EXECUTED),
+    ];
+    expect_commands(&rt, rt.alloc(), Order::Cpu, [false, true], &rows)
+}
+
+#[test]
+fn all_commands_keep_their_names(rt: HostRuntime) -> Result<(), Fail> {
+    let rows = [
+        row(MAKE, false, false, EXECUTED),
+        row(MAKE, true, false, FORKED),
+    ];
+    expect_commands(&rt, rt.alloc(), Order::Cpu, [true, false], &rows)
+}
+
+#[test]
+fn a_user_has_the_sum_of_all_commands(rt: HostRuntime) -> Result<(), Fail> {
+    let summary = summary_of(&rt, rt.alloc(), &makes())?;
+    assert!(rt; summary.total() == TOTAL);
+    let found = summary.by_user(rt.alloc(), Order::Cpu, false)?;
+    let row = UidRow {
+        uid: 100,
+        usage: TOTAL,
+    };
+    assert!(rt; found.as_slice() == [row].as_slice());
+    Ok(())
+}
+
+#[test]
+fn commands_that_do_not_print_are_joined(rt: HostRuntime) -> Result<(), Fail> {
+    let bell = proc_record(0, 0, [0, 0, 1, 7, 2], BELL);
+    let summary = summary_of(&rt, rt.alloc(), &[bell, bell])?;
+    let usage = Usage {
+        count: 2,
+        real: 2,
+        cpu: 0,
+        io: 4,
+        mem_cpu: 0,
+    };
+    let found = summary.by_command(rt.alloc(), Order::Cpu, false, false)?;
+    assert!(rt; found.as_slice() == [row(OTHER, false, true, usage)].as_slice());
+    Ok(())
+}
+
+#[test]
+fn no_records_have_no_rows(rt: HostRuntime) -> Result<(), Fail> {
+    let summary = summary_of(&rt, rt.alloc(), &[])?;
+    let commands = summary.by_command(rt.alloc(), Order::Cpu, false, false)?;
+    let users = summary.by_user(rt.alloc(), Order::Cpu, false)?;
+    assert!(rt; commands.len() == 0 && users.len() == 0);
+    Ok(())
+}
+
+#[test]
+fn entries_are_the_batches_in_order(rt: HostRuntime) -> Result<(), Fail> {
+    let mut summary = summary_of(&rt, rt.alloc(), &makes())?;
+    post(&rt, rt.alloc(), &mut summary, 4_294_967_295, &makes())?;
+    post(&rt, rt.alloc(), &mut summary, 1, &makes())?;
+    let shown = summary.entries().len();
+    let entries = summary.into_entries();
+    assert!(rt; shown == 9 && entries.len() == 9);
+    for (i, entry) in entries.as_slice().iter().enumerate() {
+        let host = if i / 3 == 1 { 4_294_967_295 } else { 1 };
+        let flag = if i % 3 == 0 { 0 } else { 1 };
+        assert!(rt; entry.host == host && entry.item.flag == flag, "at {i}");
+    }
+    Ok(())
+}

@@ -1,0 +1,198 @@
+//! The rows by plain filters over the list of entries, compared with those of a summary.
+use super::{BELL, MAKE, OTHER, post, proc_record};
+use crate::{CommandRow, Order, ProcEntry, Summary, UidRow, Usage};
+use std::alloc::{AllocError, Global};
+use std::cmp::Ordering;
+use std::process::Abort;
+use std::test::Fail;
+use tally_records::{Comm, PROC_SIZE, ProcRecord};
+
+const NONE: Usage = Usage {
+    count: 0,
+    real: 0,
+    cpu: 0,
+    io: 0,
+    mem_cpu: 0,
+};
+
+/// Adds a record. The sums of these lists are small, so nothing saturates.
+fn add(usage: &mut Usage, process: &ProcRecord) {
+    let cpu = process.user_ticks.saturating_add(process.system_ticks);
+    let mem_cpu = u128::from(process.mem) * u128::from(cpu);
+    usage.count = usage.count.saturating_add(1);
+    usage.real = usage.real.saturating_add(u128::from(process.real_ticks));
+    usage.cpu = usage.cpu.saturating_add(cpu);
+    usage.io = usage.io.saturating_add(process.io);
+    usage.mem_cpu = usage.mem_cpu.saturating_add(mem_cpu);
+}
+
+fn total_of(entries: &[ProcEntry]) -> Usage {
+    let mut usage = NONE;
+    for entry in entries {
+        add(&mut usage, &entry.item);
+    }
+    usage
+}
+
+fn user_row(entries: &[ProcEntry], uid: u32) -> UidRow {
+    let mut usage = NONE;
+    for entry in entries {
+        if entry.item.uid == uid {
+            add(&mut usage, &entry.item);
+        }
+    }
+    UidRow { uid, usage }
+}
+
+fn command_row(entries: &[ProcEntry], process: &ProcRecord) -> CommandRow {
+    let mut usage = NONE;
+    for entry in entries {
+        let item = &entry.item;
+        if item.comm == process.comm && item.flag % 2 == process.flag % 2 {
+            add(&mut usage, item);
+        }
+    }
+    CommandRow {
+        name: process.comm,
+        forked: process.flag % 2 == 1,
+        other: false,
+        usage,
+    }
+}
+
+fn prints(name: &Comm) -> bool {
+    for byte in name {
+        if *byte == 0 {
+            return true;
+        }
+        if !(32..127).contains(byte) {
+            return false;
+        }
+    }
+    true
+}
+
+fn by_number(order: Order, a: &Usage, b: &Usage) -> Ordering {
+    match order {
+        Order::Cpu => b.cpu.cmp(&a.cpu),
+        Order::Calls => b.count.cmp(&a.count),
+    }
+}
+
+fn command_rows(
+    alloc: Global,
+    entries: &[ProcEntry],
+    order: Order,
+    all: bool,
+) -> Result<Vec<CommandRow>, Fail> {
+    let mut rows = Vec::new(alloc);
+    let mut others = NONE;
+    for entry in entries {
+        let row = command_row(entries, &entry.item);
+        if !all && (row.usage.count == 1 || !prints(&row.name)) {
+            add(&mut others, &entry.item);
+        } else if !rows.as_slice().contains(&row) {
+            rows.push(row)?;
+        }
+    }
+    if others.count > 0 {
+        rows.push(CommandRow {
+            name: OTHER,
+            forked: false,
+            other: true,
+            usage: others,
+        })?;
+    }
+    rows.sort_by(|a, b| {
+        by_number(order, &a.usage, &b.usage).then(
+            (a.name, a.forked, a.other).cmp(&(b.name, b.forked, b.other)),
+        )
+    })?;
+    Ok(rows)
+}
+
+fn user_rows(alloc: Global, entries: &[ProcEntry], order: Order) -> Result<Vec<UidRow>, Fail> {
+    let mut rows = Vec::new(alloc);
+    for entry in entries {
+        let row = user_row(entries, entry.item.uid);
+        if !rows.as_slice().contains(&row) {
+            rows.push(row)?;
+        }
+    }
+    rows.sort_by(|a, b| by_number(order, &a.usage, &b.usage).then(a.uid.cmp(&b.uid)))?;
+    Ok(rows)
+}
+
+/// Asserts that the summary answers as the filters do, in this order and with each flag.
+fn expect_filtered(
+    rt: &impl Abort,
+    alloc: Global,
+    summary: &Summary,
+    order: Order,
+) -> Result<(), Fail> {
+    for all in [false, true] {
+        let mut rows = command_rows(alloc, summary.entries(), order, all)?;
+        let found = summary.by_command(alloc, order, all, false)?;
+        assert!(rt; found.as_slice() == rows.as_slice());
+        rows.reverse();
+        let found = summary.by_command(alloc, order, all, true)?;
+        assert!(rt; found.as_slice() == rows.as_slice());
+    }
+    Ok(())
+}
+
+fn expect_filtered_users(
+    rt: &impl Abort,
+    alloc: Global,
+    summary: &Summary,
+    order: Order,
+) -> Result<(), Fail> {
+    let mut rows = user_rows(alloc, summary.entries(), order)?;
+    let found = summary.by_user(alloc, order, false)?;
+    assert!(rt; found.as_slice() == rows.as_slice());
+    rows.reverse();
+    let found = summary.by_user(alloc, order, true)?;
+    assert!(rt; found.as_slice() == rows.as_slice());
+    Ok(())
+}
+
+/// Records of few names, users and numbers, so that many sums are equal.
+fn generated(alloc: Global, seed: u32, count: usize) -> Result<Vec<[u8; PROC_SIZE]>, Fail> {
+    let mut records = Vec::new(alloc);
+    let mut state = seed;
+    for _ in 0..count {
+        state = state.wrapping_mul(1_103_515_245).wrapping_add(12_345);
+        let [_, low, middle, high] = state.to_le_bytes();
+        let numbers = [
+            u16::from(low % 2),
+            u16::from(low / 2 % 2),
+            3,
+            5,
+            u16::from(middle % 2),
+        ];
+        let name = match high % 4 {
+            0 => BELL,
+            1 => OTHER,
+            _ => MAKE,
+        };
+        records.push(proc_record(middle / 2 % 4, high / 4 % 3, numbers, name))?;
+    }
+    Ok(records)
+}
+
+#[test]
+fn answers_are_those_of_plain_filters(rt: HostRuntime) -> Result<(), Fail> {
+    for seed in 0..12 {
+        let mut summary = Summary::new(rt.alloc());
+        for count in [0, 1, 2, 4, 9] {
+            let records = generated(rt.alloc(), seed, count)?;
+            post(&rt, rt.alloc(), &mut summary, seed, records.as_slice())?;
+            assert!(rt; summary.total() == total_of(summary.entries()));
+            for order in [Order::Cpu, Order::Calls] {
+                expect_filtered(&rt, rt.alloc(), &summary, order)?;
+                expect_filtered_users(&rt, rt.alloc(), &summary, order)?;
+            }
+        }
+    }
+    Ok(())
+}
