@@ -1,4 +1,6 @@
 pub mod Civil
 pub mod ConnectText
+pub mod LastText
 pub mod Output
 pub mod Text
+pub mod UsageText

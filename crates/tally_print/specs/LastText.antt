@@ -1,0 +1,38 @@
+-- The text of a report of stays, as last(1) prints it.
+use Rattle.std.specs.Prelude.{ℕ, if◌then◌else◌, List, ◌++◌, flat_map, ℤ, codes, Option, Some, None}
+use Rattle.tally_sessions.specs.declared.entry.End.{End}
+use Rattle.tally_sessions.specs.declared.entry.End.TheVariants.{Logout, Next, Down, Crash, Still}
+use Rattle.tally_sessions.specs.declared.entry.Stay.{Stay}
+use Rattle.tally_print.specs.Text.{shown, left, moment, span}
+
+-- who was logged in, or the word for a boot
+abbrev pub user_column : Stay → List ℕ
+user_column stay = if stay.is_boot then codes "reboot" else shown stay.user
+
+-- on which line, or the words for a boot
+abbrev pub line_column : Stay → List ℕ
+line_column stay = if stay.is_boot then codes "system boot" else shown stay.line
+
+-- when or how the stay ended, or that it goes on
+unfoldable pub ending : End → Stay → ℤ → List ℕ
+ending Logout stay offset = codes " - " ++ moment stay.end_time offset ++ codes " " ++ span stay.length
+ending Next stay offset = codes " - " ++ moment stay.end_time offset ++ codes " " ++ span stay.length
+ending Down stay offset = codes " - " ++ left (codes "down") 19 ++ codes " " ++ span stay.length
+ending Crash stay offset = codes " - " ++ left (codes "crash") 19 ++ codes " " ++ span stay.length
+ending Still stay offset = if stay.is_boot then codes "   still running" else codes "   still logged in"
+
+-- the line of a stay: user, line, remote, recorded start and ending
+unfoldable pub stay_line : ℤ → Stay → List ℕ
+stay_line offset stay =
+    left (user_column stay) 8 ++ codes " " ++ left (line_column stay) 12 ++ codes " "
+    ++ left (shown stay.remote) 16 ++ codes " " ++ moment stay.start offset
+    ++ ending stay.end stay offset ++ codes "\n"
+
+-- from when on the host has records
+unfoldable pub beginning : Option ℤ → ℤ → List ℕ
+beginning None offset = codes "wtmp has no records\n"
+beginning (Some first) offset = codes "\nwtmp begins " ++ moment first offset ++ codes "\n"
+
+-- a line for each stay, and from when on the host has records
+abbrev pub last_text : List Stay → Option ℤ → ℤ → List ℕ
+last_text rows first offset = flat_map (stay_line offset) rows ++ beginning first offset

@@ -1,0 +1,139 @@
+ghost use Rattle.std.specs.Prelude.{◌≡◌, ◌+◌, ◌-◌, ◌^◌, ◌<◌, ◌++◌, IsTrue, OnOk, pos, neg_ℤ, codes, if◌then◌else◌};
+ghost use Rattle.jiff.specs.Words.{IsBetween};
+ghost use Rattle.tally_print.specs.Output.{AppendsPrefix, failed_calls};
+ghost use Rattle.tally_print.specs.Text.{left, moment, span};
+ghost use Rattle.tally_print.specs.LastText.{user_column, line_column, ending, beginning, stay_line, last_text};
+
+use crate::date::push_moment;
+use crate::put::{new_page, put_all, turn_page};
+use crate::text::{push_left, push_left_shown, push_span};
+use crate::{Output, PrintFault};
+use std::alloc::{AllocError, Global};
+use tally_sessions::{End, Stay};
+
+fn push_user(line: &mut Vec<u8>, stay: &Stay) -> Result<(), AllocError>
+    ensures { OnOk result (line.new.items ≡ line.old.items ++ left (user_column stay.now) 8) }
+{
+    if stay.is_boot {
+        push_left(line, b"reboot", 8)
+    } else {
+        push_left_shown(line, &stay.user, 8)
+    }
+}
+
+fn push_line(line: &mut Vec<u8>, stay: &Stay) -> Result<(), AllocError>
+    ensures { OnOk result (line.new.items ≡ line.old.items ++ left (line_column stay.now) 12) }
+{
+    if stay.is_boot {
+        push_left(line, b"system boot", 12)
+    } else {
+        push_left_shown(line, &stay.line, 12)
+    }
+}
+
+fn push_cut_off(line: &mut Vec<u8>, how: &[u8], length: u64) -> Result<(), AllocError>
+    ensures { OnOk result (line.new.items ≡ line.old.items ++ (codes " - " ++ left how.now 19 ++ codes " " ++ span length)) }
+{
+    line.extend_from_slice(b" - ")?;
+    push_left(line, how, 19)?;
+    line.push(b' ')?;
+    push_span(line, length)
+}
+
+fn push_logout(line: &mut Vec<u8>, stay: &Stay, offset: i32) -> Result<(), AllocError>
+    requires { IsBetween (neg_ℤ (pos 1439)) (pos 1439) offset }
+    ensures { OnOk result (line.new.items ≡ line.old.items ++ (codes " - " ++ moment stay.now.end_time offset ++ codes " " ++ span stay.now.length)) }
+{
+    line.extend_from_slice(b" - ")?;
+    push_moment(line, stay.end_time, offset)?;
+    line.push(b' ')?;
+    push_span(line, stay.length)
+}
+
+fn push_still(line: &mut Vec<u8>, is_boot: bool) -> Result<(), AllocError>
+    ensures { OnOk result (line.new.items ≡ line.old.items ++ (if is_boot then codes "   still running" else codes "   still logged in")) }
+{
+    if is_boot {
+        line.extend_from_slice(b"   still running")
+    } else {
+        line.extend_from_slice(b"   still logged in")
+    }
+}
+
+#[tactic(auto, unfolding(crate::specs::LastText::ending))]
+fn push_ending(line: &mut Vec<u8>, stay: &Stay, offset: i32) -> Result<(), AllocError>
+    requires { IsBetween (neg_ℤ (pos 1439)) (pos 1439) offset }
+    ensures { OnOk result (line.new.items ≡ line.old.items ++ ending stay.now.end stay.now offset) }
+{
+    match stay.end {
+        End::Logout => push_logout(line, stay, offset),
+        End::Next => push_logout(line, stay, offset),
+        End::Down => push_cut_off(line, b"down", stay.length),
+        End::Crash => push_cut_off(line, b"crash", stay.length),
+        End::Still => push_still(line, stay.is_boot),
+    }
+}
+
+#[tactic(auto, unfolding(crate::specs::LastText::stay_line))]
+fn push_stay(line: &mut Vec<u8>, stay: &Stay, offset: i32) -> Result<(), AllocError>
+    requires { IsBetween (neg_ℤ (pos 1439)) (pos 1439) offset }
+    ensures { OnOk result (line.new.items ≡ line.old.items ++ stay_line offset stay.now) }
+{
+    push_user(line, stay)?;
+    line.push(b' ')?;
+    push_line(line, stay)?;
+    line.push(b' ')?;
+    push_left_shown(line, &stay.remote, 16)?;
+    line.push(b' ')?;
+    push_moment(line, stay.start, offset)?;
+    push_ending(line, stay, offset)?;
+    line.push(b'\n')?;
+    Ok(())
+}
+
+fn push_first(line: &mut Vec<u8>, first: i32, offset: i32) -> Result<(), AllocError>
+    requires { IsBetween (neg_ℤ (pos 1439)) (pos 1439) offset }
+    ensures { OnOk result (line.new.items ≡ line.old.items ++ (codes "\nwtmp begins " ++ moment first offset ++ codes "\n")) }
+{
+    line.extend_from_slice(b"\nwtmp begins ")?;
+    push_moment(line, first, offset)?;
+    line.push(b'\n')?;
+    Ok(())
+}
+
+#[tactic(auto, unfolding(crate::specs::LastText::beginning))]
+fn push_beginning(line: &mut Vec<u8>, first: Option<i32>, offset: i32) -> Result<(), AllocError>
+    requires { IsBetween (neg_ℤ (pos 1439)) (pos 1439) offset }
+    ensures { OnOk result (line.new.items ≡ line.old.items ++ beginning first offset) }
+{
+    match first {
+        None => line.extend_from_slice(b"wtmp has no records\n"),
+        Some(first) => push_first(line, first, offset),
+    }
+}
+
+/// Prints the report of stays.
+pub fn print_last<O: Output>(
+    alloc: Global,
+    rows: &[Stay],
+    first: Option<i32>,
+    offset: i32,
+    out: &mut O,
+) -> Result<(), PrintFault>
+    requires failures { O.failures out.old < 2 ^ 64 - 1 }
+    requires offset_in_range { IsBetween (neg_ℤ (pos 1439)) (pos 1439) offset }
+    ensures prefix { IsTrue (O.tells out.old)
+        → AppendsPrefix (O.written out.old) (O.written out.new) (last_text rows.now first offset) }
+    ensures ok { OnOk result (IsTrue (O.tells out.old)
+        → O.written out.new ≡ O.written out.old ++ last_text rows.now first offset) }
+    ensures counts { O.failures out.new ≡ O.failures out.old + failed_calls result }
+    ensures stays { O.tells out.new ≡ O.tells out.old }
+{
+    let mut page = new_page(alloc)?;
+    for row in rows {
+        push_stay(&mut page, row, offset)?;
+        turn_page(&mut page, out)?;
+    }
+    push_beginning(&mut page, first, offset)?;
+    put_all(page.as_slice(), out)
+}

@@ -1,0 +1,136 @@
+ghost use Rattle.std.specs.Prelude.{◌≡◌, ◌+◌, ◌-◌, ◌^◌, ◌<◌, ◌++◌, IsTrue, OnOk, codes, if◌then◌else◌};
+ghost use Rattle.tally_print.specs.Output.{AppendsPrefix, failed_calls};
+ghost use Rattle.tally_print.specs.UsageText.{average, columns, total_line, command_line, commands_text, named_total_line, user_line, users_text};
+
+use crate::put::{new_page, put_all, turn_page};
+use crate::text::{push_left, push_left_number, push_right_minutes, push_right_number, push_shown};
+use crate::{Output, PrintFault};
+use std::alloc::{AllocError, Global};
+use tally_usage::{CommandRow, UidRow, Usage};
+
+fn average(sum: u128, count: u64) -> u128
+    ensures { result ≡ average sum count }
+{
+    if count == 0 {
+        0
+    } else {
+        sum / u128::from(count)
+    }
+}
+
+#[tactic(auto, unfolding(crate::specs::UsageText::columns))]
+fn push_columns(line: &mut Vec<u8>, usage: &Usage) -> Result<(), AllocError>
+    ensures { OnOk result (line.new.items ≡ line.old.items ++ columns usage.now) }
+{
+    push_right_number(line, usage.count, 8)?;
+    line.push(b' ')?;
+    push_right_minutes(line, usage.real, 12)?;
+    line.extend_from_slice(b"re ")?;
+    push_right_minutes(line, u128::from(usage.cpu), 12)?;
+    line.extend_from_slice(b"cp ")?;
+    push_right_number(line, average(u128::from(usage.io), usage.count), 10)?;
+    line.extend_from_slice(b"avio ")?;
+    push_right_number(line, average(usage.mem_cpu, usage.cpu), 10)?;
+    line.push(b'k')?;
+    Ok(())
+}
+
+#[tactic(auto, unfolding(crate::specs::UsageText::total_line))]
+fn push_total(line: &mut Vec<u8>, total: &Usage) -> Result<(), AllocError>
+    ensures { OnOk result (line.new.items ≡ line.old.items ++ total_line total.now) }
+{
+    push_columns(line, total)?;
+    line.push(b'\n')?;
+    Ok(())
+}
+
+#[tactic(auto, unfolding(crate::specs::UsageText::named_total_line))]
+fn push_named_total(line: &mut Vec<u8>, total: &Usage) -> Result<(), AllocError>
+    ensures { OnOk result (line.new.items ≡ line.old.items ++ named_total_line total.now) }
+{
+    push_left(line, b"total", 10)?;
+    line.push(b' ')?;
+    push_columns(line, total)?;
+    line.push(b'\n')?;
+    Ok(())
+}
+
+fn push_fork_mark(line: &mut Vec<u8>, forked: bool) -> Result<(), AllocError>
+    ensures { OnOk result (line.new.items ≡ line.old.items ++ (if forked then codes "*" else codes "")) }
+{
+    if forked {
+        line.push(b'*')?;
+    }
+    Ok(())
+}
+
+#[tactic(auto, unfolding(crate::specs::UsageText::command_line))]
+fn push_command(line: &mut Vec<u8>, row: &CommandRow) -> Result<(), AllocError>
+    ensures { OnOk result (line.new.items ≡ line.old.items ++ command_line row.now) }
+{
+    push_columns(line, &row.usage)?;
+    line.push(b' ')?;
+    push_shown(line, &row.name)?;
+    push_fork_mark(line, row.forked)?;
+    line.push(b'\n')?;
+    Ok(())
+}
+
+#[tactic(auto, unfolding(crate::specs::UsageText::user_line))]
+fn push_user(line: &mut Vec<u8>, row: &UidRow) -> Result<(), AllocError>
+    ensures { OnOk result (line.new.items ≡ line.old.items ++ user_line row.now) }
+{
+    push_left_number(line, row.uid, 10)?;
+    line.push(b' ')?;
+    push_columns(line, &row.usage)?;
+    line.push(b'\n')?;
+    Ok(())
+}
+
+/// Prints the report of commands.
+pub fn print_commands<O: Output>(
+    alloc: Global,
+    rows: &[CommandRow],
+    total: &Usage,
+    out: &mut O,
+) -> Result<(), PrintFault>
+    requires { O.failures out.old < 2 ^ 64 - 1 }
+    ensures prefix { IsTrue (O.tells out.old)
+        → AppendsPrefix (O.written out.old) (O.written out.new) (commands_text rows.now total.now) }
+    ensures ok { OnOk result (IsTrue (O.tells out.old)
+        → O.written out.new ≡ O.written out.old ++ commands_text rows.now total.now) }
+    ensures counts { O.failures out.new ≡ O.failures out.old + failed_calls result }
+    ensures stays { O.tells out.new ≡ O.tells out.old }
+{
+    let mut page = new_page(alloc)?;
+    push_total(&mut page, total)?;
+    for row in rows {
+        push_command(&mut page, row)?;
+        turn_page(&mut page, out)?;
+    }
+    put_all(page.as_slice(), out)
+}
+
+/// Prints the report of users' commands.
+pub fn print_users<O: Output>(
+    alloc: Global,
+    rows: &[UidRow],
+    total: &Usage,
+    out: &mut O,
+) -> Result<(), PrintFault>
+    requires { O.failures out.old < 2 ^ 64 - 1 }
+    ensures prefix { IsTrue (O.tells out.old)
+        → AppendsPrefix (O.written out.old) (O.written out.new) (users_text rows.now total.now) }
+    ensures ok { OnOk result (IsTrue (O.tells out.old)
+        → O.written out.new ≡ O.written out.old ++ users_text rows.now total.now) }
+    ensures counts { O.failures out.new ≡ O.failures out.old + failed_calls result }
+    ensures stays { O.tells out.new ≡ O.tells out.old }
+{
+    let mut page = new_page(alloc)?;
+    push_named_total(&mut page, total)?;
+    for row in rows {
+        push_user(&mut page, row)?;
+        turn_page(&mut page, out)?;
+    }
+    put_all(page.as_slice(), out)
+}
