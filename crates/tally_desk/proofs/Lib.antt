@@ -1,0 +1,9 @@
+pub mod AddLemmas
+pub mod BlockLemmas
+pub mod CountLemmas
+pub mod FeedLemmas
+pub mod Fills
+pub mod JoinLemmas
+pub mod Pieces
+pub mod ReadLemmas
+pub mod TurnLemmas

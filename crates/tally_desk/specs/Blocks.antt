@@ -1,0 +1,52 @@
+-- The blocks of an input, its first fault, and the good blocks before it.
+use Rattle.std.specs.Prelude.{◌==◌, ◌+◌, ◌*◌, ◌/◌, ◌%◌, ℕ, List, Option, Some, None, Result, Err, not, nat_le, if◌then◌else◌, is_none, length, map, slice_get}
+use Rattle.std.specs.List.{enumerate_from, filter_map, take_while}
+use Rattle.std.specs.Simd.{first_chunks}
+use Rattle.std.specs.Slice.Iter.{chunk_count}
+use Rattle.tally_records.specs.Records.{Records}
+use Rattle.tally_records.specs.declared.fault.BatchFault.{BatchFault}
+use Rattle.tally_records.specs.declared.fault.BatchFault.TheVariants as batch
+use Rattle.tally_records.specs.declared.batch.Kind.{Kind}
+use Rattle.tally_desk.specs.Batches.{batch_of, record_size}
+use Rattle.tally_desk.specs.declared.fault.FeedFault.{FeedFault}
+use Rattle.tally_desk.specs.declared.fault.FeedFault.TheVariants.{Torn, TooLong, Bad}
+
+-- bytes cut into pieces of a size, the last one shorter where need be
+unfoldable pub pieces : ℕ → List ℕ → List (List ℕ)
+pieces size bytes = first_chunks size (chunk_count (length bytes) size) bytes
+
+-- how many bytes a full block has
+abbrev pub block_size : Kind → ℕ
+block_size kind = 1024 * record_size kind
+
+-- the blocks of an input
+abbrev pub blocks : Kind → List ℕ → List (List ℕ)
+blocks kind bytes = pieces (block_size kind) bytes
+
+-- the first bad record of a block with a number, under its own number in the input
+abbrev pub bad_record : ℕ → Result Records BatchFault → Option FeedFault
+bad_record number (Err (batch.Bad index fault)) = Some (Bad (1024 * number + index) fault)
+bad_record number outcome = None
+
+-- why a numbered block of an input of `total` bytes is refused
+abbrev pub block_fault : Kind → ℕ → ℕ × List ℕ → Option FeedFault
+block_fault kind total numbered =
+    if nat_le 1024 numbered.0 then Some TooLong
+    else (if not (length numbered.1 % record_size kind == 0)
+    then Some (Torn (total / record_size kind) (total % record_size kind))
+    else bad_record numbered.0 (batch_of kind numbered.1))
+
+-- the blocks of an input with their numbers
+abbrev pub numbered_blocks : Kind → List ℕ → List (ℕ × List ℕ)
+numbered_blocks kind bytes = enumerate_from 0 (blocks kind bytes)
+
+-- the fault of the first block that has one
+abbrev pub feed_fault : Kind → List ℕ → Option FeedFault
+feed_fault kind bytes =
+    slice_get (filter_map (block_fault kind (length bytes)) (numbered_blocks kind bytes)) 0
+
+-- the blocks before that one, or all
+abbrev pub good_blocks : Kind → List ℕ → List (List ℕ)
+good_blocks kind bytes = map (λ numbered. numbered.1)
+    (take_while (λ numbered. is_none (block_fault kind (length bytes) numbered))
+    (numbered_blocks kind bytes))

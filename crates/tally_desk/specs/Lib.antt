@@ -1,0 +1,4 @@
+pub mod Batches
+pub mod Blocks
+pub mod Feeds
+pub mod Turns

@@ -1,0 +1,127 @@
+//! One block of an input.
+ghost use Rattle.std.specs.Prelude.{◌≡◌, ◌+◌, ◌-◌, ◌*◌, ◌^◌, ◌<◌, ◌≤◌, ◌/◌, ◌%◌, ◌∷◌, [], IfErr, IfOk, OnErr, OnOk, Ok, None, length, take, is_some, true};
+ghost use Rattle.std.specs.Io.KnownBytes.{Consumes, IsAtEnd};
+ghost use Rattle.tally_desk.specs.Batches.{batch_of, record_size, records_in};
+ghost use Rattle.tally_desk.specs.Blocks.{block_fault, block_size};
+ghost use Rattle.tally_desk.specs.Feeds.{Adds};
+ghost use Rattle.tally_desk.specs.Turns.{IsBatchRefusal, IsBlockRefusal};
+ghost use Rattle.tally_records.specs.Records.{IsAnswer, NamesRecordBelow, record_count};
+
+use crate::fault::FeedFault;
+use crate::input::{Input, InputFault};
+use crate::sink::Sink;
+use std::alloc::Global;
+use tally_records::{BATCH_LIMIT, Batch, BatchFault, Kind, LOGIN_SIZE, PROC_SIZE};
+
+/// The bytes of a record.
+pub(crate) fn record_size(kind: Kind) -> usize
+    ensures { result ≡ record_size kind }
+{
+    match kind {
+        Kind::Login => LOGIN_SIZE,
+        Kind::Proc => PROC_SIZE,
+    }
+}
+
+/// The bytes of a full block.
+pub(crate) fn block_size(kind: Kind) -> usize
+    ensures { result ≡ block_size kind }
+{
+    BATCH_LIMIT * record_size(kind)
+}
+
+/// Fills the block up to its end or to the end of the input, and says how far.
+pub(crate) fn fill<I: Input>(input: &mut I, block: &mut [u8]) -> Result<usize, InputFault>
+    requires { I.failures input.old < 2 ^ 64 - 1 }
+    ensures bound { IfOk result (λ n. n ≤ length block.new) }
+    ensures bytes { IfOk result (λ n.
+        Consumes (I.to_come input.old) (I.to_come input.new) (take n block.new)) }
+    ensures end { IfOk result (λ n. n < length block.new → IsAtEnd (I.to_come input.new)) }
+    ensures tells { is_some (I.to_come input.new) ≡ is_some (I.to_come input.old) }
+    ensures nature { I.can_fail input.new ≡ I.can_fail input.old }
+    ensures ok { OnOk result (I.failures input.new ≡ I.failures input.old) }
+    ensures err { OnErr result (I.failures input.new ≡ I.failures input.old + 1) }
+    ensures cause { OnErr result (I.can_fail input.old ≡ true) }
+{
+    let mut filled = 0;
+    while filled < block.len() {
+        let count = input.take(&mut block[filled..])?;
+        if count == 0 {
+            return Ok(filled);
+        }
+        filled += count;
+    }
+    Ok(filled)
+}
+
+/// The batch of the bytes.
+fn read_batch(alloc: Global, kind: Kind, bytes: &[u8]) -> Result<Batch, BatchFault>
+    ensures exact { IsAnswer result (batch_of kind bytes.now) }
+    ensures place { IfErr result (NamesRecordBelow (length bytes.now / record_size kind)) }
+{
+    match kind {
+        Kind::Login => Batch::logins(alloc, bytes),
+        Kind::Proc => Batch::procs(alloc, bytes),
+    }
+}
+
+/// The batch of a block of whole records.
+fn block_batch(alloc: Global, kind: Kind, bytes: &[u8], turn: u64) -> Result<Batch, FeedFault>
+    requires room { length bytes.now ≤ block_size kind }
+    requires whole { length bytes.now % record_size kind ≡ 0 }
+    requires early { turn < 1024 }
+    ensures value { IfOk result (λ batch. batch ≡ records_in kind bytes.now) }
+    ensures good { OnOk result (batch_of kind bytes.now ≡ Ok (records_in kind bytes.now)) }
+    ensures count { OnOk result
+        (record_count (records_in kind bytes.now) ≡ length bytes.now / record_size kind) }
+    ensures err { IfErr result (IsBatchRefusal kind turn bytes.now) }
+{
+    match read_batch(alloc, kind, bytes) {
+        Ok(batch) => Ok(batch),
+        Err(BatchFault::Memory) => Err(FeedFault::Memory),
+        Err(BatchFault::Bad { index, fault }) => Err(FeedFault::Bad {
+            at: turn * 1024 + index as u64,
+            fault,
+        }),
+        Err(BatchFault::Length(_)) => unreachable!(),
+        Err(BatchFault::TooMany(_)) => unreachable!(),
+    }
+}
+
+/// Posts the records of a block, if there are any.
+pub(crate) fn post_block<S: Sink>(
+    alloc: Global,
+    sink: &mut S,
+    kind: Kind,
+    bytes: &[u8],
+    turn: u64,
+) -> Result<(), FeedFault>
+    requires room { length bytes.now ≤ block_size kind }
+    requires early { turn < 1024 }
+    requires space { 0 < S.room sink.old }
+    ensures ok { OnOk result (0 < length bytes.now
+        → block_fault kind (turn * block_size kind + length bytes.now) (turn, bytes.now) ≡ None) }
+    ensures whole { OnOk result (length bytes.now % record_size kind ≡ 0) }
+    ensures count { OnOk result (0 < length bytes.now
+        → record_count (records_in kind bytes.now) ≡ length bytes.now / record_size kind) }
+    ensures posts { OnOk result (0 < length bytes.now
+        → Adds S.holds sink.old sink.new (records_in kind bytes.now ∷ [])) }
+    ensures empty { OnOk result (length bytes.now ≡ 0 → Adds S.holds sink.old sink.new []) }
+    ensures err { IfErr result (IsBlockRefusal kind turn bytes.now) }
+    ensures unposted { OnErr result (Adds S.holds sink.old sink.new []) }
+    ensures left { S.room sink.old ≤ S.room sink.new + 1 }
+{
+    if bytes.is_empty() {
+        return Ok(());
+    }
+    let size = record_size(kind);
+    if bytes.len() % size != 0 {
+        return Err(FeedFault::Torn {
+            records: turn * 1024 + (bytes.len() / size) as u64,
+            rest: (bytes.len() % size) as u64,
+        });
+    }
+    let batch = block_batch(alloc, kind, bytes, turn)?;
+    sink.post(&batch)?;
+    Ok(())
+}

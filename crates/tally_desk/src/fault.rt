@@ -1,0 +1,51 @@
+//! Why an input is refused.
+ghost use Rattle.std.specs.Prelude.{◌≡◌};
+ghost use Rattle.tally_desk.specs.declared.fault.FeedFault.TheVariants as fault;
+
+use crate::input::InputFault;
+use std::alloc::AllocError;
+use tally_records::{Memory, RecordFault};
+use thiserror::Error;
+
+/// Why an input was not fed to its end.
+#[derive(Debug, PartialEq, Eq, Drop, Error)]
+pub enum FeedFault {
+    #[error("out of memory")]
+    Memory,
+    /// The input failed.
+    #[error("read failed")]
+    Read,
+    /// The input ends inside a record: the whole records before it, and the bytes of it.
+    #[error("torn after {records} records, {rest} bytes left")]
+    Torn { records: u64, rest: u64 },
+    /// A byte follows record 1,048,576.
+    #[error("more than 1048576 records")]
+    TooLong,
+    /// A record has no meaning; its number in the input counts from 0.
+    #[error("record {at}: {fault}")]
+    Bad { at: u64, fault: RecordFault },
+}
+
+impl From<AllocError> for FeedFault {
+    ghost from_gives = { λ _ f. f ≡ fault.Memory };
+
+    fn from(_error: AllocError) -> FeedFault {
+        FeedFault::Memory
+    }
+}
+
+impl From<Memory> for FeedFault {
+    ghost from_gives = { λ _ f. f ≡ fault.Memory };
+
+    fn from(_error: Memory) -> FeedFault {
+        FeedFault::Memory
+    }
+}
+
+impl From<InputFault> for FeedFault {
+    ghost from_gives = { λ _ f. f ≡ fault.Read };
+
+    fn from(_error: InputFault) -> FeedFault {
+        FeedFault::Read
+    }
+}
