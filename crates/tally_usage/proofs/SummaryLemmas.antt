@@ -86,9 +86,14 @@ stored-few s sound = omega (arith, length-map (stored_of s) (λ (e : ProcEntry).
 pub empty-HasTotals : {K : Type 0} (eq : K → K → Bool) (key_of : ProcRecord → K) → HasTotals eq key_of [] []
 empty-HasTotals eq key_of = record { at = λ k. sym usage_of-none }
 
+-- where nothing waits, all that waits can be counted
+none_waiting : (s : Inside) (ready : Option ℕ) → waiting_of s ≡ [] → MatchOption ready (waiting_of s ≡ []) (λ host. All (CanCount s host) (waiting_of s))
+none_waiting s None none = none
+none_waiting s (Some host) none = subst (All (CanCount s host)) (sym none) (λ k d l. absurd (omega (arith, l)))
+
 -- fields with nothing in them are sound
-pub empty-IsSound : (s : Inside) → s.entries.items ≡ [] → s.stored ≡ 0 → s.ready ≡ None → s.commands.entries ≡ [] → s.users.entries ≡ [] → s.total ≡ no_usage → IsSound s
-empty-IsSound s items stored ready commands users total =
+pub empty-IsSound : (s : Inside) → s.entries.items ≡ [] → s.stored ≡ 0 → s.commands.entries ≡ [] → s.users.entries ≡ [] → s.total ≡ no_usage → IsSound s
+empty-IsSound s items stored commands users total =
     let front : stored_of s ≡ [] = (λ i. take (stored i) (items i)) in
     let back : waiting_of s ≡ [] = (λ i. drop (stored i) (items i)) in
     let none : records_of (stored_of s) ≡ [] = ap records_of front in
@@ -99,7 +104,7 @@ empty-IsSound s items stored ready commands users total =
       total = total ∙ sym usage_of-none ∙ ap usage_of (sym none);
       commands = subst (HasTotals is_same_command command_of s.commands.entries) (sym none) (subst (λ es. HasTotals is_same_command command_of es []) (sym commands) (empty-HasTotals is_same_command command_of));
       users = subst (HasTotals nat_eq (λ r. r.uid) s.users.entries) (sym none) (subst (λ es. HasTotals nat_eq (λ r. r.uid) es []) (sym users) (empty-HasTotals nat_eq (λ r. r.uid)));
-      waiting = subst (λ o. MatchOption o (waiting_of s ≡ []) (λ host. All (CanCount s host) (waiting_of s))) (sym ready) back;
+      waiting = none_waiting s s.ready back;
     }
 
 -- entries of one host are that host's entries of their records
