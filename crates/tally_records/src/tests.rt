@@ -3,6 +3,7 @@ use crate::{
     Batch, BatchFault, Event, Kind, List, LoginRecord, RecordFault, comp, event, read_login,
     read_proc,
 };
+use std::alloc::Global;
 use std::test::Fail;
 
 fn put(bytes: &mut [u8], at: usize, text: &[u8]) {
@@ -105,15 +106,21 @@ fn a_batch_names_its_first_bad_record(rt: HostRuntime) -> Result<(), Fail> {
     Ok(())
 }
 
+/// How many records so many zeros hold, or why they are no batch.
+fn zeros_read(alloc: Global, count: usize) -> Result<Result<usize, BatchFault>, Fail> {
+    let zeros = vec![in alloc; 0u8; count]?;
+    Ok(Batch::logins(alloc, zeros.as_slice()).map(|batch| batch.len()))
+}
+
 #[test]
 fn a_batch_holds_up_to_1024_records(rt: HostRuntime) -> Result<(), Fail> {
-    let zeros = vec![in rt.alloc(); 0u8; 393_600]?;
-    let full = Batch::logins(rt.alloc(), &zeros.as_slice()[..393_216])?;
-    assert_eq!(rt; full.len(), 1024);
-    let more = Batch::logins(rt.alloc(), zeros.as_slice());
-    assert_eq!(rt; more.err(), Some(BatchFault::TooMany(1025)));
-    let torn = Batch::logins(rt.alloc(), &zeros.as_slice()[..385]);
-    assert_eq!(rt; torn.err(), Some(BatchFault::Length(385)));
+    assert_eq!(rt; zeros_read(rt.alloc(), 393_216)?, Ok(1024));
+    assert_eq!(rt;
+        zeros_read(rt.alloc(), 393_600)?,
+        Err(BatchFault::TooMany(1025))
+    );
+    assert_eq!(rt; zeros_read(rt.alloc(), 385)?, Err(BatchFault::Length(385)));
+    assert_eq!(rt; zeros_read(rt.alloc(), 0)?, Ok(0));
     Ok(())
 }
 
