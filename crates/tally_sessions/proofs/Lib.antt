@@ -12,5 +12,9 @@ pub mod StayCounts
 pub mod EveryHost
 pub mod HostCounts
 pub mod StaysNow
-pub mod Rows
+pub mod WorkedRows
 pub mod DaysLemmas
+pub mod SessionLists
+pub mod SumLemmas
+pub mod RowLemmas
+pub mod UserRows

@@ -1,6 +1,7 @@
 //! What the track of a host answers.
-ghost use Rattle.std.specs.Prelude.{◌≡◌, ◌≤◌, ◌<◌, ◌*◌, ◌^◌, All, IfOk, length, reverse, take, vec_len};
+ghost use Rattle.std.specs.Prelude.{◌≡◌, ◌≤◌, ◌<◌, ◌*◌, ◌^◌, ◌++◌, All, IfOk, OnOk, length, reverse, take, vec_len};
 ghost use Rattle.tally_sessions.specs.Hosts.{of_host};
+ghost use Rattle.tally_sessions.specs.Sums.{sessions_among};
 ghost use Rattle.tally_sessions.specs.Totals.{session_seconds, stays_of, user_seconds};
 ghost use Rattle.tally_sessions.specs.Track as spec;
 
@@ -8,6 +9,7 @@ use crate::ending::{Ending, TrackedStay, still};
 use crate::entry::{Entry, Stay};
 use crate::rules::{is_boot, is_login, is_login_of};
 use crate::sessions::ENTRY_LIMIT;
+use crate::sums::Session;
 use crate::track::Track;
 use std::alloc::Global;
 use tally_records::{List, Memory, Name, event};
@@ -75,6 +77,33 @@ impl Track {
             found.push(self.stay(host, entries, i))?;
         }
         Ok(found)
+    }
+
+    /// Adds the sessions of the host.
+    pub(crate) fn push_sessions(
+        &self,
+        host: u32,
+        entries: &[Entry],
+        found: &mut Vec<Session>,
+    ) -> Result<(), Memory>
+        requires few { length entries.now ≤ ENTRY_LIMIT }
+        requires track { spec.IsTrack host entries.now (length entries.now) self.now }
+        ensures { OnOk result (found.new.items ≡ found.old.items ++ sessions_among (stays_of host entries.now)) }
+    {
+        for i in 0..self.stays.len() {
+            let stay = self.stays[i];
+            let start = &entries[stay.entry].item;
+            if is_login(event(start)) {
+                let ending = self.ending(entries, stay);
+                found.push(Session {
+                    user: start.user,
+                    begin: ending.begin,
+                    end_time: ending.end_time,
+                    length: ending.length,
+                })?;
+            }
+        }
+        Ok(())
     }
 
     /// The lengths of the sessions of the host.

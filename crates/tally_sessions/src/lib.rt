@@ -2,16 +2,20 @@
 #![tactic(auto)]
 
 mod answers;
+mod connect;
 mod days;
 mod ending;
 mod entry;
 mod rules;
 mod sessions;
+mod sums;
+mod times;
 mod track;
 
 pub use crate::days::days_add_up;
 pub use crate::entry::{End, Entry, Stay};
 pub use crate::sessions::{ENTRY_LIMIT, HOST_LIMIT, Sessions};
+pub use crate::times::{DayTime, DayUserTime, UserTime};
 
 #[cfg(test)]
 mod scan;

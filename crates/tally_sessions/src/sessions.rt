@@ -25,7 +25,7 @@ pub struct Sessions {
     stored: usize,
     ready: Option<u32>,
     /// The stays of each host, and of hosts that may never be.
-    tracks: Vec<Track>,
+    pub(crate) tracks: Vec<Track>,
 }
 
 impl Model for Sessions {

@@ -1,0 +1,46 @@
+//! Sums of seconds over sessions, one for each key.
+ghost use Rattle.std.specs.Prelude.{◌≡◌, ◌≤◌, ◌<◌, ◌+◌, ◌^◌, ℕ, List as Items, OnOk, IfOk, length, if◌then◌else◌};
+ghost use Rattle.std.specs.Cmp.Lexicographic.{slice_cmp};
+ghost use Rattle.std.specs.Ordering.{is_eq, nat_cmp};
+ghost use Rattle.tally_sessions.specs.Sums.{sum_at, seconds_of_user};
+
+use crate::sessions::ENTRY_LIMIT;
+use std::alloc::Global;
+use std::collections::BTreeMap;
+use tally_records::{Memory, Name};
+
+/// What is counted of a login's stay.
+#[derive(Clone, Copy)]
+pub(crate) struct Session {
+    pub(crate) user: Name,
+    pub(crate) begin: i32,
+    pub(crate) end_time: i32,
+    pub(crate) length: u32,
+}
+
+/// Adds seconds to the sum of a key.
+fn add<K: Ord + Copy + Drop>(
+    sums: &mut BTreeMap<K, u64>,
+    key: K,
+    seconds: u64,
+) -> Result<(), Memory>
+    requires { sum_at K.cmp sums.old.entries key + seconds < 2 ^ 64 }
+    ensures { OnOk result ((k : K) → sum_at K.cmp sums.new.entries k
+        ≡ sum_at K.cmp sums.old.entries k + (if is_eq (K.cmp key k) then seconds else 0)) }
+{
+    let sum = sums.get(&key).copied().unwrap_or(0) + seconds;
+    sums.insert(key, sum)?;
+    Ok(())
+}
+
+/// The sum of the lengths of each user's sessions.
+pub(crate) fn user_sums(alloc: Global, sessions: &[Session]) -> Result<BTreeMap<Name, u64>, Memory>
+    requires { length sessions.now ≤ ENTRY_LIMIT }
+    ensures { IfOk result (λ sums. (user : Items ℕ) → sum_at (slice_cmp nat_cmp) sums.entries user ≡ seconds_of_user user sessions.now) }
+{
+    let mut sums = BTreeMap::new(alloc);
+    for session in sessions {
+        add(&mut sums, session.user, u64::from(session.length))?;
+    }
+    Ok(sums)
+}
