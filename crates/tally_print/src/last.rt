@@ -1,5 +1,5 @@
-ghost use Rattle.std.specs.Prelude.{◌≡◌, ◌+◌, ◌-◌, ◌^◌, ◌<◌, ◌++◌, IsTrue, OnOk, pos, neg_ℤ, codes, if◌then◌else◌};
-ghost use Rattle.jiff.specs.Words.{IsBetween};
+ghost use Rattle.std.specs.Prelude.{◌≡◌, ◌+◌, ◌-◌, ◌^◌, ◌<◌, ◌++◌, IsTrue, OnOk, codes, if◌then◌else◌};
+ghost use Rattle.tally_print.specs.Civil.{IsOffset};
 ghost use Rattle.tally_print.specs.Output.{AppendsPrefix, failed_calls};
 ghost use Rattle.tally_print.specs.Text.{left, moment, span};
 ghost use Rattle.tally_print.specs.LastText.{user_column, line_column, ending, beginning, stay_line, last_text};
@@ -32,7 +32,8 @@ fn push_line(line: &mut Vec<u8>, stay: &Stay) -> Result<(), AllocError>
 }
 
 fn push_cut_off(line: &mut Vec<u8>, how: &[u8], length: u64) -> Result<(), AllocError>
-    ensures { OnOk result (line.new.items ≡ line.old.items ++ (codes " - " ++ left how.now 19 ++ codes " " ++ span length)) }
+    ensures { OnOk result (line.new.items
+        ≡ line.old.items ++ (codes " - " ++ left how.now 19 ++ codes " " ++ span length)) }
 {
     line.extend_from_slice(b" - ")?;
     push_left(line, how, 19)?;
@@ -41,8 +42,9 @@ fn push_cut_off(line: &mut Vec<u8>, how: &[u8], length: u64) -> Result<(), Alloc
 }
 
 fn push_logout(line: &mut Vec<u8>, stay: &Stay, offset: i32) -> Result<(), AllocError>
-    requires { IsBetween (neg_ℤ (pos 1439)) (pos 1439) offset }
-    ensures { OnOk result (line.new.items ≡ line.old.items ++ (codes " - " ++ moment stay.now.end_time offset ++ codes " " ++ span stay.now.length)) }
+    requires { IsOffset offset }
+    ensures { OnOk result (line.new.items ≡ line.old.items
+        ++ (codes " - " ++ moment stay.now.end_time offset ++ codes " " ++ span stay.now.length)) }
 {
     line.extend_from_slice(b" - ")?;
     push_moment(line, stay.end_time, offset)?;
@@ -51,7 +53,8 @@ fn push_logout(line: &mut Vec<u8>, stay: &Stay, offset: i32) -> Result<(), Alloc
 }
 
 fn push_still(line: &mut Vec<u8>, is_boot: bool) -> Result<(), AllocError>
-    ensures { OnOk result (line.new.items ≡ line.old.items ++ (if is_boot then codes "   still running" else codes "   still logged in")) }
+    ensures { OnOk result (line.new.items ≡ line.old.items
+        ++ (if is_boot then codes "   still running" else codes "   still logged in")) }
 {
     if is_boot {
         line.extend_from_slice(b"   still running")
@@ -62,7 +65,7 @@ fn push_still(line: &mut Vec<u8>, is_boot: bool) -> Result<(), AllocError>
 
 #[tactic(auto, unfolding(crate::specs::LastText::ending))]
 fn push_ending(line: &mut Vec<u8>, stay: &Stay, offset: i32) -> Result<(), AllocError>
-    requires { IsBetween (neg_ℤ (pos 1439)) (pos 1439) offset }
+    requires { IsOffset offset }
     ensures { OnOk result (line.new.items ≡ line.old.items ++ ending stay.now.end stay.now offset) }
 {
     match stay.end {
@@ -76,7 +79,7 @@ fn push_ending(line: &mut Vec<u8>, stay: &Stay, offset: i32) -> Result<(), Alloc
 
 #[tactic(auto, unfolding(crate::specs::LastText::stay_line))]
 fn push_stay(line: &mut Vec<u8>, stay: &Stay, offset: i32) -> Result<(), AllocError>
-    requires { IsBetween (neg_ℤ (pos 1439)) (pos 1439) offset }
+    requires { IsOffset offset }
     ensures { OnOk result (line.new.items ≡ line.old.items ++ stay_line offset stay.now) }
 {
     push_user(line, stay)?;
@@ -92,8 +95,9 @@ fn push_stay(line: &mut Vec<u8>, stay: &Stay, offset: i32) -> Result<(), AllocEr
 }
 
 fn push_first(line: &mut Vec<u8>, first: i32, offset: i32) -> Result<(), AllocError>
-    requires { IsBetween (neg_ℤ (pos 1439)) (pos 1439) offset }
-    ensures { OnOk result (line.new.items ≡ line.old.items ++ (codes "\nwtmp begins " ++ moment first offset ++ codes "\n")) }
+    requires { IsOffset offset }
+    ensures { OnOk result (line.new.items
+        ≡ line.old.items ++ (codes "\nwtmp begins " ++ moment first offset ++ codes "\n")) }
 {
     line.extend_from_slice(b"\nwtmp begins ")?;
     push_moment(line, first, offset)?;
@@ -103,7 +107,7 @@ fn push_first(line: &mut Vec<u8>, first: i32, offset: i32) -> Result<(), AllocEr
 
 #[tactic(auto, unfolding(crate::specs::LastText::beginning))]
 fn push_beginning(line: &mut Vec<u8>, first: Option<i32>, offset: i32) -> Result<(), AllocError>
-    requires { IsBetween (neg_ℤ (pos 1439)) (pos 1439) offset }
+    requires { IsOffset offset }
     ensures { OnOk result (line.new.items ≡ line.old.items ++ beginning first offset) }
 {
     match first {
@@ -112,7 +116,9 @@ fn push_beginning(line: &mut Vec<u8>, first: Option<i32>, offset: i32) -> Result
     }
 }
 
-/// Prints the report of stays.
+/// Prints stays as last(1) does: a line for each, then the time of the host's first record, all
+/// at an offset in minutes east of UTC. `Write` is a failure of the output in this call; a first
+/// part of the text was written then.
 pub fn print_last<O: Output>(
     alloc: Global,
     rows: &[Stay],
@@ -121,7 +127,7 @@ pub fn print_last<O: Output>(
     out: &mut O,
 ) -> Result<(), PrintFault>
     requires failures { O.failures out.old < 2 ^ 64 - 1 }
-    requires offset_in_range { IsBetween (neg_ℤ (pos 1439)) (pos 1439) offset }
+    requires offset_in_range { IsOffset offset }
     ensures prefix { IsTrue (O.tells out.old)
         → AppendsPrefix (O.written out.old) (O.written out.new) (last_text rows.now first offset) }
     ensures ok { OnOk result (IsTrue (O.tells out.old)

@@ -20,3 +20,6 @@ pub use output::{Output, OutputFault, PrintFault};
 pub use row::ConnectRow;
 pub use usage::{print_commands, print_users};
 pub use writing::Writing;
+
+#[cfg(test)]
+mod tests;

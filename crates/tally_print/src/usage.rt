@@ -56,7 +56,8 @@ fn push_named_total(line: &mut Vec<u8>, total: &Usage) -> Result<(), AllocError>
 }
 
 fn push_fork_mark(line: &mut Vec<u8>, forked: bool) -> Result<(), AllocError>
-    ensures { OnOk result (line.new.items ≡ line.old.items ++ (if forked then codes "*" else codes "")) }
+    ensures { OnOk result
+        (line.new.items ≡ line.old.items ++ (if forked then codes "*" else codes "")) }
 {
     if forked {
         line.push(b'*')?;
@@ -87,14 +88,15 @@ fn push_user(line: &mut Vec<u8>, row: &UidRow) -> Result<(), AllocError>
     Ok(())
 }
 
-/// Prints the report of commands.
+/// Prints usage by command as sa(8) does: the total, then a line for each row. `Write` is a
+/// failure of the output in this call; a first part of the text was written then.
 pub fn print_commands<O: Output>(
     alloc: Global,
     rows: &[CommandRow],
     total: &Usage,
     out: &mut O,
 ) -> Result<(), PrintFault>
-    requires { O.failures out.old < 2 ^ 64 - 1 }
+    requires failures { O.failures out.old < 2 ^ 64 - 1 }
     ensures prefix { IsTrue (O.tells out.old)
         → AppendsPrefix (O.written out.old) (O.written out.new) (commands_text rows.now total.now) }
     ensures ok { OnOk result (IsTrue (O.tells out.old)
@@ -111,14 +113,15 @@ pub fn print_commands<O: Output>(
     put_all(page.as_slice(), out)
 }
 
-/// Prints the report of users' commands.
+/// Prints usage by user as sa(8) does with `-m`: the total, then a line for each row. `Write` is
+/// a failure of the output in this call; a first part of the text was written then.
 pub fn print_users<O: Output>(
     alloc: Global,
     rows: &[UidRow],
     total: &Usage,
     out: &mut O,
 ) -> Result<(), PrintFault>
-    requires { O.failures out.old < 2 ^ 64 - 1 }
+    requires failures { O.failures out.old < 2 ^ 64 - 1 }
     ensures prefix { IsTrue (O.tells out.old)
         → AppendsPrefix (O.written out.old) (O.written out.new) (users_text rows.now total.now) }
     ensures ok { OnOk result (IsTrue (O.tells out.old)

@@ -1,5 +1,5 @@
 -- What holds of the rows of every list of process records.
-use Rattle.std.specs.Prelude.{◌≡◌, Bool, false, List, IsPermutation, reverse}
+use Rattle.std.specs.Prelude.{◌≡◌, Bool, false, List, IsPermutation}
 use Rattle.std.specs.List.Sorted.{IsStrictlySortedBy}
 use Rattle.tally_records.specs.declared.process.ProcRecord.{ProcRecord}
 use Rattle.tally_usage.specs.declared.order.Order.{Order}

@@ -1,0 +1,58 @@
+//! The worked reports with their printed lines, and outputs that fail.
+ghost use Rattle.std.specs.Prelude.{◌≤◌, length};
+
+use crate::{Kept, PrintFault};
+use std::process::Abort;
+use tally_records::Name;
+use tally_sessions::{End, Stay};
+
+mod connect;
+mod last;
+mod outputs;
+mod usage;
+
+/// Whether all of the text was printed. Where a growth was refused, a first part of it was.
+fn is_printed(rt: &impl Abort, printed: Result<(), PrintFault>, out: &Kept, text: &[u8]) -> bool {
+    if printed.is_err() {
+        assert!(rt; text.starts_with(out.bytes()));
+        return false;
+    }
+    assert_eq!(rt; out.bytes(), text);
+    true
+}
+
+/// A name of utmp(5): its bytes, and zeros after them.
+fn name(text: &[u8]) -> Name
+    requires { length text.now ≤ 32 }
+{
+    let mut name = [0; 32];
+    name[..text.len()].copy_from_slice(text);
+    name
+}
+
+/// The stay of a login, whose clock nothing moved.
+fn login(user: &[u8], start: i32, end: End, end_time: i32, seconds: u64) -> Stay
+    requires { length user.now ≤ 32 }
+{
+    Stay {
+        host: 0,
+        is_boot: false,
+        user: name(user),
+        line: name(b"tty1"),
+        remote: [0; 256],
+        start,
+        begin: start,
+        end,
+        end_time,
+        length: seconds,
+    }
+}
+
+/// The running time after a boot.
+fn boot(start: i32, end: End, end_time: i32, seconds: u64) -> Stay {
+    Stay {
+        is_boot: true,
+        line: name(b"~"),
+        ..login(b"reboot", start, end, end_time, seconds)
+    }
+}

@@ -1,0 +1,99 @@
+//! The lines of last(1).
+use super::{boot, is_printed, login};
+use crate::{Kept, print_last};
+use std::alloc::Global;
+use std::process::Abort;
+use tally_sessions::{End, Stay};
+
+/// Asserts that the stays of host 0 print this text.
+/// Where a growth is refused, the second try prints it.
+fn expect_last(rt: &impl Abort, alloc: Global, rows: &[Stay], first: Option<i32>, text: &[u8]) {
+    for _ in 0..2 {
+        let mut out = Kept::new(alloc);
+        let printed = print_last(alloc, rows, first, 0, &mut out);
+        if is_printed(rt, printed, &out, text) {
+            return;
+        }
+    }
+    assert!(rt; false, "refused twice");
+}
+
+#[test]
+fn a_host_without_records_has_no_records(rt: HostRuntime) {
+    expect_last(&rt, rt.alloc(), &[], None, b"wtmp has no records\n");
+}
+
+#[test]
+fn a_host_without_logins_has_records(rt: HostRuntime) {
+    let text = b"\nwtmp begins 1970-01-01 00:00:00\n";
+    expect_last(&rt, rt.alloc(), &[], Some(0), text);
+}
+
+#[test]
+fn a_logout_has_its_time_and_the_length(rt: HostRuntime) {
+    let ann = login(b"ann", 1_000_000, End::Logout, 1_003_600, 3600);
+    let text = b"\
+ann      tty1                          1970-01-12 13:46:40 - 1970-01-12 14:46:40 (01:00)
+
+wtmp begins 1970-01-12 13:46:40
+";
+    expect_last(&rt, rt.alloc(), &[ann], Some(1_000_000), text);
+}
+
+#[test]
+fn boots_and_shutdowns_have_words(rt: HostRuntime) {
+    let rows = [
+        boot(1100, End::Still, 1100, 0),
+        login(b"ann", 200, End::Down, 1000, 800),
+        boot(100, End::Crash, 1000, 900),
+    ];
+    let text = b"\
+reboot   system boot                   1970-01-01 00:18:20   still running
+ann      tty1                          1970-01-01 00:03:20 - down                (00:13)
+reboot   system boot                   1970-01-01 00:01:40 - crash               (00:15)
+
+wtmp begins 1970-01-01 00:01:40
+";
+    expect_last(&rt, rt.alloc(), &rows, Some(100), text);
+}
+
+#[test]
+fn a_span_over_a_day_tells_the_days(rt: HostRuntime) {
+    let rows = [
+        login(b"ann", 0, End::Next, 90_061, 90_061),
+        login(b"ann", 2000, End::Logout, 1000, 0),
+    ];
+    let text = b"\
+ann      tty1                          1970-01-01 00:00:00 - 1970-01-02 01:01:01 (1+01:01)
+ann      tty1                          1970-01-01 00:33:20 - 1970-01-01 00:16:40 (00:00)
+
+wtmp begins 1970-01-01 00:00:00
+";
+    expect_last(&rt, rt.alloc(), &rows, Some(0), text);
+}
+
+#[test]
+fn long_texts_stand_whole_and_hostile_bytes_do_not(rt: HostRuntime) {
+    let mut stay = login(b"abcdefghijklmnopqrstuvwxyz012345", 60, End::Still, 60, 0);
+    stay.remote[0] = b'h';
+    stay.remote[1] = 0x1B;
+    stay.remote[2] = b'1';
+    let text = b"\
+abcdefghijklmnopqrstuvwxyz012345 tty1         h?1              1970-01-01 00:01:00   still logged in
+
+wtmp begins 1970-01-01 00:01:00
+";
+    expect_last(&rt, rt.alloc(), &[stay], Some(60), text);
+}
+
+#[test]
+fn an_offset_moves_dates_to_the_ends_of_time(rt: HostRuntime) {
+    for (first, offset, text) in [
+        (i32::MIN, -1439, b"\nwtmp begins 1901-12-12 20:46:52\n"),
+        (i32::MAX, 1439, b"\nwtmp begins 2038-01-20 03:13:07\n"),
+    ] {
+        let mut out = Kept::new(rt.alloc());
+        let printed = print_last(rt.alloc(), &[], Some(first), offset, &mut out);
+        assert!(rt; printed.is_err() || out.bytes() == text.as_slice());
+    }
+}

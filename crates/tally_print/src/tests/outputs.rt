@@ -1,0 +1,117 @@
+//! Outputs that take little at a time, fail, or tell nothing.
+ghost use Rattle.std.specs.Prelude.{◌≡◌, true};
+
+use super::{boot, login};
+use crate::{Output, OutputFault, PrintFault, Writing, print_last};
+use std::alloc::Global;
+use std::process::Abort;
+use std::test::Fail;
+use tally_sessions::{End, Stay};
+
+/// An output over memory that takes at most so many bytes at a time, and so many in all.
+#[derive(Drop)]
+struct Narrow {
+    bytes: Vec<u8>,
+    step: usize,
+    room: usize,
+    failures: u64,
+}
+
+impl Output for Narrow {
+    ghost written = { λ narrow. narrow.bytes.items };
+
+    ghost tells = { λ _. true };
+
+    ghost failures = { λ narrow. narrow.failures };
+
+    fn put(&mut self, bytes: &[u8]) -> Result<usize, OutputFault> {
+        let count = self.room.min(self.step).min(bytes.len());
+        if count < 1 && !bytes.is_empty() {
+            self.failures += 1;
+            return Err(OutputFault);
+        }
+        match self.bytes.extend_from_slice(&bytes[..count]) {
+            Ok(()) => {
+                self.room -= count;
+                Ok(count)
+            }
+            Err(_) => {
+                self.failures += 1;
+                Err(OutputFault)
+            }
+        }
+    }
+
+    fn finish(&mut self) -> Result<(), OutputFault> {
+        Ok(())
+    }
+}
+
+const BOOTS: &[u8] = b"\
+reboot   system boot                   1970-01-01 00:18:20   still running
+ann      tty1                          1970-01-01 00:03:20 - down                (00:13)
+reboot   system boot                   1970-01-01 00:01:40 - down                (00:15)
+
+wtmp begins 1970-01-01 00:01:40
+";
+
+fn boots() -> [Stay; 3] {
+    [
+        boot(1100, End::Still, 1100, 0),
+        login(b"ann", 200, End::Down, 1000, 800),
+        boot(100, End::Down, 1000, 900),
+    ]
+}
+
+/// What printing answers over an output that takes `step` bytes at a time and `room` in all.
+fn print_narrow(
+    rt: &impl Abort,
+    alloc: Global,
+    rows: &[Stay],
+    step: usize,
+    room: usize,
+) -> Result<(), PrintFault> {
+    let mut out = Narrow {
+        bytes: Vec::new(alloc),
+        step,
+        room,
+        failures: 0,
+    };
+    let printed = print_last(alloc, rows, Some(100), 0, &mut out);
+    let count = room.min(BOOTS.len());
+    assert!(rt; out.bytes.as_slice() == BOOTS.split_at(count).0);
+    assert!(rt; out.failures == if printed.is_ok() { 0 } else { 1 });
+    printed
+}
+
+#[test]
+fn a_failed_write_leaves_the_bytes_before_it(rt: HostRuntime) {
+    let rows = boots();
+    for room in 0..BOOTS.len() {
+        let printed = print_narrow(&rt, rt.alloc(), &rows, 1, room);
+        assert_eq!(rt; printed, Err(PrintFault::Write), "at {room}");
+    }
+}
+
+#[test]
+fn an_output_of_one_byte_at_a_time_takes_all(rt: HostRuntime) {
+    let printed = print_narrow(&rt, rt.alloc(), &boots(), 1, BOOTS.len());
+    assert_eq!(rt; printed, Ok(()));
+}
+
+#[test]
+fn a_write_fails_in_mid_line(rt: HostRuntime) {
+    let printed = print_narrow(&rt, rt.alloc(), &boots(), 1000, 100);
+    assert_eq!(rt; printed, Err(PrintFault::Write));
+}
+
+#[test]
+fn any_writer_takes_the_text(rt: HostRuntime) -> Result<(), Fail> {
+    let mut held = Vec::new(rt.alloc());
+    let mut out = Writing::new(&mut held);
+    print_last(rt.alloc(), &boots(), Some(100), 0, &mut out)?;
+    out.finish()?;
+    drop(out);
+    assert!(rt; held.as_slice() == BOOTS);
+    Ok(())
+}
