@@ -1,7 +1,7 @@
 //! Where batches go.
 ghost use Rattle.std.specs.Prelude.{◌<◌, ◌≤◌, ◌+◌, ◌∷◌, [], List, ℕ, OnErr, OnOk};
 ghost use Rattle.tally_desk.specs.Feeds.{Adds};
-ghost use Rattle.tally_records.specs.Records.{Records};
+ghost use Rattle.tally_records.specs.Records.{Records, record_count};
 
 use tally_records::{Batch, Memory};
 
@@ -15,8 +15,9 @@ pub trait Sink {
 
     /// Adds a batch after all others.
     fn post(&mut self, batch: &Batch) -> Result<(), Memory>
-        requires { 0 < room self.old }
+        requires size { record_count batch.now ≤ 1024 }
+        requires room { 0 < room self.old }
         ensures posted { OnOk result (Adds holds self.old self.new (batch.now ∷ [])) }
         ensures refused { OnErr result (Adds holds self.old self.new []) }
-        ensures room { room self.old ≤ room self.new + 1 };
+        ensures left { room self.old ≤ room self.new + 1 };
 }

@@ -1,0 +1,4 @@
+pub mod CommandLemmas
+pub mod FileLemmas
+pub mod LineLemmas
+pub mod RunLemmas

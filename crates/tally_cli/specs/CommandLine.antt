@@ -1,0 +1,55 @@
+-- The command line of the program, as `clap` reads it.
+use Rattle.std.specs.Prelude.{◌≡◌, ◌∷◌, ℕ, [], Some, true, false, codes, pos}
+use Rattle.clap.specs.Simple.{on_top}
+use Rattle.clap.specs.Words.{App, Rule, Text, app_of, new_app, new_rule, with_rule, with_subcommand}
+use Rattle.clap.specs.declared.builder.command.Command.{Command}
+use Rattle.clap.specs.declared.builder.command.Command.TheViews.{out-Command}
+use Rattle.clap.specs.declared.builder.value_parser.ValueParser.{ValueParser}
+use Rattle.clap.specs.declared.builder.value_parser.ValueParser.TheVariants.{Signed}
+
+-- an option with a number, which has a default
+abbrev pub number_rule : Text → ValueParser → Text → Rule
+number_rule name parser default = record (new_rule name) {
+  long = Some name;
+  value_names = 1;
+  parser = Some parser;
+  defaults = default ∷ [];
+}
+
+-- a number from `least` to `most`
+abbrev pub between : ℕ → ℕ → ValueParser
+between least most = Signed (pos least) (pos most)
+
+-- minutes east of UTC
+abbrev pub east_rule : Rule
+east_rule = number_rule (codes "east") (between 0 1439) (codes "0")
+
+-- minutes west of UTC
+abbrev pub west_rule : Rule
+west_rule = number_rule (codes "west") (between 0 1439) (codes "0")
+
+-- the file
+abbrev pub file_rule : Rule
+file_rule = record (new_rule (codes "file")) { value_names = 1; required = true }
+
+-- the options and the file that each subcommand has, after its own
+abbrev pub with_common : App → App
+with_common app = with_rule (with_rule (with_rule app east_rule) west_rule) file_rule
+
+-- `ac`
+abbrev pub connect_app : App
+connect_app = with_common (new_app (codes "ac"))
+
+-- words without a program's name, of which one names a subcommand
+abbrev pub top_app : App
+top_app = on_top (λ s. record s { no_binary_name = true; subcommand_required = true })
+    (new_app (codes "tally"))
+
+-- the whole command line
+unfoldable pub tally_app : App
+tally_app = with_subcommand top_app connect_app.top
+
+-- `clap` reads the command as this one, and no argument of it is global
+pub record IsCommand (app : App) (command : Command) : Type 0 where
+  pub shape : app_of command ≡ app
+  pub local : (out-Command command).has_globals ≡ false

@@ -1,0 +1,94 @@
+//! The command line as `clap` reads it.
+ghost use Rattle.std.specs.Prelude.{◌≡◌, IfOk, false};
+ghost use Rattle.clap.specs.Words.{App, new_app, rule_of};
+ghost use Rattle.tally_cli.specs.CommandLine.{IsCommand, connect_app, east_rule, file_rule};
+ghost use Rattle.tally_cli.specs.CommandLine.{number_rule, tally_app, top_app, west_rule};
+ghost use Rattle.tally_cli.specs.CommandLine.{with_common};
+
+use clap::builder::ValueParser;
+use clap::{Arg, Command, value_parser};
+use std::alloc::{AllocError, Global};
+
+/// The program's command, over words without the program's own name.
+pub(crate) fn tally<'a>(alloc: Global) -> Result<Command<'a>, AllocError>
+    ensures { IfOk result (IsCommand tally_app) }
+{
+    top(alloc)?.subcommand(connect(alloc)?)
+}
+
+fn top<'a>(alloc: Global) -> Result<Command<'a>, AllocError>
+    ensures { IfOk result (IsCommand top_app) }
+{
+    named(
+        alloc,
+        "tally",
+        "Reports on login and process accounting files",
+    )
+    .no_binary_name(true)
+    .subcommand_required(true)
+    .bin_name("tally")
+}
+
+fn connect<'a>(alloc: Global) -> Result<Command<'a>, AllocError>
+    ensures { IfOk result (IsCommand connect_app) }
+{
+    let command = named(alloc, "ac", "Sum connect time, as ac(1) does");
+    with_options(alloc, command)
+}
+
+/// The options and the file that each subcommand has.
+fn with_options<'a>(alloc: Global, command: Command<'a>) -> Result<Command<'a>, AllocError>
+    ensures { IfOk result (λ r. (app : App) → IsCommand app command.entry
+        → IsCommand (with_common app) r) }
+{
+    command.arg(east(alloc))?.arg(west(alloc))?.arg(file(alloc))
+}
+
+/// A command with no argument.
+fn named<'a>(alloc: Global, name: &'a str, about: &'a str) -> Command<'a>
+    ensures { IsCommand (new_app name.entry.now) result }
+{
+    Command::new(alloc, name).about(about)
+}
+
+fn east<'a>(alloc: Global) -> Arg<'a>
+    ensures rule { rule_of result ≡ east_rule }
+    ensures local { result.global ≡ false }
+{
+    let parser = value_parser!(u32).range(0..=1439);
+    number(alloc, "east", parser, "0")
+        .value_name("M")
+        .help("Show times M minutes east of UTC, 0 to 1439")
+}
+
+fn west<'a>(alloc: Global) -> Arg<'a>
+    ensures rule { rule_of result ≡ west_rule }
+    ensures local { result.global ≡ false }
+{
+    let parser = value_parser!(u32).range(0..=1439);
+    number(alloc, "west", parser, "0")
+        .value_name("M")
+        .help("Show times M minutes west of UTC, 0 to 1439")
+}
+
+fn file<'a>(alloc: Global) -> Arg<'a>
+    ensures rule { rule_of result ≡ file_rule }
+    ensures local { result.global ≡ false }
+{
+    Arg::new(alloc, "file")
+        .value_name("FILE")
+        .help("Read the records of FILE")
+        .required(true)
+}
+
+/// A long option with a number.
+fn number<'a>(alloc: Global, name: &'a str, parser: ValueParser<'a>, default: &'a str) -> Arg<'a>
+    ensures rule { rule_of result ≡ number_rule name.entry.now parser.entry default.entry.now }
+    ensures local { result.global ≡ false }
+{
+    Arg::new(alloc, name)
+        .long(name)
+        .value_name("N")
+        .value_parser(parser)
+        .default_value(default)
+}

@@ -1,0 +1,41 @@
+//! Why a run ends early.
+ghost use Rattle.std.specs.Prelude.{◌≡◌};
+ghost use Rattle.tally_cli.specs.Runs.{fault_from};
+ghost use Rattle.tally_cli.specs.declared.fault.RunFault.TheVariants as fault;
+
+use tally_desk::FeedFault;
+use tally_print::PrintFault;
+use tally_records::Memory;
+use thiserror::Error;
+
+/// Why a run gave no whole report.
+#[derive(Debug, PartialEq, Eq, Drop, Error)]
+pub enum RunFault {
+    #[error("out of memory")]
+    Memory,
+    /// The file of this number, counted from 0, was not read to its end.
+    #[error("file {host}: {fault}")]
+    File { host: u32, fault: FeedFault },
+    /// The output failed.
+    #[error("write failed")]
+    Write,
+}
+
+impl From<Memory> for RunFault {
+    ghost from_gives = { λ _ f. f ≡ fault.Memory };
+
+    fn from(_error: Memory) -> RunFault {
+        RunFault::Memory
+    }
+}
+
+impl From<PrintFault> for RunFault {
+    ghost from_gives = { λ e f. f ≡ fault_from e };
+
+    fn from(error: PrintFault) -> RunFault {
+        match error {
+            PrintFault::Memory => RunFault::Memory,
+            PrintFault::Write => RunFault::Write,
+        }
+    }
+}
