@@ -1,5 +1,5 @@
 //! The rows by plain filters over the list of entries, compared with those of a summary.
-use super::{BELL, MAKE, OTHER, post, proc_record};
+use super::{BELL, MAKE, OTHER, commands_of, post, proc_record, users_of};
 use crate::{CommandRow, Order, ProcEntry, Summary, UidRow, Usage};
 use std::alloc::{AllocError, Global};
 use std::cmp::Ordering;
@@ -132,10 +132,10 @@ fn expect_filtered(
 ) -> Result<(), Fail> {
     for all in [false, true] {
         let mut rows = command_rows(alloc, summary.entries(), order, all)?;
-        let found = summary.by_command(alloc, order, all, false)?;
+        let found = commands_of(alloc, summary, order, [all, false])?;
         assert!(rt; found.as_slice() == rows.as_slice());
         rows.reverse();
-        let found = summary.by_command(alloc, order, all, true)?;
+        let found = commands_of(alloc, summary, order, [all, true])?;
         assert!(rt; found.as_slice() == rows.as_slice());
     }
     Ok(())
@@ -148,10 +148,10 @@ fn expect_filtered_users(
     order: Order,
 ) -> Result<(), Fail> {
     let mut rows = user_rows(alloc, summary.entries(), order)?;
-    let found = summary.by_user(alloc, order, false)?;
+    let found = users_of(alloc, summary, order, false)?;
     assert!(rt; found.as_slice() == rows.as_slice());
     rows.reverse();
-    let found = summary.by_user(alloc, order, true)?;
+    let found = users_of(alloc, summary, order, true)?;
     assert!(rt; found.as_slice() == rows.as_slice());
     Ok(())
 }
