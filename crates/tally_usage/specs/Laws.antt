@@ -1,11 +1,11 @@
 -- What holds of the rows of every list of process records.
-use Rattle.std.specs.Prelude.{◌≡◌, Bool, false, List, IsPermutation}
+use Rattle.std.specs.Prelude.{◌≡◌, Bool, false, List, Contains, IsPermutation}
 use Rattle.std.specs.List.Sorted.{IsStrictlySortedBy}
 use Rattle.tally_records.specs.declared.process.ProcRecord.{ProcRecord}
 use Rattle.tally_usage.specs.declared.order.Order.{Order}
-use Rattle.tally_usage.specs.Command.{command_row_cmp, command_rows}
+use Rattle.tally_usage.specs.Command.{command_row_cmp, command_rows, row_of_record}
 use Rattle.tally_usage.specs.Usage.{usage_of}
-use Rattle.tally_usage.specs.User.{user_row_cmp, user_rows}
+use Rattle.tally_usage.specs.User.{user_row, user_row_cmp, user_rows}
 
 -- rows that are not reversed stand in strictly ascending order
 abbrev pub RowsAscend : Type 0
@@ -13,6 +13,13 @@ RowsAscend =
     (order : Order) (all : Bool) (rs : List ProcRecord)
     → IsStrictlySortedBy (command_row_cmp order) (command_rows order all false rs)
     × IsStrictlySortedBy (user_row_cmp order) (user_rows order false rs)
+
+-- each record is counted by the row of its group and by that of its user
+abbrev pub RecordsHaveRows : Type 0
+RecordsHaveRows =
+    (order : Order) (all : Bool) (rs : List ProcRecord) (r : ProcRecord) → Contains rs r
+    → Contains (command_rows order all false rs) (row_of_record all rs r)
+    × Contains (user_rows order false rs) (user_row rs r.uid)
 
 -- the order of the records changes no answer
 abbrev pub RecordOrderIsFree : Type 0

@@ -1,9 +1,14 @@
 //! Laws of summaries, which hold of every list of process records.
-ghost use Rattle.tally_usage.specs.Laws.{RecordOrderIsFree, RowsAscend};
+ghost use Rattle.tally_usage.specs.Laws.{RecordOrderIsFree, RecordsHaveRows, RowsAscend};
 
 /// No two rows tie, and each row comes before those that its order puts after it.
 pub fn rows_ascend()
     ensures { RowsAscend }
+{}
+
+/// Each record is counted by the row of its command, or by that of the others, and by its user's row.
+pub fn records_have_rows()
+    ensures { RecordsHaveRows }
 {}
 
 /// Equal records give equal rows and an equal total, in whatever order they were stored.

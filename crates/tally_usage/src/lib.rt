@@ -13,7 +13,7 @@ mod user;
 
 pub use command::CommandRow;
 pub use entry::{ENTRY_LIMIT, ProcEntry};
-pub use laws::{record_order_is_free, rows_ascend};
+pub use laws::{record_order_is_free, records_have_rows, rows_ascend};
 pub use order::Order;
 pub use summary::Summary;
 pub use usage::Usage;
