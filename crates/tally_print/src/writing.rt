@@ -1,14 +1,35 @@
-ghost use Rattle.std.specs.Prelude.{◌≡◌, ◌+◌, ◌-◌, ◌^◌, ◌<◌, [], false};
+ghost use Rattle.std.specs.Prelude.{◌≡◌, ◌≤◌, ◌+◌, ◌-◌, ◌^◌, ◌<◌, [], IfOk, false, length};
 
 use crate::{Output, OutputFault};
-use std::io::Write;
+use std::io::{ErrorKind, Write};
 use std::marker::Model;
 
+/// How often a write is begun that an interrupt breaks off, before the output counts as failed.
+const MOST_TRIES: u32 = 1000;
+
 /// An output over any writer, which does not tell what was written.
+///
+/// A write that is interrupted is begun again.
 #[derive(Drop)]
 pub struct Writing<W: Write> {
     writer: W,
     failures: u64,
+}
+
+/// Writes once, and again where an interrupt broke the write off; some byte, unless there is none.
+fn write_through<W: Write>(writer: &mut W, bytes: &[u8]) -> Result<usize, OutputFault>
+    ensures within { IfOk result (λ n. n ≤ length bytes.now) }
+    ensures some { IfOk result (λ n. 0 < length bytes.now → 0 < n) }
+{
+    for _ in 0..MOST_TRIES {
+        match writer.write(bytes) {
+            Ok(0) if !bytes.is_empty() => break,
+            Ok(count) => return Ok(count),
+            Err(error) if error.kind() == ErrorKind::Interrupted => {}
+            Err(_) => break,
+        }
+    }
+    Err(OutputFault)
 }
 
 impl<W: Write> Writing<W> {
@@ -39,8 +60,7 @@ impl<W: Write> Output for Writing<W> {
     ghost failures = { λ writing. writing.failures };
 
     fn put(&mut self, bytes: &[u8]) -> Result<usize, OutputFault> {
-        match self.writer.write(bytes) {
-            Ok(0) if !bytes.is_empty() => Err(self.fail()),
+        match write_through(&mut self.writer, bytes) {
             Ok(count) => Ok(count),
             Err(_) => Err(self.fail()),
         }
