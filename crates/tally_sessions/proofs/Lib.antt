@@ -16,5 +16,8 @@ pub mod WorkedRows
 pub mod DaysLemmas
 pub mod SessionLists
 pub mod SumLemmas
+pub mod DayWalk
 pub mod RowLemmas
+pub mod DayRows
+pub mod DayUsers
 pub mod UserRows

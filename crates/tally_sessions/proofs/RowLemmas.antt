@@ -1,7 +1,8 @@
 -- The rows that a table of sums gives are those of the definition.
-use Rattle.std.proofs.Common.{◌≡◌, ℕ, ◌<◌, Bool, true, false, cond, List, [], ◌∷◌, map, filter, Some, unwrap_or, refl, sym, ap, subst, ◌∙◌, inl, inr, ◌⊎◌, arith}
+use Rattle.std.proofs.Common.{◌≡◌, ℕ, ◌<◌, Bool, true, false, cond, List, [], ◌∷◌, map, filter, Some, All, get_or, unwrap_or, refl, sym, ap, subst, ◌∙◌, inl, inr, ◌⊎◌, arith}
 use Rattle.std.proofs.lemmas.Bool.{false≢true, lt-ltb, ltb-true}
 use Rattle.std.proofs.lemmas.Cmp.{on_total, tied_itself}
+use Rattle.std.proofs.lemmas.List.Elements.{All-map, Contains-get_or}
 use Rattle.std.specs.Cmp.{IsTotalOrder, Equal-is}
 use Rattle.std.specs.List.{AllByRecursion}
 use Rattle.std.specs.List.Sorted.{IsStrictlySortedBy}
@@ -11,7 +12,7 @@ use Rattle.std.specs.Prelude.{nat_lt}
 use Rattle.std.specs.declared.cmp.Ordering.{Ordering}
 use Rattle.std.specs.declared.cmp.Ordering.TheVariants.{Less, Equal, Greater}
 use Rattle.tally_records.specs.Sorted.{in_order}
-use Rattle.tally_records.proofs.Members.{Member, Member-map, Member-from_map, Member-filter, Member-from_filter, All-Member}
+use Rattle.tally_records.proofs.Members.{Member, Member-from_Contains, Member-map, Member-from_map, Member-filter, Member-from_filter, All-Member}
 use Rattle.tally_records.proofs.SortedLemmas.{is_in_order}
 use Rattle.tally_sessions.specs.Rows.{above_zero}
 use Rattle.tally_sessions.specs.Sums.{sum_at}
@@ -111,3 +112,13 @@ module _ {K Row : Type 0} {cmp : K → K → Ordering} (o : IsTotalOrder cmp) (e
     -- the sums above 0, in the table's order, are the rows of the definition
     pub rows_are : rows ≡ in_order row_cmp (filter has_time all_rows)
     rows_are = is_in_order (on_total key o) (filter has_time all_rows) rows ties (sorted_rows es up) to back
+
+  -- what holds of each key with a sum above 0 holds of each row
+  pub each_row : (P : Row → Type 0) (es : List (K × ℕ)) → IsStrictlySortedBy cmp (keys_of es) → ((k : K) → 0 < sum_at cmp es k → P (row k (sum_at cmp es k))) → All P (map row_of (filter above_zero es))
+  each_row P es up holds = All-map P row_of (filter above_zero es) (λ k d lt. each (get_or (filter above_zero es) k d) (Member-from_Contains (filter above_zero es) _ (Contains-get_or (filter above_zero es) k d lt)))
+    where
+      each : (e : K × ℕ) → Member e (filter above_zero es) → P (row_of e)
+      each e m =
+          let kept = Member-from_filter above_zero es e m in
+          let sum = sum_of_entry es e up kept.0 in
+          subst (λ n. P (row e.0 n)) sum (holds e.0 (subst (λ n. 0 < n) (sym sum) (ltb-true 0 e.1 kept.1)))

@@ -1,8 +1,8 @@
 -- Sums over sessions, with one session more.
-use Rattle.std.proofs.Common.{◌≡◌, ℕ, ◌+◌, ◌<◌, ◌≤◌, ◌*◌, Bool, true, false, cond, List, [], ◌∷◌, ◌++◌, length, take, get_or, map, filter, pos, refl, sym, ap, ◌∙◌, inl, inr, arith}
+use Rattle.std.proofs.Common.{◌≡◌, ℕ, ◌+◌, ◌<◌, ◌≤◌, ◌*◌, Bool, true, false, cond, List, [], ◌∷◌, ◌++◌, length, take, get_or, map, filter, ℤ, pos, refl, sym, ap, ◌∙◌, inl, inr, arith}
 use Rattle.std.proofs.lemmas.List.{take_more}
 use Rattle.std.proofs.lemmas.List.Elements.{filter-append}
-use Rattle.std.proofs.lemmas.List.Sums.{sum_by-append, sum_by-cons, sum-map}
+use Rattle.std.proofs.lemmas.List.Sums.{sum_by-append, sum_by-cons, sum_by_push, sum-map}
 use Rattle.std.proofs.lemmas.Map.Text.{is_eq-slice_cmp}
 use Rattle.std.proofs.lemmas.Slice.Eq.{bytes_eq-Decides}
 use Rattle.tally_records.proofs.Members.{Member}
@@ -13,7 +13,8 @@ use Rattle.std.specs.Prelude.{◌&&◌, bytes_eq, not, sum_by}
 use Rattle.tally_sessions.specs.declared.entry.Entry.{Entry}
 use Rattle.tally_sessions.specs.declared.entry.Stay.{Stay}
 use Rattle.tally_sessions.specs.declared.sums.Session.{Session}
-use Rattle.tally_sessions.specs.Sums.{seconds_of_user, session_of, sessions_among, sessions_of}
+use Rattle.tally_sessions.specs.Days.{seconds_on}
+use Rattle.tally_sessions.specs.Sums.{seconds_of_day, seconds_of_user, session_of, sessions_among, sessions_of}
 use Rattle.tally_sessions.specs.Totals.{connect_of, every_host, stays_of, user_seconds}
 
 -- what a read of a session gives past the end
@@ -90,3 +91,10 @@ user_of_session user (s ∷ ss) lt = by (bytes_eq s.user user) refl lt (user_of_
         → (0 < seconds_of_user user ss → Member user (map (λ (x : Session). x.user) ss)) → Member user (map (λ (x : Session). x.user) (s ∷ ss))
     by true e l rest = inl (sym ((bytes_eq-Decides s.user user).0 e))
     by false e l rest = inr (rest l)
+
+-- the sum of a day, with the session at i
+pub seconds_of_day-step : (old new : ℕ) (offset day : ℤ) (ss : List Session) (i : ℕ) → i < length ss → new ≡ old + seconds_on offset day (get_or ss i no_session).begin (get_or ss i no_session).end_time
+    → old ≡ seconds_of_day offset day (take i ss) → new ≡ seconds_of_day offset day (take (i + 1) ss)
+seconds_of_day-step old new offset day ss i lt is so_far =
+    let f : Session → ℕ = λ s. seconds_on offset day s.begin s.end_time in
+    is ∙ ap (λ n. n + f (get_or ss i no_session)) so_far ∙ sym (sum_by_push f (take i ss) (get_or ss i no_session)) ∙ ap (sum_by f) (sym (take_more ss i no_session lt))

@@ -1,12 +1,18 @@
--- Rows of connect time by user: each user whose time is above 0, once, in order of name bytes.
-use Rattle.std.specs.Prelude.{ℕ, Bool, List, map, filter, nat_lt}
+-- Rows of connect time: each user, day, or user on a day whose time is above 0, once, by day and then by name bytes.
+use Rattle.std.specs.Prelude.{ℕ, ℤ, Bool, List, map, filter, nat_lt}
 use Rattle.std.specs.Cmp.Lexicographic.{slice_cmp}
-use Rattle.std.specs.Ordering.{nat_cmp}
+use Rattle.std.specs.List.{flat_map}
+use Rattle.std.specs.Ordering.{int_cmp, nat_cmp, ordering_then}
 use Rattle.std.specs.declared.cmp.Ordering.{Ordering}
 use Rattle.tally_records.specs.Sorted.{in_order}
+use Rattle.tally_sessions.specs.declared.day_user_sums.DayUser.{DayUser}
 use Rattle.tally_sessions.specs.declared.entry.Entry.{Entry}
+use Rattle.tally_sessions.specs.declared.sums.Session.{Session}
+use Rattle.tally_sessions.specs.declared.times.DayTime.{DayTime}
+use Rattle.tally_sessions.specs.declared.times.DayUserTime.{DayUserTime}
 use Rattle.tally_sessions.specs.declared.times.UserTime.{UserTime}
-use Rattle.tally_sessions.specs.Sums.{sessions_of}
+use Rattle.tally_sessions.specs.Days.{days_between}
+use Rattle.tally_sessions.specs.Sums.{seconds_of_day, seconds_of_day_user, sessions_of}
 use Rattle.tally_sessions.specs.Totals.{connect_of}
 
 -- by the name's bytes
@@ -21,10 +27,48 @@ user_time entries user = record { user = user; seconds = connect_of user entries
 abbrev pub user_times : List Entry → List UserTime
 user_times entries = in_order user_time_cmp (filter (λ row. nat_lt 0 row.seconds) (map (λ s. user_time entries s.user) (sessions_of entries)))
 
+-- by the day
+abbrev pub day_time_cmp : DayTime → DayTime → Ordering
+day_time_cmp a b = int_cmp a.day b.day
+
+-- the row of a day
+abbrev pub day_time : ℤ → List Entry → ℤ → DayTime
+day_time offset entries day = record { day = day; seconds = seconds_of_day offset day (sessions_of entries) }
+
+-- the days of all sessions
+abbrev pub days_of : ℤ → List Session → List ℤ
+days_of offset sessions = flat_map (λ s. days_between offset s.begin s.end_time) sessions
+
+-- the rows of all days with connect time
+abbrev pub day_times : ℤ → List Entry → List DayTime
+day_times offset entries = in_order day_time_cmp (filter (λ row. nat_lt 0 row.seconds) (map (day_time offset entries) (days_of offset (sessions_of entries))))
+
+-- by the day, and then by the name's bytes
+abbrev pub day_user_time_cmp : DayUserTime → DayUserTime → Ordering
+day_user_time_cmp a b = ordering_then (int_cmp a.day b.day) (slice_cmp nat_cmp a.user b.user)
+
+-- the row of a user on a day
+abbrev pub day_user_time : ℤ → List Entry → DayUser → DayUserTime
+day_user_time offset entries k = record { day = k.day; user = k.user; seconds = seconds_of_day_user offset k.day k.user (sessions_of entries) }
+
+-- the users of all sessions, on each of their days
+abbrev pub day_users_of : ℤ → List Session → List DayUser
+day_users_of offset sessions = flat_map (λ s. map (λ day. record { day = day; user = s.user }) (days_between offset s.begin s.end_time)) sessions
+
+-- the rows of all users on all days with connect time
+abbrev pub day_user_times : ℤ → List Entry → List DayUserTime
+day_user_times offset entries = in_order day_user_time_cmp (filter (λ row. nat_lt 0 row.seconds) (map (day_user_time offset entries) (day_users_of offset (sessions_of entries))))
+
 -- a sum of seconds is above 0
 abbrev pub above_zero : {K : Type 0} → K × ℕ → Bool
 above_zero sum = nat_lt 0 sum.1
 
--- the row of a user's sum
+-- the rows of sums
 abbrev pub user_time_of : List ℕ × ℕ → UserTime
 user_time_of sum = record { user = sum.0; seconds = sum.1 }
+
+abbrev pub day_time_of : ℤ × ℕ → DayTime
+day_time_of sum = record { day = sum.0; seconds = sum.1 }
+
+abbrev pub day_user_time_of : DayUser × ℕ → DayUserTime
+day_user_time_of sum = record { day = sum.0.day; user = sum.0.user; seconds = sum.1 }

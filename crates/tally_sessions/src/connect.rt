@@ -1,14 +1,17 @@
-//! Connect time by user.
-ghost use Rattle.std.specs.Prelude.{◌≡◌, ◌≤◌, ◌^◌, ℕ, IfOk, filter, length, map, vec_len};
+//! Connect time by user and by day, as ac(1) gives it.
+ghost use Rattle.std.specs.Prelude.{◌≡◌, ◌≤◌, All, IfOk, filter, length, map, vec_len};
 ghost use Rattle.std.specs.BTreeMap.{IsOrdered};
 ghost use Rattle.std.specs.Cmp.Lexicographic.{slice_cmp};
-ghost use Rattle.std.specs.Ordering.{nat_cmp};
-ghost use Rattle.tally_sessions.specs.Rows.{above_zero, user_time_of, user_times};
-ghost use Rattle.tally_sessions.specs.Sums.{sessions_of};
+ghost use Rattle.std.specs.Ordering.{int_cmp, nat_cmp};
+ghost use Rattle.tally_sessions.specs.Days.{IsDay, IsOffset};
+ghost use Rattle.tally_sessions.specs.Rows.{above_zero, day_time_of, day_times, day_user_time_of, day_user_times, user_time_of, user_times};
+ghost use Rattle.tally_sessions.specs.Sums.{day_user_cmp, sessions_of};
 
+use crate::day_sums::day_sums;
+use crate::day_user_sums::{DayUser, day_user_sums};
 use crate::sessions::{ENTRY_LIMIT, HOST_LIMIT, Sessions};
 use crate::sums::{Session, user_sums};
-use crate::times::UserTime;
+use crate::times::{DayTime, DayUserTime, UserTime};
 use std::alloc::{AllocError, Global};
 use std::collections::BTreeMap;
 use tally_records::{List, Memory, Name};
@@ -19,9 +22,41 @@ fn user_rows(alloc: Global, sums: &BTreeMap<Name, u64>) -> Result<Vec<UserTime>,
     ensures ordered { IsOrdered (slice_cmp nat_cmp) sums.now }
 {
     sums.iter()
-        .filter(|(_, seconds)| **seconds > 0)
+        .filter(|(_user, seconds)| **seconds > 0)
         .map(|(user, seconds)| UserTime {
             user: *user,
+            seconds: *seconds,
+        })
+        .collect(alloc)
+}
+
+/// The rows of the days whose sum is above 0.
+fn day_rows(alloc: Global, sums: &BTreeMap<i32, u64>) -> Result<Vec<DayTime>, AllocError>
+    ensures rows { IfOk result (λ rows. rows.items ≡ map day_time_of (filter above_zero sums.now.entries)) }
+    ensures ordered { IsOrdered int_cmp sums.now }
+{
+    sums.iter()
+        .filter(|(_day, seconds)| **seconds > 0)
+        .map(|(day, seconds)| DayTime {
+            day: *day,
+            seconds: *seconds,
+        })
+        .collect(alloc)
+}
+
+/// The rows of the users on days whose sum is above 0.
+fn day_user_rows(
+    alloc: Global,
+    sums: &BTreeMap<DayUser, u64>,
+) -> Result<Vec<DayUserTime>, AllocError>
+    ensures rows { IfOk result (λ rows. rows.items ≡ map day_user_time_of (filter above_zero sums.now.entries)) }
+    ensures ordered { IsOrdered day_user_cmp sums.now }
+{
+    sums.iter()
+        .filter(|(_key, seconds)| **seconds > 0)
+        .map(|(key, seconds)| DayUserTime {
+            day: key.day,
+            user: key.user,
             seconds: *seconds,
         })
         .collect(alloc)
@@ -48,5 +83,32 @@ impl Sessions {
         let sessions = self.sessions(alloc)?;
         let sums = user_sums(alloc, &sessions)?;
         Ok(List::from_vec(user_rows(alloc, &sums)?))
+    }
+
+    /// The connect time of each day that has any, in order, at an offset in minutes east of UTC.
+    pub fn connect_by_day(&self, alloc: Global, offset: i32) -> Result<List<DayTime>, Memory>
+        requires { IsOffset offset }
+        ensures value { IfOk result (λ rows. rows ≡ day_times offset self.now.entries) }
+        ensures days { IfOk result (All (λ row. IsDay row.day)) }
+    {
+        let sessions = self.sessions(alloc)?;
+        let sums = day_sums(alloc, offset, &sessions)?;
+        Ok(List::from_vec(day_rows(alloc, &sums)?))
+    }
+
+    /// The connect time of each user on each day, where there is any, by day and then by name
+    /// bytes, at an offset in minutes east of UTC.
+    pub fn connect_by_day_user(
+        &self,
+        alloc: Global,
+        offset: i32,
+    ) -> Result<List<DayUserTime>, Memory>
+        requires { IsOffset offset }
+        ensures value { IfOk result (λ rows. rows ≡ day_user_times offset self.now.entries) }
+        ensures days { IfOk result (All (λ row. IsDay row.day)) }
+    {
+        let sessions = self.sessions(alloc)?;
+        let sums = day_user_sums(alloc, offset, &sessions)?;
+        Ok(List::from_vec(day_user_rows(alloc, &sums)?))
     }
 }

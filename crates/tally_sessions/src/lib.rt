@@ -3,6 +3,8 @@
 
 mod answers;
 mod connect;
+mod day_sums;
+mod day_user_sums;
 mod days;
 mod ending;
 mod entry;

@@ -19,7 +19,7 @@ pub(crate) struct Session {
 }
 
 /// Adds seconds to the sum of a key.
-fn add<K: Ord + Copy + Drop>(
+pub(crate) fn add<K: Ord + Copy + Drop>(
     sums: &mut BTreeMap<K, u64>,
     key: K,
     seconds: u64,
