@@ -2,10 +2,15 @@
 use Rattle.std.specs.Prelude.{◌≡◌, ◌∷◌, ℕ, [], Some, true, false, codes, pos}
 use Rattle.clap.specs.Simple.{on_top}
 use Rattle.clap.specs.Words.{App, Rule, Text, app_of, new_app, new_rule, with_rule, with_subcommand}
+use Rattle.clap.specs.declared.builder.action.ArgAction.TheVariants.{SetTrue}
 use Rattle.clap.specs.declared.builder.command.Command.{Command}
 use Rattle.clap.specs.declared.builder.command.Command.TheViews.{out-Command}
 use Rattle.clap.specs.declared.builder.value_parser.ValueParser.{ValueParser}
 use Rattle.clap.specs.declared.builder.value_parser.ValueParser.TheVariants.{Signed}
+
+-- `-x`
+abbrev pub flag_rule : Text → ℕ → Rule
+flag_rule id letter = record (new_rule id) { short = Some letter; action = Some SetTrue }
 
 -- an option with a number, which has a default
 abbrev pub number_rule : Text → ValueParser → Text → Rule
@@ -19,6 +24,14 @@ number_rule name parser default = record (new_rule name) {
 -- a number from `least` to `most`
 abbrev pub between : ℕ → ℕ → ValueParser
 between least most = Signed (pos least) (pos most)
+
+-- `-n N` of `last`
+abbrev pub limit_rule : Rule
+limit_rule = record (new_rule (codes "limit")) {
+  short = Some 110;
+  value_names = 1;
+  parser = Some (between 1 1048576);
+}
 
 -- minutes east of UTC
 abbrev pub east_rule : Rule
@@ -36,9 +49,21 @@ file_rule = record (new_rule (codes "file")) { value_names = 1; required = true 
 abbrev pub with_common : App → App
 with_common app = with_rule (with_rule (with_rule app east_rule) west_rule) file_rule
 
+-- `last`
+abbrev pub last_app : App
+last_app = with_common (with_rule (new_app (codes "last")) limit_rule)
+
 -- `ac`
 abbrev pub connect_app : App
 connect_app = with_common (new_app (codes "ac"))
+
+-- `sa`
+abbrev pub usage_app : App
+usage_app = with_common (with_rule (with_rule (with_rule (with_rule (new_app (codes "sa"))
+    (flag_rule (codes "keep_all") 97))
+    (flag_rule (codes "by_user") 109))
+    (flag_rule (codes "by_calls") 110))
+    (flag_rule (codes "reverse") 114))
 
 -- words without a program's name, of which one names a subcommand
 abbrev pub top_app : App
@@ -47,7 +72,8 @@ top_app = on_top (λ s. record s { no_binary_name = true; subcommand_required = 
 
 -- the whole command line
 unfoldable pub tally_app : App
-tally_app = with_subcommand top_app connect_app.top
+tally_app = with_subcommand (with_subcommand (with_subcommand top_app
+    last_app.top) connect_app.top) usage_app.top
 
 -- `clap` reads the command as this one, and no argument of it is global
 pub record IsCommand (app : App) (command : Command) : Type 0 where

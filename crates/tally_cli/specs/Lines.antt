@@ -33,7 +33,10 @@ file_words (Some found) = words_in found.1
 
 -- the subcommand of a report
 abbrev pub name_of : Report → Text
+name_of (report.Last limit) = codes "last"
 name_of (report.Connect by_day by_user) = codes "ac"
+name_of (report.Commands order reverse all) = codes "sa"
+name_of (report.Users order reverse) = codes "sa"
 
 -- the matches are of a report's subcommand
 abbrev pub AsksFor : Report → Met → Type 0

@@ -1,19 +1,22 @@
 //! The command line as `clap` reads it.
 ghost use Rattle.std.specs.Prelude.{◌≡◌, IfOk, false};
 ghost use Rattle.clap.specs.Words.{App, new_app, rule_of};
-ghost use Rattle.tally_cli.specs.CommandLine.{IsCommand, connect_app, east_rule, file_rule};
-ghost use Rattle.tally_cli.specs.CommandLine.{number_rule, tally_app, top_app, west_rule};
-ghost use Rattle.tally_cli.specs.CommandLine.{with_common};
+ghost use Rattle.tally_cli.specs.CommandLine.{IsCommand, connect_app, east_rule, file_rule, flag_rule};
+ghost use Rattle.tally_cli.specs.CommandLine.{last_app, limit_rule, number_rule, tally_app, top_app, usage_app};
+ghost use Rattle.tally_cli.specs.CommandLine.{west_rule, with_common};
 
 use clap::builder::ValueParser;
-use clap::{Arg, Command, value_parser};
+use clap::{Arg, ArgAction, Command, value_parser};
 use std::alloc::{AllocError, Global};
 
 /// The program's command, over words without the program's own name.
 pub(crate) fn tally<'a>(alloc: Global) -> Result<Command<'a>, AllocError>
     ensures { IfOk result (IsCommand tally_app) }
 {
-    top(alloc)?.subcommand(connect(alloc)?)
+    top(alloc)?
+        .subcommand(last(alloc)?)?
+        .subcommand(connect(alloc)?)?
+        .subcommand(usage(alloc)?)
 }
 
 fn top<'a>(alloc: Global) -> Result<Command<'a>, AllocError>
@@ -29,10 +32,38 @@ fn top<'a>(alloc: Global) -> Result<Command<'a>, AllocError>
     .bin_name("tally")
 }
 
+fn last<'a>(alloc: Global) -> Result<Command<'a>, AllocError>
+    ensures { IfOk result (IsCommand last_app) }
+{
+    let command = named(
+        alloc,
+        "last",
+        "List login sessions and running times, as last(1) does",
+    )
+    .arg(limit(alloc))?;
+    with_options(alloc, command)
+}
+
 fn connect<'a>(alloc: Global) -> Result<Command<'a>, AllocError>
     ensures { IfOk result (IsCommand connect_app) }
 {
     let command = named(alloc, "ac", "Sum connect time, as ac(1) does");
+    with_options(alloc, command)
+}
+
+fn usage<'a>(alloc: Global) -> Result<Command<'a>, AllocError>
+    ensures { IfOk result (IsCommand usage_app) }
+{
+    let command = named(alloc, "sa", "Sum the usage of commands, as sa(8) does")
+        .arg(flag(
+            alloc,
+            "keep_all",
+            'a',
+            "Give a row to commands called once, too",
+        ))?
+        .arg(flag(alloc, "by_user", 'm', "Sum by user, not by command"))?
+        .arg(flag(alloc, "by_calls", 'n', "Order by calls, not by cpu time"))?
+        .arg(flag(alloc, "reverse", 'r', "Reverse the order"))?;
     with_options(alloc, command)
 }
 
@@ -49,6 +80,27 @@ fn named<'a>(alloc: Global, name: &'a str, about: &'a str) -> Command<'a>
     ensures { IsCommand (new_app name.entry.now) result }
 {
     Command::new(alloc, name).about(about)
+}
+
+fn limit<'a>(alloc: Global) -> Arg<'a>
+    ensures rule { rule_of result ≡ limit_rule }
+    ensures local { result.global ≡ false }
+{
+    Arg::new(alloc, "limit")
+        .short('n')
+        .value_name("N")
+        .help("Show the latest N stays, 1 to 1048576 [default: all]")
+        .value_parser(value_parser!(u32).range(1..=1_048_576))
+}
+
+fn flag<'a>(alloc: Global, id: &'a str, short: char, help: &'a str) -> Arg<'a>
+    ensures rule { rule_of result ≡ flag_rule id.entry.now short }
+    ensures local { result.global ≡ false }
+{
+    Arg::new(alloc, id)
+        .short(short)
+        .help(help)
+        .action(ArgAction::SetTrue)
 }
 
 fn east<'a>(alloc: Global) -> Arg<'a>

@@ -39,6 +39,7 @@ fn kind_read(report: Report) -> Kind
     ensures { Reads report result }
 {
     match report {
-        Report::Connect { .. } => Kind::Login,
+        Report::Last { .. } | Report::Connect { .. } => Kind::Login,
+        Report::Commands { .. } | Report::Users { .. } => Kind::Proc,
     }
 }

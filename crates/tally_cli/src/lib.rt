@@ -6,6 +6,7 @@ mod fault;
 mod files;
 mod job;
 mod line;
+mod printing;
 mod running;
 mod store;
 

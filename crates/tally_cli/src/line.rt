@@ -1,5 +1,5 @@
 //! The command line's words read as a job.
-ghost use Rattle.std.specs.Prelude.{◌≡◌, ◌≢◌, Some, ◌≤ℤ◌, pos, IfOk, IfErr, IfSome, IfNone, IsErr, map, string_bytes};
+ghost use Rattle.std.specs.Prelude.{◌≡◌, ◌≢◌, Some, ◌≤ℤ◌, pos, IfOk, IfErr, IfSome, IfNone, IsErr, codes, map, string_bytes};
 ghost use Rattle.clap.specs.Words.{found_of, kind_of, rows_of, subcommand_rows_of};
 ghost use Rattle.tally_cli.specs.Lines.{Answers, IsFaultOf, IsLineOf, Refuses, IsHelp, name_of};
 ghost use Rattle.tally_cli.specs.declared.job.Report.{Report};
@@ -12,6 +12,7 @@ use crate::job::{Job, Report};
 use clap::error::ErrorKind;
 use clap::{ArgMatches, Error};
 use std::alloc::{AllocError, AllocFailed, Global};
+use tally_usage::Order;
 use thiserror::Error as ErrorText;
 
 /// What a command line asks for.
@@ -77,7 +78,7 @@ fn run_under(alloc: Global, name: &str, matches: &ArgMatches<'_>) -> Result<Line
     ensures ok { IfOk result (IsLineOf (Some (name.now, rows_of (found_of matches.now)))) }
     ensures err { IfErr result (IsFaultOf (Some (name.now, rows_of (found_of matches.now)))) }
 {
-    let Some(report) = report_of(name) else {
+    let Some(report) = report_of(name, matches) else {
         return usage(alloc, "no report is named\n");
     };
     let Some(words) = matches.get_raw("file") else {
@@ -114,17 +115,41 @@ fn usage(alloc: Global, text: &str) -> Result<Line, LineFault>
     Err(LineFault::Usage { text })
 }
 
-fn report_of(name: &str) -> Option<Report>
+fn report_of(name: &str, matches: &ArgMatches<'_>) -> Option<Report>
     ensures named { IfSome result (λ r. name.now ≡ name_of r) }
     ensures none { IfNone result ((r : Report) → name.now ≢ name_of r) }
-    ensures runnable { IfSome result IsAnswered }
+    ensures answered { IfSome result IsAnswered }
 {
     match name {
+        "last" => Some(Report::Last {
+            limit: matches.get_one::<u32>("limit"),
+        }),
         "ac" => Some(Report::Connect {
             by_day: false,
             by_user: false,
         }),
+        "sa" => Some(usage_report(matches)),
         _ => None,
+    }
+}
+
+fn usage_report(matches: &ArgMatches<'_>) -> Report
+    ensures named { name_of result ≡ codes "sa" }
+    ensures answered { IsAnswered result }
+{
+    let order = if matches.get_flag("by_calls") {
+        Order::Calls
+    } else {
+        Order::Cpu
+    };
+    let reverse = matches.get_flag("reverse");
+    if matches.get_flag("by_user") {
+        return Report::Users { order, reverse };
+    }
+    Report::Commands {
+        order,
+        reverse,
+        all: matches.get_flag("keep_all"),
     }
 }
 

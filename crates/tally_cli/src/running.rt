@@ -10,6 +10,7 @@ ghost use Rattle.tally_cli.specs.Runs.{AtFile, IsCause, failed_writes};
 
 use crate::fault::RunFault;
 use crate::job::Job;
+use crate::printing::print_report;
 use crate::store::Store;
 use std::alloc::Global;
 use tally_desk::{Input, feed};
@@ -71,6 +72,6 @@ pub fn run<I: Input + Drop, O: Output>(
     if let Err(fault) = feed(alloc, &mut store, kind, &mut input) {
         return Err(RunFault::File { host: 0, fault });
     }
-    store.print(alloc, job.report, out)?;
+    print_report(alloc, job, &store, out)?;
     finish(out)
 }

@@ -1,10 +1,13 @@
 //! What words ask for, and what runs over small files write.
+ghost use Rattle.tally_cli.specs.Jobs.{IsAnswered};
+
 use crate::{Job, Line, LineFault, Report, RunFault, Source, job_of, run};
 use std::alloc::{AllocError, Global};
 use std::test::Fail;
 use tally_desk::{Bytes, FeedFault};
 use tally_print::{Kept, Output, OutputFault};
 use tally_records::Kind;
+use tally_usage::Order;
 
 const TOTAL: Job = Job {
     report: Report::Connect {
@@ -37,6 +40,34 @@ fn ac_reads_one_login_file(rt: HostRuntime) -> Result<(), Fail> {
 }
 
 #[test]
+fn last_may_be_limited(rt: HostRuntime) {
+    let line = read(rt.alloc(), "last -n 2 f");
+    let report = Report::Last { limit: Some(2) };
+    assert!(rt; matches!(line, Ok(Line::Run { job, files: _ }) if job.report == report));
+}
+
+#[test]
+fn sa_orders_and_reverses_commands(rt: HostRuntime) {
+    let line = read(rt.alloc(), "sa -anr f");
+    let report = Report::Commands {
+        order: Order::Calls,
+        reverse: true,
+        all: true,
+    };
+    assert!(rt; matches!(line, Ok(Line::Run { job, files: _ }) if job.report == report));
+}
+
+#[test]
+fn sa_sums_by_user(rt: HostRuntime) {
+    let line = read(rt.alloc(), "sa f -m -a");
+    let report = Report::Users {
+        order: Order::Cpu,
+        reverse: false,
+    };
+    assert!(rt; matches!(line, Ok(Line::Run { job, files: _ }) if job.report == report));
+}
+
+#[test]
 fn the_offset_is_east_minus_west(rt: HostRuntime) {
     let line = read(rt.alloc(), "ac --west=90 --east 60 f");
     assert!(rt; matches!(line, Ok(Line::Run { job, files: _ }) if job.offset == -30));
@@ -44,7 +75,7 @@ fn the_offset_is_east_minus_west(rt: HostRuntime) {
 
 #[test]
 fn other_words_are_refused(rt: HostRuntime) {
-    for line in [
+    let lines = [
         "",
         "x",
         "ac",
@@ -52,7 +83,10 @@ fn other_words_are_refused(rt: HostRuntime) {
         "ac --east 1440 f",
         "ac --east -1 f",
         "--east 1 ac f",
-    ] {
+        "last -n 0 f",
+        "sa -a -a f",
+    ];
+    for line in lines {
         assert!(rt;
             matches!(read(rt.alloc(), line), Err(LineFault::Usage { text: _ })),
             "{line}"
@@ -93,15 +127,28 @@ fn one_hour(alloc: Global, rest: usize) -> Result<Vec<u8>, AllocError> {
     Ok(bytes)
 }
 
-// What `ac` writes of these bytes, and how it ends.
-fn ac(alloc: Global, bytes: Vec<u8>) -> (Result<(), RunFault>, Kept) {
+// What a run over these bytes writes, and how it ends.
+fn run_over(
+    alloc: Global,
+    report: Report,
+    kind: Kind,
+    bytes: Vec<u8>,
+) -> (Result<(), RunFault>, Kept)
+    requires { IsAnswered report }
+{
     let source = Source {
-        kind: Kind::Login,
+        kind,
         input: Bytes::new(bytes),
     };
     let mut out = Kept::new(alloc);
-    let outcome = run(alloc, &TOTAL, source, &mut out);
+    let job = Job { report, offset: 0 };
+    let outcome = run(alloc, &job, source, &mut out);
     (outcome, out)
+}
+
+// What `ac` writes of these bytes, and how it ends.
+fn ac(alloc: Global, bytes: Vec<u8>) -> (Result<(), RunFault>, Kept) {
+    run_over(alloc, TOTAL.report, Kind::Login, bytes)
 }
 
 #[test]
@@ -109,6 +156,59 @@ fn an_hour_is_its_total(rt: HostRuntime) -> Result<(), Fail> {
     let (outcome, out) = ac(rt.alloc(), one_hour(rt.alloc(), 768)?);
     assert!(rt; outcome.is_ok());
     assert!(rt; out.bytes() == b"total                        1.00\n".as_slice());
+    Ok(())
+}
+
+#[test]
+fn an_hour_is_a_stay(rt: HostRuntime) -> Result<(), Fail> {
+    let report = Report::Last { limit: None };
+    let (outcome, out) = run_over(rt.alloc(), report, Kind::Login, one_hour(rt.alloc(), 768)?);
+    assert!(rt; outcome.is_ok());
+    let stay =
+        b"ann      tty1                          1970-01-12 13:46:40 - 1970-01-12 14:46:40 (01:00)\n".as_slice();
+    assert!(rt; out.bytes().starts_with(stay));
+    assert!(rt; out.bytes().len() == stay.len() + 33);
+    Ok(())
+}
+
+// A call of make by user 0 that took 2 seconds, and 1 second of cpu.
+fn one_call(alloc: Global) -> Result<Vec<u8>, AllocError> {
+    let mut bytes = vec![in alloc; 0u8; 64]?;
+    put_at(bytes.as_mut_slice(), 1, &[2]);
+    put_at(bytes.as_mut_slice(), 12, &[100]);
+    put_at(bytes.as_mut_slice(), 16, &[200]);
+    put_at(bytes.as_mut_slice(), 36, b"make");
+    Ok(bytes)
+}
+
+#[test]
+fn a_call_is_a_row_of_its_own(rt: HostRuntime) -> Result<(), Fail> {
+    let report = Report::Commands {
+        order: Order::Cpu,
+        reverse: false,
+        all: true,
+    };
+    let (outcome, out) = run_over(rt.alloc(), report, Kind::Proc, one_call(rt.alloc())?);
+    assert!(rt; outcome.is_ok());
+    assert!(rt;
+        out.bytes()
+            == b"       1         0.03re         0.02cp          0avio          0k\n       1         0.03re         0.02cp          0avio          0k make\n".as_slice()
+    );
+    Ok(())
+}
+
+#[test]
+fn a_call_is_counted_for_its_user(rt: HostRuntime) -> Result<(), Fail> {
+    let report = Report::Users {
+        order: Order::Cpu,
+        reverse: false,
+    };
+    let (outcome, out) = run_over(rt.alloc(), report, Kind::Proc, one_call(rt.alloc())?);
+    assert!(rt; outcome.is_ok());
+    assert!(rt;
+        out.bytes()
+            == b"total             1         0.03re         0.02cp          0avio          0k\n0                 1         0.03re         0.02cp          0avio          0k\n".as_slice()
+    );
     Ok(())
 }
 

@@ -5,4 +5,7 @@ use Rattle.tally_cli.proofs.command.tally.Goals as goal
 
 pub returns : goal.returns
 unfolding tally_app
-returns c = IfOk-weaker c.subcommand.result _ _ (λ r added. adds_subcommand _ _ _ _ _ c.in_ok-top.ensures c.in_ok-connect.ensures added) c.subcommand.ensures
+returns c =
+    let with_last = adds_subcommand _ _ _ _ _ c.in_ok-top.ensures c.in_ok-last.ensures c.in_ok-subcommand.ensures in
+    let with_connect = adds_subcommand _ _ _ _ _ with_last c.in_ok-connect.ensures c.in_ok-subcommand-2.ensures in
+    IfOk-weaker c.subcommand-3.result _ _ (λ r added. adds_subcommand _ _ _ _ _ with_connect c.in_ok-usage.ensures added) c.subcommand-3.ensures
