@@ -1,5 +1,5 @@
 -- What one record more does to the clock of its host.
-use Rattle.std.proofs.Common.{◌≡◌, List, [], ◌∷◌, ◌++◌, reverse, Option, Some, None, ℤ, refl, ap, ◌∙◌}
+use Rattle.std.proofs.Common.{◌≡◌, List, [], ◌∷◌, ◌++◌, reverse, Option, None, ℤ, refl, ap, ◌∙◌}
 use Rattle.std.specs.Prelude.{find, option_and_then}
 use Rattle.std.proofs.lemmas.List.{reverse-append}
 use Rattle.tally_records.specs.declared.login.LoginRecord.{LoginRecord}

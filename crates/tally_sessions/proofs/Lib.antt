@@ -1,3 +1,5 @@
+pub mod EndedTables
+pub mod EndedSteps
 pub mod Clocks
 pub mod HostSteps
 pub mod Lengths
@@ -17,6 +19,8 @@ pub mod DaysLemmas
 pub mod SessionLists
 pub mod SumLemmas
 pub mod DayWalk
+pub mod LineSums
+pub mod PendingSums
 pub mod RowLemmas
 pub mod DayRows
 pub mod DayUsers

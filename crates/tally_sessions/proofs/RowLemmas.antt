@@ -1,6 +1,6 @@
 -- The rows that a table of sums gives are those of the definition.
-use Rattle.std.proofs.Common.{◌≡◌, ℕ, ◌<◌, Bool, true, false, cond, List, [], ◌∷◌, map, filter, Some, All, get_or, unwrap_or, refl, sym, ap, subst, ◌∙◌, inl, inr, ◌⊎◌, arith}
-use Rattle.std.proofs.lemmas.Bool.{false≢true, lt-ltb, ltb-true}
+use Rattle.std.proofs.Common.{◌≡◌, ℕ, ◌<◌, Bool, true, false, cond, List, [], ◌∷◌, map, filter, Some, All, get_or, unwrap_or, refl, sym, ap, subst, ◌∙◌, inl, inr, arith}
+use Rattle.std.proofs.lemmas.Bool.{lt-ltb, ltb-true}
 use Rattle.std.proofs.lemmas.Cmp.{on_total, tied_itself}
 use Rattle.std.proofs.lemmas.List.Elements.{All-map, Contains-get_or}
 use Rattle.std.specs.Cmp.{IsTotalOrder, Equal-is}
@@ -10,9 +10,9 @@ use Rattle.std.specs.Map.{keys_of, lookup}
 use Rattle.std.specs.Ordering.{is_eq, ordering_reverse}
 use Rattle.std.specs.Prelude.{nat_lt}
 use Rattle.std.specs.declared.cmp.Ordering.{Ordering}
-use Rattle.std.specs.declared.cmp.Ordering.TheVariants.{Less, Equal, Greater}
+use Rattle.std.specs.declared.cmp.Ordering.TheVariants.{Less, Equal}
 use Rattle.tally_records.specs.Sorted.{in_order}
-use Rattle.tally_records.proofs.Members.{Member, Member-from_Contains, Member-map, Member-from_map, Member-filter, Member-from_filter, All-Member}
+use Rattle.tally_records.proofs.Members.{Member, Member-from_Contains, Member-map, Member-from_map, Member-filter, Member-from_filter}
 use Rattle.tally_records.proofs.SortedLemmas.{is_in_order}
 use Rattle.tally_sessions.specs.Rows.{above_zero}
 use Rattle.tally_sessions.specs.Sums.{sum_at}

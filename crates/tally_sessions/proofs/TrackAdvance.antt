@@ -14,15 +14,17 @@ use Rattle.tally_records.specs.declared.login.LoginRecord.{LoginRecord}
 use Rattle.tally_records.specs.declared.login.Event.{Event}
 use Rattle.tally_records.specs.declared.login.Event.TheVariants.{Login, Logout, Boot, Down, OldTime, NewTime, Nothing}
 use Rattle.tally_records.specs.Event.{event_of}
+use Rattle.tally_sessions.specs.declared.ended.EndedSums.{EndedSums}
 use Rattle.tally_sessions.specs.declared.entry.Entry.{Entry}
 use Rattle.tally_sessions.specs.declared.ending.TrackedStay.{TrackedStay}
 use Rattle.tally_sessions.specs.declared.track.Track.{Track}
 use Rattle.tally_sessions.specs.Clock.{pending_old_time, shift_at}
 use Rattle.tally_sessions.specs.Hosts.{of_host, entry_at}
 use Rattle.tally_sessions.specs.Stays.{ends_event, ends_stay, starts_stay, is_login_event, last_time}
-use Rattle.tally_sessions.specs.Track.{no_stay, stay_at, start_of, behind, tracked_in, IsWithin, IsTracked, IsOnLine, AreTracked, IsTrack, started, LeadsTo, ends_every_stay, HasRoom}
+use Rattle.tally_sessions.specs.Track.{no_stay, stay_at, start_of, behind, tracked_in, IsWithin, IsTracked, IsOnLine, AreTracked, IsTrack, started, LeadsTo, ends_every_stay, sum_of, HasRoom, HasSums, IsEntered}
 use Rattle.tally_sessions.specs.Tracking.{Tracked, pending_at, clock, tracked_from, advanced, fresh}
 use Rattle.tally_sessions.proofs.Clocks.{pending_old_time-push}
+use Rattle.tally_sessions.proofs.EndedSteps.{HasSums-start}
 use Rattle.tally_sessions.proofs.Forward.{clock-push, last_time-push, tracked_from-push}
 use Rattle.tally_sessions.proofs.HostSteps.{of_host-take_same}
 use Rattle.tally_sessions.proofs.TrackSteps.{tracked_in-behind, behind-ended, behind-ends, behind-pending, ends_all, some_inj}
@@ -214,15 +216,22 @@ first_more : (rs : List LoginRecord) (x : LoginRecord) → Some (unwrap_or (opti
 first_more [] x = refl
 first_more (r ∷ rs) x = refl
 
+length-started : (es : List Entry) (n : ℕ) (now : ℤ) → length (started es n now) ≤ 1
+length-started es n now = by (starts_stay (event_of (entry_at es n).item))
+  where
+    by : (b : Bool) → length {A = TrackedStay} (cond b (record { entry = n; clock_at = now; ended = None } ∷ []) []) ≤ 1
+    by true = omega arith
+    by false = omega arith
+
 pub IsTrack-advance : (es : List Entry) (n : ℕ) (track track' : Track) → n < length es → IsTrack (entry_at es n).host es n track
     → track'.clock ≡ track.clock +ℤ shift_at (event_of (entry_at es n).item) track.old_time (entry_at es n).item.time → IsWithin (n + 1) track'.clock
     → track'.old_time ≡ pending_at (event_of (entry_at es n).item) (entry_at es n).item.time track.old_time
     → track'.first ≡ Some (unwrap_or track.first (entry_at es n).item.time) → track'.last ≡ (entry_at es n).item.time
     → track'.stays.items ≡ map (behind es track'.clock (entry_at es n).item) track.stays.items ++ started es n track'.clock
     → Sweeps es n track.lines.entries track'.lines.entries track.swept track'.swept track.stays.items track'.clock → track'.swept ≤ length track.stays.items
-    → LeadsTo track.lines.entries track'.lines.entries (entry_at es n).item (length track.stays.items)
+    → LeadsTo track.lines.entries track'.lines.entries (entry_at es n).item (length track.stays.items) → HasSums es track'.sums track'.stays.items
     → IsTrack (entry_at es n).host es (n + 1) track'
-IsTrack-advance es n track track' lt h clock_is within old_time_is first_is last_is stays_are sweeps swept_in leads =
+IsTrack-advance es n track track' lt h clock_is within old_time_is first_is last_is stays_are sweeps swept_in leads sums =
     let x : LoginRecord = (entry_at es n).item in
     let host : ℕ = (entry_at es n).host in
     let rs : List LoginRecord = of_host host (take n es) in
@@ -247,6 +256,12 @@ IsTrack-advance es n track track' lt h clock_is within old_time_is first_is last
           let l = length-append (map (behind es track'.clock x) track.stays.items) (started es n track'.clock) in
           let m = length-map track.stays.items (behind es track'.clock x) in omega arith;
       tracked = subst (AreTracked es (n + 1) track'.lines.entries track'.swept) (sym stays_are) tracked;
+      count = let e = ap length stays_are in
+          let l = length-append (map (behind es track'.clock x) track.stays.items) (started es n track'.clock) in
+          let m = length-map track.stays.items (behind es track'.clock x) in
+          let one = length-started es n track'.clock in
+          let few = h.count in omega arith;
+      sums = sums;
     }
 
 -- a boot and a shutdown end every stay
@@ -263,19 +278,20 @@ sweeps_all es x h t starts = by (event_of x) refl h
     by Nothing e h = absurd (false≢true h)
 
 -- the steps of one record: the times, the stays that end, the stay that starts
-pub IsTrack-step : (es : List Entry) (n : ℕ) (old ticked swept done : Track) (ended : List TrackedStay) (sweep : ℕ) → n < length es → IsTrack (entry_at es n).host es n old
+pub IsTrack-step : (es : List Entry) (n : ℕ) (old ticked swept done : Track) (ended : List TrackedStay) (sums : EndedSums) (sweep : ℕ) → n < length es → IsTrack (entry_at es n).host es n old
     → ticked.clock ≡ old.clock +ℤ shift_at (event_of (entry_at es n).item) old.old_time (entry_at es n).item.time → ((k : ℕ) → IsWithin k old.clock → IsWithin (k + 1) ticked.clock)
     → ticked.old_time ≡ pending_at (event_of (entry_at es n).item) (entry_at es n).item.time old.old_time
     → ticked.first ≡ Some (unwrap_or old.first (entry_at es n).item.time) → ticked.last ≡ (entry_at es n).item.time
     → ticked.lines ≡ old.lines → ticked.stays ≡ old.stays
     → ended ≡ map (behind es ticked.clock (entry_at es n).item) old.stays.items
-    → swept ≡ record { stays = with_items ticked.stays ended; swept = sweep; lines = ticked.lines; old_time = ticked.old_time; clock = ticked.clock; first = ticked.first; last = ticked.last }
+    → swept ≡ record { stays = with_items ticked.stays ended; swept = sweep; lines = ticked.lines; old_time = ticked.old_time; clock = ticked.clock; first = ticked.first; last = ticked.last; sums = sums }
     → (sweep ≡ old.swept) ⊎ ((sweep ≡ length old.stays.items) × (ends_every_stay (event_of (entry_at es n).item) ≡ true))
     → done.stays.items ≡ swept.stays.items ++ started es n swept.clock
     → LeadsTo swept.lines.entries done.lines.entries (entry_at es n).item (vec_len swept.stays)
-    → done ≡ record swept { stays = done.stays; lines = done.lines }
+    → done ≡ record swept { stays = done.stays; lines = done.lines; sums = done.sums }
+    → HasSums es sums ended → ((who : Option (List ℕ)) → sum_of done.sums who ≡ sum_of swept.sums who) → ((name : List ℕ) → IsEntered swept.sums name → IsEntered done.sums name) → (event_of (entry_at es n).item ≡ Login → IsEntered done.sums (entry_at es n).item.user)
     → IsTrack (entry_at es n).host es (n + 1) done
-IsTrack-step es n old ticked swept done ended sweep lt h clock_is within old_time_is first_is last_is lines_are same_stays ended_are swept_is sweeps stays_are leads rest =
+IsTrack-step es n old ticked swept done ended sums sweep lt h clock_is within old_time_is first_is last_is lines_are same_stays ended_are swept_is sweeps stays_are leads rest ended_sums same_sums kept entered =
     let x : LoginRecord = (entry_at es n).item in
     let count : ticked.stays.len ≡ length old.stays.items = ap (λ v. v.len) same_stays ∙ old.stays.ok.0 in
     let clock : done.clock ≡ ticked.clock = ap (λ (t : Track). t.clock) rest ∙ ap (λ (t : Track). t.clock) swept_is in
@@ -286,6 +302,8 @@ IsTrack-step es n old ticked swept done ended sweep lt h clock_is within old_tim
     ∙ ap (λ (t : Track). t.stays.items ++ started es n t.clock) swept_is
     ∙ ap (λ (ts : List TrackedStay). ts ++ started es n ticked.clock) (with_items_is ticked.stays ended (ap length ended_are ∙ length-map old.stays.items (behind es ticked.clock x) ∙ sym count) ∙ ended_are)
     ∙ ap (λ (z : ℤ). map (behind es z x) old.stays.items ++ started es n z) (sym clock) in
+    let items : swept.stays.items ≡ ended = ap (λ (t : Track). t.stays.items) swept_is ∙ with_items_is ticked.stays ended (ap length ended_are ∙ length-map old.stays.items (behind es ticked.clock x) ∙ sym count) in
+    let swept_sums : HasSums es swept.sums swept.stays.items = subst (HasSums es swept.sums) (sym items) (subst (λ s. HasSums es s ended) (sym (ap (λ (t : Track). t.sums) swept_is)) ended_sums) in
     IsTrack-advance es n old done lt h
     (clock ∙ clock_is)
     (subst (IsWithin (n + 1)) (sym clock) (within n h.moved))
@@ -297,6 +315,7 @@ IsTrack-step es n old ticked swept done ended sweep lt h clock_is within old_tim
     (within_stays place sweeps)
     (subst (λ k. LeadsTo old.lines.entries done.lines.entries x k) (ap (λ (t : Track). vec_len t.stays) swept_is ∙ count)
     (subst (λ ls. LeadsTo ls done.lines.entries x (vec_len swept.stays)) lines leads))
+    (subst (HasSums es done.sums) (sym stays_are) (HasSums-start es n swept.clock swept.sums done.sums swept.stays.items swept_sums same_sums kept entered))
   where
     by_sweep : done.swept ≡ sweep → (sweep ≡ old.swept) ⊎ ((sweep ≡ length old.stays.items) × (ends_every_stay (event_of (entry_at es n).item) ≡ true))
         → Sweeps es n old.lines.entries done.lines.entries old.swept done.swept old.stays.items done.clock
@@ -307,11 +326,12 @@ IsTrack-step es n old ticked swept done ended sweep lt h clock_is within old_tim
     within_stays e (inl same) = let i = h.swept in omega arith
     within_stays e (inr all) = let i = all.0 in omega arith
 
-pub HasRoom-step : (m : ℕ) (old ticked swept : Track) (ended : List TrackedStay) (sweep : ℕ) → HasRoom m old → ticked.stays ≡ old.stays → ticked.lines ≡ old.lines
-    → swept ≡ record { stays = with_items ticked.stays ended; swept = sweep; lines = ticked.lines; old_time = ticked.old_time; clock = ticked.clock; first = ticked.first; last = ticked.last }
+pub HasRoom-step : (m : ℕ) (old ticked swept : Track) (ended : List TrackedStay) (sums : EndedSums) (sweep : ℕ) → HasRoom m old → ticked.stays ≡ old.stays → ticked.lines ≡ old.lines → ticked.sums ≡ old.sums → spare sums.users ≡ spare ticked.sums.users
+    → swept ≡ record { stays = with_items ticked.stays ended; swept = sweep; lines = ticked.lines; old_time = ticked.old_time; clock = ticked.clock; first = ticked.first; last = ticked.last; sums = sums }
     → HasRoom m swept
-HasRoom-step m old ticked swept ended sweep h stays lines is =
+HasRoom-step m old ticked swept ended sums sweep h stays lines same room is =
     subst (HasRoom m) (sym is) (record {
       stays = subst (λ v. vec_len v + m ≤ vec_capacity v) (sym stays) h.stays;
       lines = subst (λ l. m ≤ spare l) (sym lines) h.lines;
+      users = subst (λ k. m ≤ k) (sym (room ∙ ap (λ (s : EndedSums). spare s.users) same)) h.users;
     })

@@ -13,7 +13,7 @@ use Rattle.tally_sessions.specs.declared.entry.Entry.{Entry}
 use Rattle.tally_sessions.specs.declared.ending.Ending.{Ending}
 use Rattle.tally_sessions.specs.declared.ending.TrackedStay.{TrackedStay}
 use Rattle.tally_sessions.specs.Stays.{ends_event, ends_stay, starts_stay}
-use Rattle.tally_sessions.specs.Track.{stay_at, start_of, ending_of, end_if, behind, stay_with, tracked_in, IsTracked, AreTracked}
+use Rattle.tally_sessions.specs.Track.{stay_at, start_of, ending_of, end_if, behind, ends_line_stay, stay_with, tracked_in, IsTracked, AreTracked}
 use Rattle.tally_sessions.specs.Tracking.{Tracked, advanced, advance_if, ended_by}
 
 -- what is kept of a stay goes on as the stay does
@@ -181,3 +181,21 @@ pub behind-line_event : (es : List Entry) (n : ℕ) (lines : List (List ℕ × �
     → (k : ℕ) → k < length stays → lookup (bytes_eq x.line) lines ≢ Some k → behind es now x (stay_at stays k) ≡ stay_at stays k
 behind-line_event es n lines swept stays now x e h is (inl login) k lt off = behind-off_line es n lines swept stays now x Login h (is ∙ login) (λ b. refl) (λ b. refl) k lt off
 behind-line_event es n lines swept stays now x e h is (inr logout) k lt off = behind-off_line es n lines swept stays now x Logout h (is ∙ logout) (λ b. refl) (λ b. refl) k lt off
+
+-- what has ended stays so
+pub behind-keeps : (es : List Entry) (now : ℤ) (x : LoginRecord) (t : TrackedStay) (e : Ending) → t.ended ≡ Some e → (behind es now x t).ended ≡ Some e
+behind-keeps es now x t e h = ap (λ o. option_or o (end_if (ends_stay (start_of es t) x) (ending_of (start_of es t) (now -ℤ t.clock_at) x))) h
+
+-- which events end the login on their line
+pub line_event : (e : Event) → ends_line_stay e ≡ true → (e ≡ Login) ⊎ (e ≡ Logout)
+line_event Login h = inl refl
+line_event Logout h = inr refl
+line_event Boot h = absurd (false≢true h)
+line_event Down h = absurd (false≢true h)
+line_event OldTime h = absurd (false≢true h)
+line_event NewTime h = absurd (false≢true h)
+line_event Nothing h = absurd (false≢true h)
+
+-- an event that passes no test of ends is none that ends a stay
+pub not_by_test : (test : Event → Bool) (e s : Event) → test e ≡ false → test s ≡ true → e ≢ s
+not_by_test test e s h is same = false≢true (sym h ∙ ap test same ∙ is)

@@ -1,40 +1,38 @@
 -- The tracks of all hosts.
-use Rattle.std.proofs.Common.{◌≡◌, ◌≢◌, ◌⊎◌, inl, inr, ℕ, zero, suc, ◌+◌, ◌-◌, ◌<◌, ◌≤◌, List, [], ◌∷◌, ◌++◌, map, length, get_or, set, take, pos, refl, sym, ap, ◌∙◌, arith, subst}
+use Rattle.std.proofs.Common.{◌≡◌, ◌≢◌, ◌⊎◌, inl, inr, ℕ, zero, suc, ◌+◌, ◌-◌, ◌<◌, ◌≤◌, List, [], ◌∷◌, map, length, get_or, set, take, pos, refl, sym, ap, ◌∙◌, arith, subst}
 use Rattle.std.proofs.lemmas.Bool.{cases_eq}
-use Rattle.std.proofs.lemmas.List.{length-set, get_or-take, get_or-set_same, get_or-set_other, get_or_append_left}
-use Rattle.std.proofs.Math.Seq.{get_or-append_seam}
+use Rattle.std.proofs.lemmas.List.{length-set, get_or-take, get_or-set_same, get_or-set_other}
+use Rattle.std.proofs.lemmas.List.Sums.{sum-map}
 use Rattle.std.specs.Map.{lookup}
-use Rattle.std.specs.Option.{option_map}
-use Rattle.std.specs.Prelude.{bytes_eq, slice_get}
+use Rattle.std.specs.Option.{option_map, option_map_or}
+use Rattle.std.specs.Prelude.{bytes_eq, slice_get, cond, sum, sum_by}
 use Rattle.tally_records.specs.declared.login.LoginRecord.{LoginRecord}
 use Rattle.tally_records.specs.Event.{event_of}
 use Rattle.tally_sessions.specs.declared.entry.Entry.{Entry}
+use Rattle.tally_sessions.specs.declared.ended.EndedSums.{EndedSums}
+use Rattle.tally_sessions.specs.declared.ending.Ending.{Ending}
 use Rattle.tally_sessions.specs.declared.ending.TrackedStay.{TrackedStay}
 use Rattle.tally_sessions.specs.declared.track.Track.{Track}
 use Rattle.tally_sessions.specs.Clock.{pending_old_time}
 use Rattle.tally_sessions.specs.Hosts.{of_host, no_entry}
 use Rattle.tally_sessions.specs.Kept.{AreTracks}
 use Rattle.tally_sessions.specs.Stays.{starts_stay, last_time}
-use Rattle.tally_sessions.specs.Track.{no_stay, stay_at, start_of, stay_with, tracked_in, AreOf, AreTracked, IsTrack, IsWithin}
+use Rattle.tally_sessions.specs.Track.{no_stay, stay_at, start_of, stay_with, tracked_in, counts, ended_length, AreOf, AreTracked, HasSums, IsEntered, IsTrack, IsWithin}
 use Rattle.tally_sessions.specs.Tracking.{Tracked, clock, tracked_from}
+use Rattle.tally_sessions.proofs.EndedSteps.{HasSums-same}
 use Rattle.tally_sessions.proofs.HostSteps.{of_host-take_other}
 use Rattle.tally_sessions.proofs.TrackAdvance.{IsWithin-all}
-
--- what holds of each item, with one item more
-pub each-push : {X : Type 0} (P : X → Type 0) (xs : List X) (n : ℕ) (x : X) → length xs ≡ n → ((k : ℕ) (d : X) → k < n → P (get_or xs k d)) → P x → (k : ℕ) (d : X) → k < n + 1 → P (get_or (xs ++ x ∷ []) k d)
-each-push P xs n x len h px k d lt = by (cases_eq k (length xs))
-  where
-    by : (k ≡ length xs) ⊎ (k ≢ length xs) → P (get_or (xs ++ x ∷ []) k d)
-    by (inl e) = subst P (sym (ap (λ j. get_or (xs ++ x ∷ []) j d) e ∙ get_or-append_seam xs x [] d)) px
-    by (inr other) = subst P (sym (get_or_append_left xs (x ∷ []) d k (omega arith))) (h k d (omega arith))
 
 map-equal : {X Y : Type 0} (f g : X → Y) (d : X) (xs : List X) → ((k : ℕ) → k < length xs → f (get_or xs k d) ≡ g (get_or xs k d)) → map f xs ≡ map g xs
 map-equal f g d [] h = refl
 map-equal f g d (x ∷ xs) h = ap (λ y. y ∷ map f xs) (h 0 (omega arith)) ∙ ap (λ ys. g x ∷ ys) (map-equal f g d xs (λ k lt. h (suc k) (omega arith)))
 
+sum_equal : {X : Type 0} (f g : X → ℕ) (d : X) (xs : List X) → ((k : ℕ) → k < length xs → f (get_or xs k d) ≡ g (get_or xs k d)) → sum_by f xs ≡ sum_by g xs
+sum_equal f g d xs h = sym (sum-map f xs) ∙ ap sum (map-equal f g d xs h) ∙ sum-map g xs
+
 -- a track that was given room
-pub IsTrack-reserved : (host : ℕ) (es : List Entry) (n : ℕ) (a b : Track) → IsTrack host es n a → b.stays.items ≡ a.stays.items → b.lines.entries ≡ a.lines.entries → b ≡ record a { stays = b.stays; lines = b.lines } → IsTrack host es n b
-IsTrack-reserved host es n a b h stays lines rest =
+pub IsTrack-reserved : (host : ℕ) (es : List Entry) (n : ℕ) (a b : Track) → IsTrack host es n a → b.stays.items ≡ a.stays.items → b.lines.entries ≡ a.lines.entries → b.sums.all ≡ a.sums.all → b.sums.users.entries ≡ a.sums.users.entries → b ≡ record a { stays = b.stays; lines = b.lines; sums = b.sums } → IsTrack host es n b
+IsTrack-reserved host es n a b h stays lines sums users rest =
     let clock : b.clock ≡ a.clock = ap (λ (t : Track). t.clock) rest in
     let swept : b.swept ≡ a.swept = ap (λ (t : Track). t.swept) rest in record {
       stays = ap (map (tracked_in host es)) stays ∙ h.stays;
@@ -48,6 +46,8 @@ IsTrack-reserved host es n a b h stays lines rest =
           subst (λ k. AreTracked es n b.lines.entries k b.stays.items) (sym swept)
           (subst (λ ts. AreTracked es n b.lines.entries a.swept ts) (sym stays)
           (subst (λ ls. AreTracked es n ls a.swept a.stays.items) (sym lines) h.tracked));
+      count = let l = ap length stays in let c = h.count in omega arith;
+      sums = HasSums-same es a.sums b.sums b.stays.items sums users (subst (HasSums es a.sums) (sym stays) h.sums);
     }
 
 -- a track looks at the stored entries alone
@@ -75,6 +75,16 @@ AreTracked-take es es' n lines swept stays same h = record {
       };
 }
 
+HasSums-take : (es es' : List Entry) (n : ℕ) (sums : EndedSums) (lines : List (List ℕ × ℕ)) (swept : ℕ) (stays : List TrackedStay) → take n es' ≡ take n es → AreTracked es n lines swept stays → HasSums es sums stays → HasSums es' sums stays
+HasSums-take es es' n sums lines swept stays same tracked h = record {
+  at = λ who. h.at who ∙ sum_equal (ended_length who es) (ended_length who es') no_stay stays
+      (λ k lt. ap (λ (r : LoginRecord). cond (counts who r) (option_map_or (λ (e : Ending). e.length) (stay_at stays k).ended 0) 0) (sym (start_same es es' n (stay_at stays k) same (tracked.at k lt).placed)));
+  entered = λ k lt login.
+      let start = start_same es es' n (stay_at stays k) same (tracked.at k lt).placed in
+      subst (λ (r : LoginRecord). IsEntered sums r.user) (sym start) (h.entered k lt (ap event_of (sym start) ∙ login));
+  fits = h.fits;
+}
+
 pub IsTrack-take : (host : ℕ) (es es' : List Entry) (n : ℕ) (a : Track) → take n es' ≡ take n es → IsTrack host es n a → IsTrack host es' n a
 IsTrack-take host es es' n a same h =
     let rs : of_host host (take n es) ≡ of_host host (take n es') = ap (of_host host) (sym same) in record {
@@ -89,6 +99,8 @@ IsTrack-take host es es' n a same h =
       last = h.last ∙ ap (last_time (pos 0)) rs;
       swept = h.swept;
       tracked = AreTracked-take es es' n a.lines.entries a.swept a.stays.items same h.tracked;
+      count = h.count;
+      sums = HasSums-take es es' n a.sums a.lines.entries a.swept a.stays.items same h.tracked h.sums;
     }
   where
     kept : LoginRecord → TrackedStay → Tracked
@@ -124,6 +136,8 @@ IsTrack-others h host es n m a other of le within t =
             };
         on = t.tracked.on;
       };
+      count = let c = t.count in omega arith;
+      sums = t.sums;
     }
 
 -- one track is replaced

@@ -1,5 +1,5 @@
 -- Sessions, and sums of seconds over them.
-use Rattle.std.specs.Prelude.{ℕ, ℤ, Bool, List, map, filter, sum_by, bytes_eq, not, unwrap_or}
+use Rattle.std.specs.Prelude.{ℕ, ℤ, List, map, filter, sum_by, bytes_eq, not, unwrap_or}
 use Rattle.std.specs.List.{flat_map}
 use Rattle.std.specs.Map.{lookup}
 use Rattle.std.specs.Cmp.Lexicographic.{slice_cmp}

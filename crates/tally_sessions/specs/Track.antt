@@ -1,12 +1,13 @@
 -- What the fields of a host's track hold.
-use Rattle.std.specs.Prelude.{◌≡◌, ◌≤◌, ◌<◌, ◌+◌, ◌*◌, ◌^◌, ℕ, List, [], ◌∷◌, ◌&&◌, take, map, get_or, length, Bool, true, false, bytes_eq, Option, Some, None, IsSome, option_map, unwrap_or, slice_get, if◌then◌else◌, vec_len, vec_capacity, ℤ, pos, neg_ℤ, ◌+ℤ◌, ◌-ℤ◌, ◌≤ℤ◌}
+use Rattle.std.specs.Prelude.{◌≡◌, ◌≤◌, ◌<◌, ◌+◌, ◌*◌, ◌^◌, ℕ, List, [], ◌∷◌, ◌&&◌, take, map, get_or, length, Bool, true, false, bytes_eq, Option, Some, None, IsSome, is_some, not, option_map, sum_by, unwrap_or, slice_get, if◌then◌else◌, vec_len, vec_capacity, ℤ, pos, neg_ℤ, ◌+ℤ◌, ◌-ℤ◌, ◌≤ℤ◌}
 use Rattle.std.specs.HashMap.{spare}
 use Rattle.std.specs.Map.{lookup}
-use Rattle.std.specs.Option.{option_or}
+use Rattle.std.specs.Option.{option_map_or, option_or}
 use Rattle.tally_records.specs.declared.login.LoginRecord.{LoginRecord}
 use Rattle.tally_records.specs.declared.login.Event.{Event}
-use Rattle.tally_records.specs.declared.login.Event.TheVariants.{Login, Boot, Down}
+use Rattle.tally_records.specs.declared.login.Event.TheVariants.{Login, Logout, Boot, Down}
 use Rattle.tally_records.specs.Event.{event_of}
+use Rattle.tally_sessions.specs.declared.ended.EndedSums.{EndedSums}
 use Rattle.tally_sessions.specs.declared.entry.Entry.{Entry}
 use Rattle.tally_sessions.specs.declared.entry.Stay.{Stay}
 use Rattle.tally_sessions.specs.declared.entry.End.TheVariants as ends
@@ -49,6 +50,11 @@ abbrev pub ends_every_stay : Event → Bool
 ends_every_stay Boot = true
 ends_every_stay Down = true
 ends_every_stay _ = false
+
+abbrev pub ends_line_stay : Event → Bool
+ends_line_stay Login = true
+ends_line_stay Logout = true
+ends_line_stay _ = false
 
 -- the stay of a record with this end
 abbrev pub stay_with : ℕ → LoginRecord → Ending → Stay
@@ -98,6 +104,43 @@ pub record AreTracked (es : List Entry) (n : ℕ) (lines : List (List ℕ × ℕ
   pub at : (i : ℕ) → i < length stays → IsTracked es n lines swept i (stay_at stays i)
   pub on : (line : List ℕ) (i : ℕ) → lookup (bytes_eq line) lines ≡ Some i → IsOnLine es stays line i
 
+-- whose sessions are counted: those of all users, or of one
+abbrev pub counts : Option (List ℕ) → LoginRecord → Bool
+counts None r = is_login_event (event_of r)
+counts (Some user) r = is_login_event (event_of r) && bytes_eq r.user user
+
+-- whether the sessions of a user are among those
+abbrev pub covers : Option (List ℕ) → List ℕ → Bool
+covers None user = true
+covers (Some name) user = bytes_eq user name
+
+-- the length of a stay whose start counts, once it has ended
+abbrev pub ended_length : Option (List ℕ) → List Entry → TrackedStay → ℕ
+ended_length who es t = if counts who (start_of es t) then option_map_or (λ e. e.length) t.ended 0 else 0
+
+-- the lengths of the sessions that have ended
+abbrev pub ended_sum : Option (List ℕ) → List Entry → List TrackedStay → ℕ
+ended_sum who es stays = sum_by (ended_length who es) stays
+
+-- the sum that is kept of them
+abbrev pub sum_of : EndedSums → Option (List ℕ) → ℕ
+sum_of sums None = sums.all
+sum_of sums (Some user) = unwrap_or (lookup (bytes_eq user) sums.users.entries) 0
+
+-- a user has a sum
+abbrev pub IsEntered : EndedSums → List ℕ → Type 0
+IsEntered sums user = IsSome (lookup (bytes_eq user) sums.users.entries)
+
+-- the length of a stay that has ended fits in 32 bits
+abbrev pub LengthFits : TrackedStay → Type 0
+LengthFits t = (e : Ending) → t.ended ≡ Some e → e.length < 2 ^ 32
+
+-- the sums of the sessions among stays that have ended, and a sum for each user of a session
+pub record HasSums (es : List Entry) (sums : EndedSums) (stays : List TrackedStay) : Type 0 where
+  pub at : (who : Option (List ℕ)) → sum_of sums who ≡ ended_sum who es stays
+  pub entered : (k : ℕ) → k < length stays → event_of (start_of es (stay_at stays k)) ≡ Login → IsEntered sums (start_of es (stay_at stays k)).user
+  pub fits : (k : ℕ) → k < length stays → LengthFits (stay_at stays k)
+
 -- the track of a host, behind the first n entries
 pub record IsTrack (host : ℕ) (es : List Entry) (n : ℕ) (track : Track) : Type 0 where
   pub stays : map (tracked_in host es) track.stays.items ≡ tracked_from host [] (of_host host (take n es))
@@ -108,6 +151,8 @@ pub record IsTrack (host : ℕ) (es : List Entry) (n : ℕ) (track : Track) : Ty
   pub last : track.last ≡ last_time (pos 0) (of_host host (take n es))
   pub swept : track.swept ≤ length track.stays.items
   pub tracked : AreTracked es n track.lines.entries track.swept track.stays.items
+  pub count : length track.stays.items ≤ n
+  pub sums : HasSums es track.sums track.stays.items
 
 -- the track of a host without entries
 abbrev pub IsNewTrack : Track → Type 0
@@ -126,6 +171,7 @@ LeadsTo lines lines' r i =
 pub record HasRoom (k : ℕ) (track : Track) : Type 0 where
   pub stays : vec_len track.stays + k ≤ vec_capacity track.stays
   pub lines : k ≤ spare track.lines
+  pub users : k ≤ spare track.sums.users
 
 -- the entries from n on are the host's
 abbrev pub AreOf : ℕ → List Entry → ℕ → Type 0
@@ -146,3 +192,12 @@ ending_now es now time t = unwrap_or t.ended (still_of (start_of es t) (now -ℤ
 
 abbrev pub stay_now : ℕ → List Entry → ℤ → ℤ → TrackedStay → Stay
 stay_now host es now time t = stay_with host (start_of es t) (ending_now es now time t)
+
+-- the length so far of a stay whose start counts, while it is pending
+abbrev pub pending_length : Option (List ℕ) → List Entry → ℤ → ℤ → TrackedStay → ℕ
+pending_length who es now time t =
+    if not (is_some t.ended) && counts who (start_of es t) then (still_of (start_of es t) (now -ℤ t.clock_at) time).length else 0
+
+-- the lengths of the sessions that are pending
+abbrev pub pending_sum : Option (List ℕ) → List Entry → ℤ → ℤ → List TrackedStay → ℕ
+pending_sum who es now time stays = sum_by (pending_length who es now time) stays

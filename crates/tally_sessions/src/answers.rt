@@ -1,13 +1,13 @@
 //! What the track of a host answers.
-ghost use Rattle.std.specs.Prelude.{◌≡◌, ◌≤◌, ◌<◌, ◌*◌, ◌^◌, ◌++◌, All, IfOk, OnOk, length, reverse, take, vec_len};
+ghost use Rattle.std.specs.Prelude.{◌≡◌, ◌≤◌, ◌<◌, ◌+◌, ◌*◌, ◌^◌, ◌++◌, All, IfOk, OnOk, length, reverse, take, vec_len};
 ghost use Rattle.tally_sessions.specs.Hosts.{of_host};
 ghost use Rattle.tally_sessions.specs.Sums.{sessions_among};
-ghost use Rattle.tally_sessions.specs.Totals.{session_seconds, stays_of, user_seconds};
+ghost use Rattle.tally_sessions.specs.Totals.{seconds_of, stays_of};
 ghost use Rattle.tally_sessions.specs.Track as spec;
 
 use crate::ending::{Ending, TrackedStay, still};
 use crate::entry::{Entry, Stay};
-use crate::rules::{is_boot, is_login, is_login_of};
+use crate::rules::{is_boot, is_counted, is_login};
 use crate::sessions::ENTRY_LIMIT;
 use crate::sums::Session;
 use crate::track::Track;
@@ -106,37 +106,45 @@ impl Track {
         Ok(())
     }
 
-    /// The lengths of the sessions of the host.
-    pub(crate) fn seconds(&self, host: u32, entries: &[Entry]) -> u64
+    /// The length of the stay at a place, where it is a pending session of those.
+    fn pending_length(&self, entries: &[Entry], i: usize, last: i32, who: Option<Name>) -> u64
+        requires i_in { i < vec_len self.now.stays }
+        requires placed { spec.ArePlaced (length entries.now) self.now.stays.items }
+        requires now { spec.IsWithin ENTRY_LIMIT self.now.clock }
+        ensures { result ≡ spec.pending_length who entries.now self.now.clock last (spec.stay_at self.now.stays.items i) }
+    {
+        let stay = self.stays[i];
+        let start = &entries[stay.entry].item;
+        if stay.ended.is_some() || !is_counted(start, who) {
+            return 0;
+        }
+        u64::from(still(start, self.clock - stay.clock_at, last).length)
+    }
+
+    /// The lengths of the host's pending sessions, each the latest login on its line.
+    fn pending_seconds(&self, host: u32, entries: &[Entry], who: Option<Name>) -> u64
         requires few { length entries.now ≤ ENTRY_LIMIT }
         requires track { spec.IsTrack host entries.now (length entries.now) self.now }
-        ensures value { result ≡ session_seconds (stays_of host entries.now) }
-        ensures fits { result ≤ 4294967295 * length (of_host host entries.now) }
+        ensures value { result ≡ spec.pending_sum who entries.now self.now.clock self.now.last self.now.stays.items }
+        ensures fits { spec.ended_sum who entries.now self.now.stays.items + result ≤ vec_len self.now.stays * 4294967295 }
     {
+        let last = self.last;
         let mut seconds = 0;
-        for i in 0..self.stays.len() {
-            let stay = self.stays[i];
-            if is_login(event(&entries[stay.entry].item)) {
-                seconds += u64::from(self.ending(entries, stay).length);
+        for k in 0..self.lines.len() {
+            if let Some((_, &i)) = self.lines.get_index(k) {
+                seconds += self.pending_length(entries, i, last, who);
             }
         }
         seconds
     }
 
-    /// The lengths of a user's sessions on the host.
-    pub(crate) fn user_seconds(&self, host: u32, entries: &[Entry], user: &Name) -> u64
+    /// The lengths of the host's sessions, of all users or of one.
+    pub(crate) fn seconds(&self, host: u32, entries: &[Entry], who: Option<Name>) -> u64
         requires few { length entries.now ≤ ENTRY_LIMIT }
         requires track { spec.IsTrack host entries.now (length entries.now) self.now }
-        ensures value { result ≡ user_seconds user.now (stays_of host entries.now) }
+        ensures value { result ≡ seconds_of who (stays_of host entries.now) }
         ensures fits { result ≤ 4294967295 * length (of_host host entries.now) }
     {
-        let mut seconds = 0;
-        for i in 0..self.stays.len() {
-            let stay = self.stays[i];
-            if is_login_of(&entries[stay.entry].item, user) {
-                seconds += u64::from(self.ending(entries, stay).length);
-            }
-        }
-        seconds
+        self.sums.of(who) + self.pending_seconds(host, entries, who)
     }
 }

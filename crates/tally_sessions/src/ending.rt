@@ -1,12 +1,16 @@
 //! Stays that have started, and what ends them.
-ghost use Rattle.std.specs.Prelude.{◌≡◌, ◌≢◌, ◌≤◌, ◌<◌, ◌^◌, ℕ, true, length, map, pos, neg_ℤ, ◌≤ℤ◌};
+ghost use Rattle.std.specs.Prelude.{◌≡◌, ◌≤◌, ◌<◌, ◌+◌, ◌^◌, ℕ, List, Option, Some, true, length, map, slice_set, pos, neg_ℤ, ◌≤ℤ◌};
+ghost use Rattle.indexmap.specs.IndexMap.{spare};
 ghost use Rattle.tally_records.specs.Event.{event_of};
+ghost use Rattle.tally_records.specs.declared.login.Event.TheVariants.{Login};
+ghost use Rattle.tally_sessions.specs.declared.ending.Ending.{Ending as Ended};
 ghost use Rattle.tally_sessions.specs.Hosts.{entry_at};
 ghost use Rattle.tally_sessions.specs.Stays.{ends_stay};
 ghost use Rattle.tally_sessions.specs.Track as spec;
 
+use crate::ended::EndedSums;
 use crate::entry::{End, Entry};
-use crate::rules::{begin_of, end_at, seconds_between};
+use crate::rules::{begin_of, end_at, ends_every, ends_line, is_login_record, seconds_between};
 use crate::sessions::ENTRY_LIMIT;
 use indexmap::IndexMap;
 use tally_records::{Event, LoginRecord, Name};
@@ -35,7 +39,8 @@ fn ending_of(start: &LoginRecord, moved: i64, by: &LoginRecord, event: Event) ->
     requires told { event ≡ event_of by.now }
     requires low { neg_ℤ (pos (2 ^ 62)) ≤ℤ moved }
     requires high { moved ≤ℤ pos (2 ^ 62) }
-    ensures { result ≡ spec.ending_of start.now moved by.now }
+    ensures value { result ≡ spec.ending_of start.now moved by.now }
+    ensures fits { result.length < 2 ^ 32 }
 {
     let begin = begin_of(start.time, moved);
     Ending {
@@ -74,7 +79,8 @@ fn ended_by(
     requires now { spec.IsWithin ENTRY_LIMIT clock }
     requires told { event ≡ event_of by.now }
     requires ends { ends_stay (spec.start_of entries.now stay) by.now ≡ true }
-    ensures { result ≡ spec.behind entries.now clock by.now stay }
+    ensures value { result ≡ spec.behind entries.now clock by.now stay }
+    ensures fits { spec.LengthFits stay → spec.LengthFits result }
 {
     if stay.ended.is_some() {
         return stay;
@@ -84,31 +90,32 @@ fn ended_by(
     TrackedStay { ended, ..stay }
 }
 
-/// Ends each pending stay from a place on. Those before it have ended.
-fn sweep(
-    stays: &mut [TrackedStay],
-    from: usize,
-    entries: &[Entry],
-    clock: i64,
-    by: &LoginRecord,
-    event: Event,
-)
-    requires from_in { from ≤ length stays.old }
-    requires placed { spec.ArePlaced (length entries.now) stays.old }
-    requires now { spec.IsWithin ENTRY_LIMIT clock }
-    requires told { event ≡ event_of by.now }
-    requires ends { (k : ℕ) → k < length stays.old → ends_stay (spec.start_of entries.now (spec.stay_at stays.old k)) by.now ≡ true }
-    requires ended { (k : ℕ) → k < from → spec.behind entries.now clock by.now (spec.stay_at stays.old k) ≡ spec.stay_at stays.old k }
-    ensures { stays.new ≡ map (spec.behind entries.now clock by.now) stays.old }
+/// Counts the length of a login's stay that goes from one state to the next, where it has ended.
+fn count(sums: &mut EndedSums, entries: &[Entry], before: TrackedStay, after: TrackedStay)
+    requires placed { before.entry < length entries.now }
+    requires entered { event_of (spec.start_of entries.now before) ≡ Login → spec.IsEntered sums.old (spec.start_of entries.now before).user }
+    requires room { (who : Option (List ℕ)) → spec.sum_of sums.old who < 2 ^ 63 }
+    requires keeps { (e : Ended) → before.ended ≡ Some e → after.ended ≡ Some e }
+    ensures sums { (who : Option (List ℕ)) → spec.sum_of sums.new who + spec.ended_length who entries.now before
+        ≡ spec.sum_of sums.old who + spec.ended_length who entries.now (record before { ended = after.ended }) }
+    ensures kept { (name : List ℕ) → spec.IsEntered sums.old name → spec.IsEntered sums.new name }
+    ensures spare { spare sums.new.users ≡ spare sums.old.users }
 {
-    for i in from..stays.len() {
-        stays[i] = ended_by(stays[i], entries, clock, by, event);
+    if before.ended.is_some() {
+        return;
+    }
+    let start = &entries[before.entry].item;
+    if let Some(ending) = after.ended {
+        if is_login_record(start) {
+            sums.add(&start.user, ending.length);
+        }
     }
 }
 
-/// Ends the stay at a place, if it is pending. The record ends no other.
-fn end_on(
+/// Ends the stay at a place, if it is pending.
+fn end_stay(
     stays: &mut [TrackedStay],
+    sums: &mut EndedSums,
     i: usize,
     entries: &[Entry],
     clock: i64,
@@ -116,19 +123,54 @@ fn end_on(
     event: Event,
 )
     requires i_in { i < length stays.old }
-    requires placed { spec.ArePlaced (length entries.now) stays.old }
+    requires few { length stays.old ≤ ENTRY_LIMIT }
+    requires placed { (spec.stay_at stays.old i).entry < length entries.now }
+    requires before { spec.IsWithin ENTRY_LIMIT (spec.stay_at stays.old i).clock_at }
     requires now { spec.IsWithin ENTRY_LIMIT clock }
     requires told { event ≡ event_of by.now }
     requires ends { ends_stay (spec.start_of entries.now (spec.stay_at stays.old i)) by.now ≡ true }
-    requires others { (k : ℕ) → k < length stays.old → k ≢ i → spec.behind entries.now clock by.now (spec.stay_at stays.old k) ≡ spec.stay_at stays.old k }
-    ensures { stays.new ≡ map (spec.behind entries.now clock by.now) stays.old }
+    requires sums { spec.HasSums entries.now sums.old stays.old }
+    ensures stays { stays.new ≡ slice_set stays.old i (spec.behind entries.now clock by.now (spec.stay_at stays.old i)) }
+    ensures sums { spec.HasSums entries.now sums.new stays.new }
+    ensures spare { spare sums.new.users ≡ spare sums.old.users }
 {
-    stays[i] = ended_by(stays[i], entries, clock, by, event);
+    let before = stays[i];
+    let after = ended_by(before, entries, clock, by, event);
+    count(sums, entries, before, after);
+    stays[i] = after;
+}
+
+/// Ends each pending stay from a place on. Those before it have ended.
+fn sweep(
+    stays: &mut [TrackedStay],
+    sums: &mut EndedSums,
+    from: usize,
+    entries: &[Entry],
+    clock: i64,
+    by: &LoginRecord,
+    event: Event,
+)
+    requires from_in { from ≤ length stays.old }
+    requires few { length stays.old ≤ ENTRY_LIMIT }
+    requires placed { spec.ArePlaced (length entries.now) stays.old }
+    requires now { spec.IsWithin ENTRY_LIMIT clock }
+    requires told { event ≡ event_of by.now }
+    requires ends { (k : ℕ) → k < length stays.old → ends_stay (spec.start_of entries.now (spec.stay_at stays.old k)) by.now ≡ true }
+    requires ended { (k : ℕ) → k < from → spec.behind entries.now clock by.now (spec.stay_at stays.old k) ≡ spec.stay_at stays.old k }
+    requires sums { spec.HasSums entries.now sums.old stays.old }
+    ensures stays { stays.new ≡ map (spec.behind entries.now clock by.now) stays.old }
+    ensures sums { spec.HasSums entries.now sums.new stays.new }
+    ensures spare { spare sums.new.users ≡ spare sums.old.users }
+{
+    for i in from..stays.len() {
+        end_stay(stays, sums, i, entries, clock, by, event);
+    }
 }
 
 /// Ends the pending stays that the entry at a place ends.
 pub(crate) fn end_pending(
     stays: &mut [TrackedStay],
+    sums: &mut EndedSums,
     swept: usize,
     lines: &IndexMap<Name, usize>,
     entries: &[Entry],
@@ -139,19 +181,21 @@ pub(crate) fn end_pending(
     requires swept_in { swept ≤ length stays.old }
     requires at_in { at < length entries.now }
     requires few { length entries.now ≤ ENTRY_LIMIT }
+    requires few_stays { length stays.old ≤ ENTRY_LIMIT }
     requires tracked { spec.AreTracked entries.now at lines.now.entries swept stays.old }
     requires now { spec.IsWithin ENTRY_LIMIT clock }
     requires told { event ≡ event_of (entry_at entries.now at).item }
-    ensures { stays.new ≡ map (spec.behind entries.now clock (entry_at entries.now at).item) stays.old }
+    requires sums { spec.HasSums entries.now sums.old stays.old }
+    ensures stays { stays.new ≡ map (spec.behind entries.now clock (entry_at entries.now at).item) stays.old }
+    ensures sums { spec.HasSums entries.now sums.new stays.new }
+    ensures spare { spare sums.new.users ≡ spare sums.old.users }
 {
     let by = &entries[at].item;
-    match event {
-        Event::Boot | Event::Down => sweep(stays, swept, entries, clock, by, event),
-        Event::Login | Event::Logout => {
-            if let Some(&i) = lines.get(&by.line) {
-                end_on(stays, i, entries, clock, by, event);
-            }
+    if ends_every(event) {
+        sweep(stays, sums, swept, entries, clock, by, event);
+    } else if ends_line(event) {
+        if let Some(&i) = lines.get(&by.line) {
+            end_stay(stays, sums, i, entries, clock, by, event);
         }
-        _ => {}
     }
 }

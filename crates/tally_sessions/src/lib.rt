@@ -6,6 +6,7 @@ mod connect;
 mod day_sums;
 mod day_user_sums;
 mod days;
+mod ended;
 mod ending;
 mod entry;
 mod rules;

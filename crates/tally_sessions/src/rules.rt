@@ -1,9 +1,9 @@
 //! What one login record means for the stays and the clock of its host.
-ghost use Rattle.std.specs.Prelude.{◌≡◌, ◌<◌, ◌^◌, ◌&&◌, bytes_eq, pos, neg_ℤ, ◌+ℤ◌, ◌≤ℤ◌};
+ghost use Rattle.std.specs.Prelude.{◌≡◌, ◌<◌, ◌^◌, pos, neg_ℤ, ◌+ℤ◌, ◌≤ℤ◌};
 ghost use Rattle.tally_records.specs.Event.{event_of};
 ghost use Rattle.tally_sessions.specs.Clock.{shift_at};
 ghost use Rattle.tally_sessions.specs.Stays as stays;
-ghost use Rattle.tally_sessions.specs.Track.{ends_every_stay};
+ghost use Rattle.tally_sessions.specs.Track.{counts, ends_every_stay, ends_line_stay};
 ghost use Rattle.tally_sessions.specs.Tracking.{pending_at};
 
 use crate::entry::End;
@@ -57,11 +57,22 @@ pub(crate) fn is_login(event: Event) -> bool
     matches!(event, Event::Login)
 }
 
-/// Whether a record is a login of a user.
-pub(crate) fn is_login_of(r: &LoginRecord, user: &Name) -> bool
-    ensures { result ≡ (stays.is_login_event (event_of r.now) && bytes_eq r.now.user user.now) }
+/// Whether a record is a login.
+pub(crate) fn is_login_record(r: &LoginRecord) -> bool
+    ensures { result ≡ stays.is_login_event (event_of r.now) }
 {
-    is_login(event(r)) && r.user == *user
+    is_login(event(r))
+}
+
+/// Whether a record is a login, of any user or of this one.
+pub(crate) fn is_counted(r: &LoginRecord, who: Option<Name>) -> bool
+    ensures { result ≡ counts who r.now }
+{
+    is_login_record(r)
+        && match who {
+            Some(user) => r.user == user,
+            None => true,
+        }
 }
 
 /// Whether an event ends every stay of its host.
@@ -69,6 +80,13 @@ pub(crate) fn ends_every(event: Event) -> bool
     ensures { result ≡ ends_every_stay event }
 {
     matches!(event, Event::Boot | Event::Down)
+}
+
+/// Whether an event ends the login on its line, and no other stay.
+pub(crate) fn ends_line(event: Event) -> bool
+    ensures { result ≡ ends_line_stay event }
+{
+    matches!(event, Event::Login | Event::Logout)
 }
 
 /// A recorded start by the clock that moved so many seconds since then.

@@ -164,7 +164,7 @@ impl Sessions {
         let entries = self.entries();
         let mut total = 0;
         for host in 0..HOST_LIMIT {
-            total += self.tracks[host as usize].seconds(host, entries);
+            total += self.tracks[host as usize].seconds(host, entries, None);
         }
         total
     }
@@ -177,7 +177,7 @@ impl Sessions {
         let entries = self.entries();
         let mut total = 0;
         for host in 0..HOST_LIMIT {
-            total += self.tracks[host as usize].user_seconds(host, entries, user);
+            total += self.tracks[host as usize].seconds(host, entries, Some(*user));
         }
         total
     }

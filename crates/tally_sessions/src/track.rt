@@ -1,11 +1,13 @@
 //! The stays and the clock of one host, kept forward record by record.
-ghost use Rattle.std.specs.Prelude.{◌≡◌, ◌≤◌, ◌<◌, ◌+◌, ◌-◌, ◌*◌, ◌^◌, ◌++◌, ℕ, Some, OnOk, length, unwrap_or, vec_len, ◌+ℤ◌};
+ghost use Rattle.std.specs.Prelude.{◌≡◌, ◌≤◌, ◌<◌, ◌+◌, ◌-◌, ◌*◌, ◌^◌, ◌++◌, ℕ, List as Items, Option, Some, OnOk, length, unwrap_or, vec_len, ◌+ℤ◌};
 ghost use Rattle.tally_records.specs.Event.{event_of};
+ghost use Rattle.tally_records.specs.declared.login.Event.TheVariants.{Login};
 ghost use Rattle.tally_sessions.specs.Clock.{shift_at};
 ghost use Rattle.tally_sessions.specs.Hosts.{entry_at};
 ghost use Rattle.tally_sessions.specs.Track as spec;
 ghost use Rattle.tally_sessions.specs.Tracking.{pending_at};
 
+use crate::ended::EndedSums;
 use crate::ending::{TrackedStay, end_pending};
 use crate::entry::Entry;
 use crate::rules::{ends_every, pending_behind, shift_of};
@@ -29,6 +31,8 @@ pub(crate) struct Track {
     pub(crate) clock: i64,
     pub(crate) first: Option<i32>,
     pub(crate) last: i32,
+    /// The sums of the sessions that have ended.
+    pub(crate) sums: EndedSums,
 }
 
 impl Track {
@@ -44,6 +48,7 @@ impl Track {
             clock: 0,
             first: None,
             last: 0,
+            sums: EndedSums::new(alloc),
         }
     }
 
@@ -51,11 +56,14 @@ impl Track {
     pub(crate) fn reserve(&mut self, count: usize) -> Result<(), Memory>
         ensures stays { self.new.stays.items ≡ self.old.stays.items }
         ensures lines { self.new.lines.entries ≡ self.old.lines.entries }
-        ensures rest { self.new ≡ record self.old { stays = self.new.stays; lines = self.new.lines } }
+        ensures sums { self.new.sums.all ≡ self.old.sums.all }
+        ensures users { self.new.sums.users.entries ≡ self.old.sums.users.entries }
+        ensures rest { self.new ≡ record self.old { stays = self.new.stays; lines = self.new.lines; sums = self.new.sums } }
         ensures room { OnOk result (spec.HasRoom count self.new) }
     {
         self.stays.reserve(count)?;
         self.lines.reserve(count)?;
+        self.sums.reserve(count)?;
         Ok(())
     }
 
@@ -70,6 +78,7 @@ impl Track {
         ensures stays { self.new.stays ≡ self.old.stays }
         ensures swept { self.new.swept ≡ self.old.swept }
         ensures lines { self.new.lines ≡ self.old.lines }
+        ensures sums { self.new.sums ≡ self.old.sums }
     {
         self.clock += shift_of(self.old_time, event, r.time);
         self.old_time = pending_behind(self.old_time, event, r.time);
@@ -84,13 +93,17 @@ impl Track {
         requires room { spec.HasRoom 1 self.old }
         ensures stays { self.new.stays.items ≡ self.old.stays.items ++ spec.started entries.now at self.old.clock }
         ensures lines { spec.LeadsTo self.old.lines.entries self.new.lines.entries (entry_at entries.now at).item (vec_len self.old.stays) }
-        ensures rest { self.new ≡ record self.old { stays = self.new.stays; lines = self.new.lines } }
+        ensures sums { (who : Option (Items ℕ)) → spec.sum_of self.new.sums who ≡ spec.sum_of self.old.sums who }
+        ensures kept { (name : Items ℕ) → spec.IsEntered self.old.sums name → spec.IsEntered self.new.sums name }
+        ensures entered { event ≡ Login → spec.IsEntered self.new.sums (entry_at entries.now at).item.user }
+        ensures rest { self.new ≡ record self.old { stays = self.new.stays; lines = self.new.lines; sums = self.new.sums } }
         ensures room_left { (k : ℕ) → spec.HasRoom (k + 1) self.old → spec.HasRoom k self.new }
     {
         match event {
             Event::Login => {
-                let line = entries[at].item.line;
-                self.lines.insert(line, self.stays.len()).unwrap();
+                let record = &entries[at].item;
+                self.lines.insert(record.line, self.stays.len()).unwrap();
+                self.sums.enter(&record.user);
             }
             Event::Boot => {}
             _ => return,
@@ -116,6 +129,7 @@ impl Track {
         self.tick(record, event);
         end_pending(
             &mut self.stays,
+            &mut self.sums,
             self.swept,
             &self.lines,
             entries,

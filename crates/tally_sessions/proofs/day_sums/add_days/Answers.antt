@@ -1,9 +1,7 @@
-use Rattle.std.proofs.Common.{◌≡◌, ◌∙◌, ◌+◌, ◌≤◌, ◌<◌, ℕ, ℤ, cond, pos, ◌+ℤ◌, ◌-ℤ◌, ◌≤ℤ◌, sym, ap, subst, arith, rules, to_z, of_z, w32}
-use Rattle.std.proofs.lemmas.Int.{ints, clamps, to_z-of_z}
-use Rattle.std.specs.Int.{int_max}
-use Rattle.std.specs.Ordering.{int_cmp, is_eq}
-use Rattle.std.specs.Prelude.{FitsSigned, unsigned_abs}
-use Rattle.tally_sessions.specs.Days.{day_of, seconds_on, IsDay}
+use Rattle.std.proofs.Common.{◌≡◌, ◌∙◌, ◌+◌, ◌≤◌, ℕ, ℤ, pos, ◌+ℤ◌, ◌≤ℤ◌, sym, ap, subst, arith, rules, to_z, of_z, w32}
+use Rattle.std.proofs.lemmas.Int.{ints, to_z-of_z}
+use Rattle.std.specs.Ordering.{int_cmp}
+use Rattle.tally_sessions.specs.Days.{day_of, seconds_on}
 use Rattle.tally_sessions.specs.Sums.{sum_at}
 use Rattle.tally_sessions.proofs.DayWalk.{IsWalked, not_over, over, walk_start, walk_step, walk_end, day_with_time, walk_nearer}
 use Rattle.tally_sessions.proofs.DaysLemmas.{none_on_earlier, none_on_later, seconds_on-le}

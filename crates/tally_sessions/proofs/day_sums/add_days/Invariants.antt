@@ -1,8 +1,8 @@
-use Rattle.std.proofs.Common.{ℤ, pos, ◌-ℤ◌, ◌≤ℤ◌}
+use Rattle.std.proofs.Common.{ℤ, pos, ◌-ℤ◌}
 use Rattle.std.specs.Int.{int_max}
 use Rattle.std.specs.Ordering.{int_cmp}
 use Rattle.std.specs.Prelude.{unsigned_abs}
-use Rattle.tally_sessions.specs.Days.{day_of, seconds_on}
+use Rattle.tally_sessions.specs.Days.{seconds_on}
 use Rattle.tally_sessions.specs.Sums.{sum_at}
 use Rattle.tally_sessions.proofs.DayWalk.{IsWalked}
 use Rattle.tally_sessions.proofs.day_sums.add_days.Given as goal

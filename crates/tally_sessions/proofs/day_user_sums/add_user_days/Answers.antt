@@ -1,9 +1,8 @@
-use Rattle.std.proofs.Common.{◌≡◌, ◌∙◌, ◌+◌, ◌≤◌, ◌<◌, ℕ, ℤ, List, cond, pos, ◌+ℤ◌, ◌-ℤ◌, ◌≤ℤ◌, sym, ap, subst, arith, rules, to_z, of_z, w32}
+use Rattle.std.proofs.Common.{◌≡◌, ◌∙◌, ◌+◌, ◌≤◌, ℕ, ℤ, cond, pos, ◌+ℤ◌, ◌≤ℤ◌, sym, ap, subst, arith, rules, to_z, of_z, w32}
 use Rattle.std.proofs.lemmas.Int.{ints, to_z-of_z}
-use Rattle.std.specs.Int.{int_max}
-use Rattle.std.specs.Prelude.{bytes_eq, unsigned_abs}
+use Rattle.std.specs.Prelude.{bytes_eq}
 use Rattle.tally_sessions.specs.declared.day_user_sums.DayUser.{DayUser}
-use Rattle.tally_sessions.specs.Days.{day_of, seconds_on, IsDay}
+use Rattle.tally_sessions.specs.Days.{day_of, seconds_on}
 use Rattle.tally_sessions.specs.Sums.{day_user_cmp, sum_at}
 use Rattle.tally_sessions.proofs.DayUsers.{no_more_if, one_day_of_user}
 use Rattle.tally_sessions.proofs.DayWalk.{IsWalked, not_over, over, walk_start, walk_step, walk_end, day_with_time, walk_nearer}

@@ -1,4 +1,4 @@
-use Rattle.std.proofs.Common.{ℕ, ℤ, List, pos, ◌-ℤ◌, ◌≤ℤ◌, cond}
+use Rattle.std.proofs.Common.{ℕ, ℤ, List, pos, ◌-ℤ◌, cond}
 use Rattle.std.specs.Int.{int_max}
 use Rattle.std.specs.Prelude.{bytes_eq, unsigned_abs}
 use Rattle.tally_sessions.specs.Days.{seconds_on}

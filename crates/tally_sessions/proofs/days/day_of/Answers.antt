@@ -1,7 +1,6 @@
-use Rattle.std.proofs.Common.{◌≡◌, ◌∙◌, ℤ, pos, ◌+ℤ◌, ◌*ℤ◌, ◌≤ℤ◌, sym, ap, subst, arith}
+use Rattle.std.proofs.Common.{◌≡◌, ◌∙◌, ℤ, pos, ◌+ℤ◌, ◌*ℤ◌, sym, ap, subst, arith}
 use Rattle.std.proofs.lemmas.Int.{ints}
 use Rattle.std.specs.Int.{w32, cast_signed, cast_unsigned, int_div_euclid}
-use Rattle.std.specs.Prelude.{FitsSigned}
 use Rattle.tally_sessions.specs.Days as days
 use Rattle.tally_sessions.specs.Days.{day_of}
 use Rattle.tally_sessions.proofs.DaysLemmas.{floor}

@@ -1,7 +1,7 @@
-use Rattle.std.proofs.Common.{◌≡◌, ◌∙◌, ◌+◌, ◌<◌, ◌≤◌, ℕ, List, length, get_or, take, arith, ap, sym}
+use Rattle.std.proofs.Common.{◌≡◌, ◌<◌, length, get_or, arith, ap}
 use Rattle.std.specs.Cmp.Lexicographic.{slice_cmp}
 use Rattle.std.specs.Ordering.{is_eq, nat_cmp}
-use Rattle.tally_sessions.specs.Sums.{sum_at, seconds_of_user}
+use Rattle.tally_sessions.specs.Sums.{sum_at}
 use Rattle.tally_sessions.proofs.SumLemmas.{no_session, seconds_of_user-step, sum_fits}
 use Rattle.tally_sessions.proofs.sums.user_sums.Goals as goal
 

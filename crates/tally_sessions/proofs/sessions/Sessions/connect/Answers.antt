@@ -10,22 +10,22 @@ use Rattle.tally_sessions.proofs.EveryHost.{every_host_is}
 use Rattle.tally_sessions.proofs.Staging.{track_of}
 use Rattle.tally_sessions.proofs.sessions.Sessions.connect.Goals as goal
 
-pub user_seconds-total-requires-clause-track : goal.user_seconds-total-requires-clause-track
-user_seconds-total-requires-clause-track c =
+pub seconds-total-requires-clause-track : goal.seconds-total-requires-clause-track
+seconds-total-requires-clause-track c =
     track_of c.self.inside c.loop-host.host c.index.result.now c.entries-entries.result.now c.self.invariant (omega arith) c.index.ensures
     (c.entries-entries.ensures.value ∙ sym (ap (λ (s : State). s.entries) c.self.view_is))
 
 pub loop-host-preserved : goal.loop-host-preserved
 loop-host-preserved c =
     let more = sum_by-map-range_with_len_more (λ (x : ℕ). x) (λ (host : ℕ). user_seconds c.args.user.now (stays_of host c.entries-entries.result.now)) 0 c.loop-host.host c.loop-host.host (omega arith) in record {
-      told = ap (λ (n : ℕ). n + c.user_seconds-total.result) c.loop-host.invariant.told ∙ ap (λ (n : ℕ). sum (map (λ (host : ℕ). user_seconds c.args.user.now (stays_of host c.entries-entries.result.now)) (range_with_len 0 c.loop-host.host)) + n) c.user_seconds-total.ensures.value ∙ sym more;
-      fits = omega (arith, c.user_seconds-total.ensures.fits, count_below-more c.loop-host.host c.entries-entries.result.now);
+      told = ap (λ (n : ℕ). n + c.seconds-total.result) c.loop-host.invariant.told ∙ ap (λ (n : ℕ). sum (map (λ (host : ℕ). user_seconds c.args.user.now (stays_of host c.entries-entries.result.now)) (range_with_len 0 c.loop-host.host)) + n) c.seconds-total.ensures.value ∙ sym more;
+      fits = omega (arith, c.seconds-total.ensures.fits, count_below-more c.loop-host.host c.entries-entries.result.now);
     }
 
 pub overflow_add-total : goal.overflow_add-total
 overflow_add-total c =
     let es : List Entry = c.entries-entries.result.now in
-    omega (arith, c.loop-host.invariant.fits, c.user_seconds-total.ensures.fits, c.entries-entries.ensures.few, count_below-le c.loop-host.host es, length-of_host c.loop-host.host es)
+    omega (arith, c.loop-host.invariant.fits, c.seconds-total.ensures.fits, c.entries-entries.ensures.few, count_below-le c.loop-host.host es, length-of_host c.loop-host.host es)
 
 pub returns-clause-fits : goal.returns-clause-fits
 returns-clause-fits c =

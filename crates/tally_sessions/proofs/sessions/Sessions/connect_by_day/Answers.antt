@@ -1,11 +1,9 @@
-use Rattle.std.proofs.Common.{◌≡◌, ◌∙◌, ◌<◌, ℤ, List, All, ap, sym, subst, rules, to_z, of_z, w32}
+use Rattle.std.proofs.Common.{◌≡◌, ◌∙◌, List, All, sym, subst, rules, w32}
 use Rattle.std.proofs.lemmas.Int.{to_z-of_z}
-use Rattle.std.specs.Ordering.{int_cmp}
 use Rattle.tally_sessions.specs.declared.entry.Entry.{Entry}
-use Rattle.tally_sessions.specs.declared.sums.Session.{Session}
 use Rattle.tally_sessions.specs.declared.times.DayTime.{DayTime}
 use Rattle.tally_sessions.specs.Days.{IsDay}
-use Rattle.tally_sessions.specs.Sums.{seconds_of_day, sessions_of, sum_at}
+use Rattle.tally_sessions.specs.Sums.{seconds_of_day, sessions_of}
 use Rattle.tally_sessions.proofs.DayRows.{day_rows_are, day_rows_days}
 use Rattle.tally_sessions.proofs.sessions.Sessions.connect_by_day.Goals as goal
 

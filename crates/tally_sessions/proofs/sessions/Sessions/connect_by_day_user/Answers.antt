@@ -1,10 +1,9 @@
-use Rattle.std.proofs.Common.{◌≡◌, ◌∙◌, ◌<◌, ℤ, List, All, ap, sym, subst, rules, to_z, of_z, w32}
+use Rattle.std.proofs.Common.{◌≡◌, ◌∙◌, List, All, sym, subst, rules, w32}
 use Rattle.std.proofs.lemmas.Int.{to_z-of_z}
 use Rattle.tally_sessions.specs.declared.entry.Entry.{Entry}
-use Rattle.tally_sessions.specs.declared.sums.Session.{Session}
 use Rattle.tally_sessions.specs.declared.times.DayUserTime.{DayUserTime}
 use Rattle.tally_sessions.specs.Days.{IsDay}
-use Rattle.tally_sessions.specs.Sums.{seconds_of_day_user, sessions_of, sum_at}
+use Rattle.tally_sessions.specs.Sums.{seconds_of_day_user, sessions_of}
 use Rattle.tally_sessions.proofs.DayUsers.{day_user_rows_are, day_user_rows_days}
 use Rattle.tally_sessions.proofs.sessions.Sessions.connect_by_day_user.Goals as goal
 

@@ -1,9 +1,6 @@
-use Rattle.std.proofs.Common.{◌≡◌, ◌∙◌, ℕ, List, ap}
-use Rattle.std.specs.Cmp.Lexicographic.{slice_cmp}
-use Rattle.std.specs.Ordering.{nat_cmp}
+use Rattle.std.proofs.Common.{◌≡◌, ◌∙◌, List, ap}
 use Rattle.tally_sessions.specs.declared.entry.Entry.{Entry}
-use Rattle.tally_sessions.specs.declared.sums.Session.{Session}
-use Rattle.tally_sessions.specs.Sums.{seconds_of_user, sessions_of, sum_at}
+use Rattle.tally_sessions.specs.Sums.{seconds_of_user, sessions_of}
 use Rattle.tally_sessions.proofs.UserRows.{user_rows_are}
 use Rattle.tally_sessions.proofs.sessions.Sessions.connect_by_user.Goals as goal
 

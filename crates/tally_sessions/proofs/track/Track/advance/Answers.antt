@@ -2,10 +2,12 @@ use Rattle.std.proofs.Common.{◌≡◌, inl, inr, ◌+◌, ◌∙◌, ℤ, ◌+
 use Rattle.std.proofs.lemmas.Int.{ints}
 use Rattle.tally_sessions.proofs.Lengths.{held}
 use Rattle.tally_records.specs.declared.login.Event.{Event}
+use Rattle.tally_records.specs.declared.login.Event.TheVariants.{Login}
+use Rattle.tally_records.specs.Event.{event_of}
 use Rattle.tally_sessions.specs.Clock.{shift_at}
 use Rattle.tally_sessions.specs.Tracking.{pending_at}
 use Rattle.tally_sessions.specs.Hosts.{entry_at}
-use Rattle.tally_sessions.specs.Track.{behind, ends_every_stay, IsWithin}
+use Rattle.tally_sessions.specs.Track.{behind, ends_every_stay, HasSums, IsEntered, IsWithin}
 use Rattle.tally_sessions.proofs.TrackAdvance.{IsTrack-step, IsWithin-all, HasRoom-step}
 use Rattle.tally_sessions.proofs.track.Track.advance.Goals as goal
 use Rattle.tally_sessions.proofs.track.Track.advance.Goals.{then-ends_every, else-ends_every}
@@ -21,19 +23,23 @@ returns-clause-after c =
     let high = within.high in
     let same : held c.tick.new.self.clock ≡ c.tick.new.self.clock = omega (arith, ints, c.requires.at_in, c.requires.few) in
     let ended : c.end_pending.new.stays ≡ map (behind es c.tick.new.self.clock (entry_at es n).item) c.args.self.now.stays.items =
-    c.end_pending.ensures
+    c.end_pending.ensures.stays
     ∙ ap (λ (z : ℤ). map (behind es z (entry_at es n).item) c.deref_mut.result.now) same
     ∙ ap (map (behind es c.tick.new.self.clock (entry_at es n).item)) c.deref_mut.ensures.value
     ∙ ap (λ v. map (behind es c.tick.new.self.clock (entry_at es n).item) v.items) t.stays in
     let clock_is = t.clock ∙ ap (λ (e : Event). c.args.self.now.clock +ℤ shift_at e c.args.self.now.old_time (entry_at es n).item.time) c.event-event.ensures in
     let old_time_is = t.old_time ∙ ap (λ (e : Event). pending_at e (entry_at es n).item.time c.args.self.now.old_time) c.event-event.ensures in
+    let ended_sums : HasSums es c.end_pending.new.sums c.end_pending.new.stays = c.end_pending.ensures.sums in
+    let entered : event_of (entry_at es n).item ≡ Login → IsEntered c.start.new.self.sums (entry_at es n).item.user = λ login. c.start.ensures.entered (c.event-event.ensures ∙ login) in
     elim c.if-ends_every.branch [
       | then-ends_every w ↦
-          IsTrack-step es n c.args.self.now c.tick.new.self c.if-ends_every.self c.start.new.self c.end_pending.new.stays _ c.requires.at_in before clock_is t.moved old_time_is t.first t.last t.lines t.stays
+          IsTrack-step es n c.args.self.now c.tick.new.self c.if-ends_every.self c.start.new.self c.end_pending.new.stays c.end_pending.new.sums _ c.requires.at_in before clock_is t.moved old_time_is t.first t.last t.lines t.stays
           ended w.self-is (inr (w.len-self.ensures ∙ ap (λ v. v.len) t.stays ∙ c.args.self.now.stays.ok.0, ap ends_every_stay (sym c.event-event.ensures) ∙ sym c.ends_every.ensures ∙ w.if-ends_every.true)) c.start.ensures.stays c.start.ensures.lines c.start.ensures.rest
+          ended_sums c.start.ensures.sums c.start.ensures.kept entered
       | else-ends_every w ↦
-          IsTrack-step es n c.args.self.now c.tick.new.self c.if-ends_every.self c.start.new.self c.end_pending.new.stays _ c.requires.at_in before clock_is t.moved old_time_is t.first t.last t.lines t.stays
+          IsTrack-step es n c.args.self.now c.tick.new.self c.if-ends_every.self c.start.new.self c.end_pending.new.stays c.end_pending.new.sums _ c.requires.at_in before clock_is t.moved old_time_is t.first t.last t.lines t.stays
           ended w.self-is (inl t.swept) c.start.ensures.stays c.start.ensures.lines c.start.ensures.rest
+          ended_sums c.start.ensures.sums c.start.ensures.kept entered
     ]
 
 pub end_pending-requires-clause-now : goal.end_pending-requires-clause-now
@@ -48,6 +54,6 @@ pub returns-clause-room_left : goal.returns-clause-room_left
 returns-clause-room_left c k room =
     let t = c.tick.ensures in
     elim c.if-ends_every.branch [
-      | then-ends_every w ↦ c.start.ensures.room_left k (HasRoom-step (k + 1) c.args.self.now c.tick.new.self c.if-ends_every.self c.end_pending.new.stays _ room t.stays t.lines w.self-is)
-      | else-ends_every w ↦ c.start.ensures.room_left k (HasRoom-step (k + 1) c.args.self.now c.tick.new.self c.if-ends_every.self c.end_pending.new.stays _ room t.stays t.lines w.self-is)
+      | then-ends_every w ↦ c.start.ensures.room_left k (HasRoom-step (k + 1) c.args.self.now c.tick.new.self c.if-ends_every.self c.end_pending.new.stays c.end_pending.new.sums _ room t.stays t.lines t.sums c.end_pending.ensures.spare w.self-is)
+      | else-ends_every w ↦ c.start.ensures.room_left k (HasRoom-step (k + 1) c.args.self.now c.tick.new.self c.if-ends_every.self c.end_pending.new.stays c.end_pending.new.sums _ room t.stays t.lines t.sums c.end_pending.ensures.spare w.self-is)
     ]

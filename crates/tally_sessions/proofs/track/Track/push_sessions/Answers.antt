@@ -12,7 +12,7 @@ use Rattle.tally_sessions.specs.declared.sums.Session.{Session}
 use Rattle.tally_sessions.specs.Stays.{is_login_event, starts_stay}
 use Rattle.tally_sessions.specs.Sums.{sessions_among}
 use Rattle.tally_sessions.specs.Track.{no_stay, start_of, stay_now, stay_at}
-use Rattle.tally_sessions.proofs.SessionLists.{sessions_more, sessions_login, sessions_boot, session_now}
+use Rattle.tally_sessions.proofs.SessionLists.{sessions_more, sessions_login, sessions_boot}
 use Rattle.tally_sessions.proofs.StaysNow.{stays_now}
 use Rattle.tally_sessions.proofs.track.Track.push_sessions.Goals as goal
 use Rattle.tally_sessions.proofs.track.Track.push_sessions.Goals.{then-is_login+in_ok-push, else-is_login}
