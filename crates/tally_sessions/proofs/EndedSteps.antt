@@ -65,16 +65,6 @@ ended_sum-le who es ts fits =
     sum_by-le (ended_length who es) 4294967295 ts
     (λ k d lt. subst (λ t. ended_length who es t ≤ 4294967295) (get_or_default ts k no_stay d lt) (few_seconds (counts who (start_of es (stay_at ts k))) (stay_at ts k).ended (fits k lt)))
 
--- what is added for a login that has ended
-pub counted_login : (who : Option (List ℕ)) (r : LoginRecord) (n : ℕ) → is_login_event (event_of r) ≡ true → cond (covers who r.user) n 0 ≡ cond (counts who r) n 0
-counted_login None r n login = ap (λ b. cond b n 0) (sym login)
-counted_login (Some user) r n login = ap (λ b. cond (b && bytes_eq r.user user) n 0) (sym login)
-
--- nothing is added for a boot
-pub counted_none : (who : Option (List ℕ)) (r : LoginRecord) (n : ℕ) → is_login_event (event_of r) ≡ false → cond (counts who r) n 0 ≡ 0
-counted_none None r n other = ap (λ b. cond b n 0) other
-counted_none (Some user) r n other = ap (λ b. cond (b && bytes_eq r.user user) n 0) other
-
 pub is_login_of_event : (e : Event) → is_login_event e ≡ true → e ≡ Login
 is_login_of_event Login h = refl
 is_login_of_event Logout h = absurd (false≢true h)

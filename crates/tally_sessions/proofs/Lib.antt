@@ -6,6 +6,7 @@ pub mod Lengths
 pub mod Forward
 pub mod Places
 pub mod TrackSteps
+pub mod TrackedAdvance
 pub mod TrackAdvance
 pub mod Posted
 pub mod Tracks

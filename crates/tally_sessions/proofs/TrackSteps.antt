@@ -110,11 +110,6 @@ ends_all r x e is starts login boot = by (event_of r) starts
     by NewTime h = absurd (false≢true h)
     by Nothing h = absurd (false≢true h)
 
--- a boot and a shutdown end every stay
-pub ends_at_boot : (r x : LoginRecord) (e : Event) → event_of x ≡ e → (e ≡ Boot) ⊎ (e ≡ Down) → starts_stay (event_of r) ≡ true → ends_stay r x ≡ true
-ends_at_boot r x e is (inl boot) starts = ends_all r x Boot (is ∙ boot) starts (λ b. refl) (λ b. refl)
-ends_at_boot r x e is (inr down) starts = ends_all r x Down (is ∙ down) starts (λ b. refl) (λ b. refl)
-
 -- a login and a logout end the login on their line
 pub ends_on_line : (r x : LoginRecord) (e : Event) → event_of r ≡ Login → event_of x ≡ e → (e ≡ Login) ⊎ (e ≡ Logout) → r.line ≡ x.line → ends_stay r x ≡ true
 ends_on_line r x e login is on same =

@@ -21,7 +21,7 @@ use Rattle.tally_sessions.specs.Track.{no_stay, stay_at, start_of, stay_with, tr
 use Rattle.tally_sessions.specs.Tracking.{Tracked, clock, tracked_from}
 use Rattle.tally_sessions.proofs.EndedSteps.{HasSums-same}
 use Rattle.tally_sessions.proofs.HostSteps.{of_host-take_other}
-use Rattle.tally_sessions.proofs.TrackAdvance.{IsWithin-all}
+use Rattle.tally_sessions.proofs.TrackedAdvance.{IsWithin-all}
 
 map-equal : {X Y : Type 0} (f g : X → Y) (d : X) (xs : List X) → ((k : ℕ) → k < length xs → f (get_or xs k d) ≡ g (get_or xs k d)) → map f xs ≡ map g xs
 map-equal f g d [] h = refl

@@ -63,12 +63,14 @@ day_user_times offset entries = in_order day_user_time_cmp (filter (λ row. nat_
 abbrev pub above_zero : {K : Type 0} → K × ℕ → Bool
 above_zero sum = nat_lt 0 sum.1
 
--- the rows of sums
+-- the row of a user's sum
 abbrev pub user_time_of : List ℕ × ℕ → UserTime
 user_time_of sum = record { user = sum.0; seconds = sum.1 }
 
+-- the row of a day's sum
 abbrev pub day_time_of : ℤ × ℕ → DayTime
 day_time_of sum = record { day = sum.0; seconds = sum.1 }
 
+-- the row of the sum of a user on a day
 abbrev pub day_user_time_of : DayUser × ℕ → DayUserTime
 day_user_time_of sum = record { day = sum.0.day; user = sum.0.user; seconds = sum.1 }

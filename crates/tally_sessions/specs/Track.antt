@@ -23,6 +23,7 @@ use Rattle.tally_sessions.specs.Tracking.{Tracked, clock, tracked_from}
 abbrev pub no_stay : TrackedStay
 no_stay = record { entry = 0; clock_at = pos 0; ended = None }
 
+-- the tracked stay at a place
 abbrev pub stay_at : List TrackedStay → ℕ → TrackedStay
 stay_at stays i = get_or stays i no_stay
 
@@ -39,6 +40,7 @@ ending_of r sum by = record {
   length = seconds_between (clamped (r.time +ℤ sum)) by.time;
 }
 
+-- an end, if there is one
 abbrev pub end_if : Bool → Ending → Option Ending
 end_if ends ending = if ends then Some ending else None
 
@@ -46,11 +48,13 @@ end_if ends ending = if ends then Some ending else None
 abbrev pub behind : List Entry → ℤ → LoginRecord → TrackedStay → TrackedStay
 behind es now by t = record t { ended = option_or t.ended (end_if (ends_stay (start_of es t) by) (ending_of (start_of es t) (now -ℤ t.clock_at) by)) }
 
+-- whether an event ends every stay of its host
 abbrev pub ends_every_stay : Event → Bool
 ends_every_stay Boot = true
 ends_every_stay Down = true
 ends_every_stay _ = false
 
+-- whether an event ends the login on its line alone
 abbrev pub ends_line_stay : Event → Bool
 ends_line_stay Login = true
 ends_line_stay Logout = true
@@ -190,6 +194,7 @@ still_of r sum time = record {
 abbrev pub ending_now : List Entry → ℤ → ℤ → TrackedStay → Ending
 ending_now es now time t = unwrap_or t.ended (still_of (start_of es t) (now -ℤ t.clock_at) time)
 
+-- the stay that is tracked, as it stands now
 abbrev pub stay_now : ℕ → List Entry → ℤ → ℤ → TrackedStay → Stay
 stay_now host es now time t = stay_with host (start_of es t) (ending_now es now time t)
 

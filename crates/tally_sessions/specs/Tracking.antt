@@ -45,13 +45,16 @@ pub record Tracked : Type 0 where
   pub clock_at : ℤ
   pub ended : Option Stay
 
+-- the stay of a record, once this record has ended it
 abbrev pub ended_of : ℕ → List LoginRecord → LoginRecord → List LoginRecord → Option LoginRecord → Option Stay
 ended_of host before r after None = None
 ended_of host before r after (Some _) = Some (stay_of host before r after)
 
+-- what is kept of the stay of a record
 abbrev pub tracked_of : ℕ → List LoginRecord → LoginRecord → List LoginRecord → Tracked
 tracked_of host before r after = record { start = r; clock_at = clock (before ++ r ∷ []); ended = ended_of host before r after (first_end r after) }
 
+-- what is kept of the stays of the records behind these
 abbrev pub tracked_from : ℕ → List LoginRecord → List LoginRecord → List Tracked
 tracked_from host before [] = []
 tracked_from host before (r ∷ after) =
@@ -62,6 +65,7 @@ abbrev pub ended_by : ℕ → ℤ → LoginRecord → Tracked → Option LoginRe
 ended_by host now x t None = None
 ended_by host now x t (Some y) = Some (closed host t.start (now -ℤ t.clock_at) (end_of (Some y)) x.time)
 
+-- a stay that has ended stays as it is
 abbrev pub advance_if : ℕ → ℤ → LoginRecord → Tracked → Option Stay → Tracked
 advance_if host now x t (Some s) = t
 advance_if host now x t None = record t { ended = ended_by host now x t (this_if (ends_stay t.start) x) }
@@ -70,6 +74,7 @@ advance_if host now x t None = record t { ended = ended_by host now x t (this_if
 abbrev pub advanced : ℕ → ℤ → LoginRecord → Tracked → Tracked
 advanced host now x t = advance_if host now x t t.ended
 
+-- what is kept of the stay that a record starts
 abbrev pub fresh : List LoginRecord → LoginRecord → List Tracked
 fresh before x = cond (starts_stay (event_of x)) (record { start = x; clock_at = clock (before ++ x ∷ []); ended = None } ∷ []) []
 
@@ -78,5 +83,6 @@ abbrev pub completed_if : ℕ → ℤ → ℤ → Tracked → Option Stay → St
 completed_if host now time t (Some s) = s
 completed_if host now time t None = closed host t.start (now -ℤ t.clock_at) ends.Still time
 
+-- the stay of what is kept, where the clock and the last time are these
 abbrev pub completed : ℕ → ℤ → ℤ → Tracked → Stay
 completed host now time t = completed_if host now time t t.ended

@@ -8,7 +8,8 @@ use Rattle.tally_sessions.specs.Clock.{shift_at}
 use Rattle.tally_sessions.specs.Tracking.{pending_at}
 use Rattle.tally_sessions.specs.Hosts.{entry_at}
 use Rattle.tally_sessions.specs.Track.{behind, ends_every_stay, HasSums, IsEntered, IsWithin}
-use Rattle.tally_sessions.proofs.TrackAdvance.{IsTrack-step, IsWithin-all, HasRoom-step}
+use Rattle.tally_sessions.proofs.TrackAdvance.{IsTrack-step, HasRoom-step}
+use Rattle.tally_sessions.proofs.TrackedAdvance.{IsWithin-all}
 use Rattle.tally_sessions.proofs.track.Track.advance.Goals as goal
 use Rattle.tally_sessions.proofs.track.Track.advance.Goals.{then-ends_every, else-ends_every}
 

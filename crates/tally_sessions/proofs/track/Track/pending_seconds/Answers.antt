@@ -7,7 +7,7 @@ use Rattle.std.specs.Int.{w32}
 use Rattle.std.specs.Option.{option_map}
 use Rattle.std.specs.Prelude.{FitsSigned, sum_by}
 use Rattle.tally_sessions.specs.Track.{pending_length, pending_sum, stay_at}
-use Rattle.tally_sessions.proofs.TrackAdvance.{IsWithin-all}
+use Rattle.tally_sessions.proofs.TrackedAdvance.{IsWithin-all}
 use Rattle.tally_sessions.proofs.LineSums.{lookup_of_member}
 use Rattle.tally_sessions.proofs.PendingSums.{ended_and_pending, lines_sum, now_sum-le, pending_sum-le}
 use Rattle.tally_sessions.proofs.track.Track.pending_seconds.Goals as goal
