@@ -55,7 +55,9 @@ last_app = with_common (with_rule (new_app (codes "last")) limit_rule)
 
 -- `ac`
 abbrev pub connect_app : App
-connect_app = with_common (new_app (codes "ac"))
+connect_app = with_common (with_rule (with_rule (new_app (codes "ac"))
+    (flag_rule (codes "by_day") 100))
+    (flag_rule (codes "by_user") 112))
 
 -- `sa`
 abbrev pub usage_app : App

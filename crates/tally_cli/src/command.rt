@@ -47,7 +47,9 @@ fn last<'a>(alloc: Global) -> Result<Command<'a>, AllocError>
 fn connect<'a>(alloc: Global) -> Result<Command<'a>, AllocError>
     ensures { IfOk result (IsCommand connect_app) }
 {
-    let command = named(alloc, "ac", "Sum connect time, as ac(1) does");
+    let command = named(alloc, "ac", "Sum connect time, as ac(1) does")
+        .arg(flag(alloc, "by_day", 'd', "Sum by day"))?
+        .arg(flag(alloc, "by_user", 'p', "Sum by user"))?;
     with_options(alloc, command)
 }
 

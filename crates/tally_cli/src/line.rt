@@ -3,7 +3,7 @@ ghost use Rattle.std.specs.Prelude.{◌≡◌, ◌≢◌, Some, ◌≤ℤ◌, po
 ghost use Rattle.clap.specs.Words.{found_of, kind_of, rows_of, subcommand_rows_of};
 ghost use Rattle.tally_cli.specs.Lines.{Answers, IsFaultOf, IsLineOf, Refuses, IsHelp, name_of};
 ghost use Rattle.tally_cli.specs.declared.job.Report.{Report};
-ghost use Rattle.tally_cli.specs.Jobs.{IsAnswered, IsRunnable};
+ghost use Rattle.tally_cli.specs.Jobs.{IsRunnable};
 ghost use Rattle.tally_cli.specs.declared.line.LineFault.TheVariants.{Memory};
 
 use crate::command;
@@ -118,15 +118,14 @@ fn usage(alloc: Global, text: &str) -> Result<Line, LineFault>
 fn report_of(name: &str, matches: &ArgMatches<'_>) -> Option<Report>
     ensures named { IfSome result (λ r. name.now ≡ name_of r) }
     ensures none { IfNone result ((r : Report) → name.now ≢ name_of r) }
-    ensures answered { IfSome result IsAnswered }
 {
     match name {
         "last" => Some(Report::Last {
             limit: matches.get_one::<u32>("limit"),
         }),
         "ac" => Some(Report::Connect {
-            by_day: false,
-            by_user: false,
+            by_day: matches.get_flag("by_day"),
+            by_user: matches.get_flag("by_user"),
         }),
         "sa" => Some(usage_report(matches)),
         _ => None,
@@ -134,8 +133,7 @@ fn report_of(name: &str, matches: &ArgMatches<'_>) -> Option<Report>
 }
 
 fn usage_report(matches: &ArgMatches<'_>) -> Report
-    ensures named { name_of result ≡ codes "sa" }
-    ensures answered { IsAnswered result }
+    ensures { name_of result ≡ codes "sa" }
 {
     let order = if matches.get_flag("by_calls") {
         Order::Calls
@@ -154,7 +152,6 @@ fn usage_report(matches: &ArgMatches<'_>) -> Report
 }
 
 fn job_from(report: Report, matches: &ArgMatches<'_>) -> Job
-    requires { IsAnswered report }
     ensures report { result.report ≡ report }
     ensures runnable { IsRunnable result }
 {

@@ -72,6 +72,6 @@ pub fn run<I: Input + Drop, O: Output>(
     if let Err(fault) = feed(alloc, &mut store, kind, &mut input) {
         return Err(RunFault::File { host: 0, fault });
     }
-    print_report(alloc, job, &store, out)?;
+    print_report(alloc, job, store, out)?;
     finish(out)
 }

@@ -1,5 +1,4 @@
 //! What words ask for, and what runs over small files write.
-ghost use Rattle.tally_cli.specs.Jobs.{IsAnswered};
 
 use crate::{Job, Line, LineFault, Report, RunFault, Source, job_of, run};
 use std::alloc::{AllocError, Global};
@@ -133,9 +132,7 @@ fn run_over(
     report: Report,
     kind: Kind,
     bytes: Vec<u8>,
-) -> (Result<(), RunFault>, Kept)
-    requires { IsAnswered report }
-{
+) -> (Result<(), RunFault>, Kept) {
     let source = Source {
         kind,
         input: Bytes::new(bytes),

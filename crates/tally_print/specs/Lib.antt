@@ -4,3 +4,4 @@ pub mod LastText
 pub mod Output
 pub mod Text
 pub mod UsageText
+pub mod AnswerText

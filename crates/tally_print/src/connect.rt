@@ -6,10 +6,10 @@ ghost use Rattle.tally_print.specs.ConnectText.{day_column, user_column, connect
 
 use crate::date::push_date;
 use crate::put::{new_page, put_all, turn_page};
-use crate::row::ConnectRow;
 use crate::text::{push_left, push_left_shown, push_right_hours};
 use crate::{Output, PrintFault};
 use std::alloc::{AllocError, Global};
+use tally_book::ConnectRow;
 use tally_records::Name;
 
 fn push_day(line: &mut Vec<u8>, day: Option<i32>) -> Result<(), AllocError>

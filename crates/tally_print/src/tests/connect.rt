@@ -3,9 +3,10 @@ ghost use Rattle.std.specs.Prelude.{◌≡◌, ◌≤◌, All, IfSome, None, len
 ghost use Rattle.tally_print.specs.Civil.{IsReportDay};
 
 use super::{is_printed, name};
-use crate::{ConnectRow, Kept, print_connect};
+use crate::{Kept, print_connect};
 use std::alloc::Global;
 use std::process::Abort;
+use tally_book::ConnectRow;
 
 /// Asserts that the rows and the total print this text.
 /// Where a growth is refused, the second try prints it.

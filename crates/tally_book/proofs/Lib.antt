@@ -1,0 +1,6 @@
+pub mod Growth
+pub mod Own
+pub mod Parts
+pub mod Permuted
+pub mod SameAnswers
+pub mod RowDays

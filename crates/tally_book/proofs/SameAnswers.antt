@@ -1,0 +1,61 @@
+-- An answer depends on each host's own records alone.
+use Rattle.std.proofs.Common.{Bool, false, refl, ap, filter, ℤ, ◌≡◌, ℕ, List, [], map, reverse, sym, true}
+use Rattle.std.specs.Prelude.{nat_lt, sum, slice_get, option_map}
+use Rattle.std.specs.List.{flat_map}
+use Rattle.std.specs.List.Sorted.{IsPermutation}
+use Rattle.tally_book.specs.declared.question.Question.{Question}
+use Rattle.tally_book.specs.declared.question.Question.TheVariants as questions
+use Rattle.tally_book.specs.declared.question.Answer.{Answer}
+use Rattle.tally_book.specs.declared.question.Answer.TheVariants as answers
+use Rattle.tally_records.specs.declared.process.ProcRecord.{ProcRecord}
+use Rattle.tally_sessions.specs.declared.entry.Entry.{Entry}
+use Rattle.tally_sessions.specs.Stays.{stays_from}
+use Rattle.tally_sessions.specs.Totals.{connect_of, every_host, limited, session_seconds, total_of, user_seconds}
+use Rattle.tally_sessions.specs.Hosts.{of_host}
+use Rattle.tally_sessions.specs.Rows.{day_time_cmp, day_user_time_cmp, day_users_of, days_of, user_time_cmp, user_times}
+use Rattle.tally_sessions.specs.Sums.{seconds_of_day, seconds_of_day_user, sessions_among, sessions_of}
+use Rattle.tally_records.specs.Sorted.{in_order}
+use Rattle.tally_usage.specs.declared.entry.ProcEntry.{ProcEntry}
+use Rattle.tally_usage.specs.Laws.{RecordOrderIsFree}
+use Rattle.tally_usage.specs.Totals.{records_of}
+use Rattle.tally_usage.specs.declared.order.Order.{Order}
+use Rattle.tally_book.specs.Answers.{answer_of, connect_rows, row_of_day, row_of_day_user, row_of_user}
+use Rattle.tally_book.specs.Deeds.{SameOfEachHost}
+use Rattle.tally_book.proofs.Permuted.{same_items}
+
+-- the same sessions
+same_sessions : (logins others : List Entry) → ((host : ℕ) → of_host host logins ≡ of_host host others) → sessions_of logins ≡ sessions_of others
+same_sessions logins others same = λ i. flat_map (λ host. sessions_among (stays_from host [] (same host i))) every_host
+
+same_connect : (logins others : List Entry) → ((host : ℕ) → of_host host logins ≡ of_host host others) → (user : List ℕ) → connect_of user logins ≡ connect_of user others
+same_connect logins others same user = λ i. sum (map (λ host. user_seconds user (stays_from host [] (same host i))) every_host)
+
+same_users : (logins others : List Entry) → ((host : ℕ) → of_host host logins ≡ of_host host others) → user_times logins ≡ user_times others
+same_users logins others same =
+    λ i. in_order user_time_cmp (filter (λ row. nat_lt 0 row.seconds) (map (λ s. record { user = s.user; seconds = same_connect logins others same s.user i }) (same_sessions logins others same i)))
+
+same_rows : (logins others : List Entry) → ((host : ℕ) → of_host host logins ≡ of_host host others) → (by_day by_user : Bool) (offset : ℤ) → connect_rows by_day by_user offset logins ≡ connect_rows by_day by_user offset others
+same_rows logins others same false false offset = refl
+same_rows logins others same false true offset = ap (map row_of_user) (same_users logins others same)
+same_rows logins others same true false offset =
+    let sessions = same_sessions logins others same in
+    λ i. map row_of_day (in_order day_time_cmp (filter (λ row. nat_lt 0 row.seconds) (map (λ day. record { day = day; seconds = seconds_of_day offset day (sessions i) }) (days_of offset (sessions i)))))
+same_rows logins others same true true offset =
+    let sessions = same_sessions logins others same in
+    λ i. map row_of_day_user (in_order day_user_time_cmp (filter (λ row. nat_lt 0 row.seconds) (map (λ k. record { day = k.day; user = k.user; seconds = seconds_of_day_user offset k.day k.user (sessions i) }) (day_users_of offset (sessions i)))))
+
+pub same_answer : RecordOrderIsFree → (logins others : List Entry) (procs rest : List ProcEntry) → SameOfEachHost logins others procs rest → (question : Question) → answer_of question logins procs ≡ answer_of question others rest
+unfolding answer_of
+same_answer free logins others procs rest same (questions.Last host limit) =
+    λ i. answers.Last (limited limit (reverse (stays_from host [] (same.same_logins host i)))) (option_map (λ r. r.time) (slice_get (same.same_logins host i) 0))
+same_answer free logins others procs rest same (questions.Connect by_day by_user offset) =
+    let total : total_of logins ≡ total_of others = λ i. sum (map (λ host. session_seconds (stays_from host [] (same.same_logins host i))) every_host) in
+    λ i. answers.Connect (same_rows logins others same.same_logins by_day by_user offset i) (total i)
+same_answer free logins others procs rest same (questions.Commands order reversed all) =
+    let mixed : IsPermutation (records_of procs) (records_of rest) = same_items (λ (e : ProcEntry). e.host) (λ (e : ProcEntry). e.item) procs rest same.same_procs in
+    let law = free order all reversed (records_of procs) (records_of rest) mixed in
+    λ i. answers.Commands (sym law.0 i) (sym law.2 i)
+same_answer free logins others procs rest same (questions.Users order reversed) =
+    let mixed : IsPermutation (records_of procs) (records_of rest) = same_items (λ (e : ProcEntry). e.host) (λ (e : ProcEntry). e.item) procs rest same.same_procs in
+    let law = free order true reversed (records_of procs) (records_of rest) mixed in
+    λ i. answers.Users (sym law.1 i) (sym law.2 i)

@@ -1,0 +1,81 @@
+-- The answer to a question, over the stored entries.
+use Rattle.std.specs.Prelude.{◌≡◌, ℕ, ℤ, ◌<◌, All, IfSome, List, [], Bool, true, false, Option, Some, None, map}
+use Rattle.tally_book.specs.declared.question.Question.{Question}
+use Rattle.tally_book.specs.declared.question.Question.TheVariants as questions
+use Rattle.tally_book.specs.declared.question.Answer.{Answer}
+use Rattle.tally_book.specs.declared.question.Answer.TheVariants as answers
+use Rattle.tally_book.specs.declared.question.ConnectRow.{ConnectRow}
+use Rattle.tally_sessions.specs.declared.entry.Entry.{Entry}
+use Rattle.tally_sessions.specs.declared.times.DayTime.{DayTime}
+use Rattle.tally_sessions.specs.declared.times.DayUserTime.{DayUserTime}
+use Rattle.tally_sessions.specs.declared.times.UserTime.{UserTime}
+use Rattle.tally_sessions.specs.Days.{IsDay, IsOffset}
+use Rattle.tally_sessions.specs.Rows.{day_times, day_user_times, user_times}
+use Rattle.tally_sessions.specs.Totals.{first_time, latest_stays, total_of}
+use Rattle.tally_usage.specs.declared.entry.ProcEntry.{ProcEntry}
+use Rattle.tally_usage.specs.Command.{command_rows}
+use Rattle.tally_usage.specs.Totals.{records_of}
+use Rattle.tally_usage.specs.Usage.{usage_of}
+use Rattle.tally_usage.specs.User.{user_rows}
+
+-- what a question needs: an offset within its range
+abbrev pub IsAskable : Question → Type 0
+IsAskable (questions.Last host limit) = Unit {0}
+IsAskable (questions.Connect by_day by_user offset) = IsOffset offset
+IsAskable (questions.Commands order reverse all) = Unit {0}
+IsAskable (questions.Users order reverse) = Unit {0}
+
+-- the host that a question names is one of so many
+abbrev pub NamesHostBelow : ℕ → Question → Type 0
+NamesHostBelow hosts (questions.Last host limit) = host < hosts
+NamesHostBelow hosts (questions.Connect by_day by_user offset) = Unit {0}
+NamesHostBelow hosts (questions.Commands order reverse all) = Unit {0}
+NamesHostBelow hosts (questions.Users order reverse) = Unit {0}
+
+-- the question is for the stays of this host
+abbrev pub NamesHost : Question → ℕ → Type 0
+NamesHost (questions.Last host limit) asked = host ≡ asked
+NamesHost (questions.Connect by_day by_user offset) asked = ⊥
+NamesHost (questions.Commands order reverse all) asked = ⊥
+NamesHost (questions.Users order reverse) asked = ⊥
+
+-- the row of a user's connect time
+abbrev pub row_of_user : UserTime → ConnectRow
+row_of_user time = record { day = None; user = Some time.user; seconds = time.seconds }
+
+-- the row of a day's connect time
+abbrev pub row_of_day : DayTime → ConnectRow
+row_of_day time = record { day = Some time.day; user = None; seconds = time.seconds }
+
+-- the row of a user's connect time on a day
+abbrev pub row_of_day_user : DayUserTime → ConnectRow
+row_of_day_user time = record { day = Some time.day; user = Some time.user; seconds = time.seconds }
+
+-- the rows of connect times: by day, by user, by both or none
+abbrev pub connect_rows : Bool → Bool → ℤ → List Entry → List ConnectRow
+connect_rows false false offset logins = []
+connect_rows false true offset logins = map row_of_user (user_times logins)
+connect_rows true false offset logins = map row_of_day (day_times offset logins)
+connect_rows true true offset logins = map row_of_day_user (day_user_times offset logins)
+
+-- a row's day is one that a time can have
+abbrev pub HasDay : ConnectRow → Type 0
+HasDay row = IfSome row.day IsDay
+
+-- the days of an answer's rows are days that a time can have
+abbrev pub HasDays : Answer → Type 0
+HasDays (answers.Last rows first) = Unit {0}
+HasDays (answers.Connect rows total) = All HasDay rows
+HasDays (answers.Commands rows total) = Unit {0}
+HasDays (answers.Users rows total) = Unit {0}
+
+-- the answer over the stored entries
+unfoldable pub answer_of : Question → List Entry → List ProcEntry → Answer
+answer_of (questions.Last host limit) logins procs =
+    answers.Last (latest_stays host limit logins) (first_time host logins)
+answer_of (questions.Connect by_day by_user offset) logins procs =
+    answers.Connect (connect_rows by_day by_user offset logins) (total_of logins)
+answer_of (questions.Commands order reverse all) logins procs =
+    answers.Commands (command_rows order all reverse (records_of procs)) (usage_of (records_of procs))
+answer_of (questions.Users order reverse) logins procs =
+    answers.Users (user_rows order reverse (records_of procs)) (usage_of (records_of procs))

@@ -1,0 +1,56 @@
+//! Answers of sessions and a summary to questions.
+ghost use Rattle.std.specs.Prelude.{◌≡◌, ◌≢◌, ◌<◌, IfOk, IfErr};
+ghost use Rattle.tally_book.specs.Answers.{answer_of, HasDays, IsAskable, NamesHostBelow};
+ghost use Rattle.tally_book.specs.Refusals.{IsUnanswered};
+
+use crate::connect::connect_rows;
+use crate::fault::AskFault;
+use crate::question::{Answer, Question};
+use std::alloc::Global;
+use tally_sessions::Sessions;
+use tally_usage::Summary;
+
+/// The answer to a question.
+#[tactic(auto, unfolding(crate::specs::Answers::answer_of))]
+pub(crate) fn answer(
+    alloc: Global,
+    sessions: &Sessions,
+    hosts: u32,
+    summary: &Summary,
+    question: &Question,
+) -> Result<Answer, AskFault>
+    requires hosts { hosts ≡ sessions.now.hosts }
+    requires askable { IsAskable question.now }
+    ensures value { IfOk result (λ a. a ≡ answer_of question.now sessions.now.entries summary.now.entries) }
+    ensures days { IfOk result HasDays }
+    ensures host { IfOk result (λ _. NamesHostBelow hosts question.now) }
+    ensures cause { IfErr result (IsUnanswered hosts question.now) }
+{
+    match *question {
+        Question::Last { host, .. } if host >= hosts => Err(AskFault::NoSuchHost(host)),
+        Question::Last { host, limit } => Ok(Answer::Last {
+            rows: sessions.stays(alloc, host, limit)?,
+            first: sessions.first(host),
+        }),
+        Question::Connect {
+            by_day,
+            by_user,
+            offset,
+        } => Ok(Answer::Connect {
+            rows: connect_rows(alloc, sessions, by_day, by_user, offset)?,
+            total: sessions.total(),
+        }),
+        Question::Commands {
+            order,
+            reverse,
+            all,
+        } => Ok(Answer::Commands {
+            rows: summary.by_command(alloc, order, all, reverse)?,
+            total: summary.total(),
+        }),
+        Question::Users { order, reverse } => Ok(Answer::Users {
+            rows: summary.by_user(alloc, order, reverse)?,
+            total: summary.total(),
+        }),
+    }
+}

@@ -1,0 +1,246 @@
+ghost use Rattle.std.specs.Prelude.{◌≡◌, ◌≢◌, ◌+◌, ◌++◌, ◌∷◌, vec_len, vec_capacity, is_ok, if◌then◌else◌, ◌<◌, ◌≤◌, [], length, IfOk, IfErr, OnErr, OnOk};
+ghost use Rattle.tally_book.specs.Answers.{answer_of, HasDays, IsAskable};
+ghost use Rattle.tally_book.specs.Books.{IsLegal, IsReceipt, IsServed, counts_of, empty, posted, asked};
+ghost use Rattle.tally_book.specs.Refusals.{HasRoom, IsPostRefusal, IsAskRefusal};
+ghost use Rattle.tally_sessions.specs.Hosts.{posted_by};
+ghost use Rattle.tally_usage.specs.Summary.{entries_of};
+ghost use Rattle.tally_records.specs.Records.{logins_in, procs_in, record_count};
+
+use crate::answering::answer;
+use crate::fault::{AskFault, PostFault};
+use crate::history::{Call, Counts, Receipt, Served};
+use crate::question::Question;
+use std::alloc::Global;
+use std::marker::Model;
+use tally_records::{Batch, Kind, Memory};
+use tally_sessions::{Entry, Sessions};
+use tally_usage::{ProcEntry, Summary};
+
+/// The most calls of a history.
+pub const CALL_LIMIT: usize = 65_536;
+
+/// The most login records of a book, and the most process records.
+const ENTRY_LIMIT: usize = 1_048_576;
+
+/// The stored records of some callers, and the history of the calls that stored them or asked
+/// reports of them. Each caller is one host.
+#[derive(Drop)]
+pub struct Book {
+    callers: u32,
+    sessions: Sessions,
+    summary: Summary,
+    calls: Vec<Call>,
+}
+
+impl Model for Book {
+    ghost use Rattle.tally_book.specs.Contents.{Contents};
+
+    ghost Value = { Contents };
+
+    ghost use Rattle.tally_book.specs.Kept.{contents_of, IsSound};
+
+    ghost view = { contents_of };
+
+    ghost invariant = { IsSound };
+}
+
+/// How many records are stored.
+fn counts(sessions: &Sessions, summary: &Summary) -> Counts
+    ensures logins { result.logins ≡ length sessions.now.entries }
+    ensures procs { result.procs ≡ length summary.now.entries }
+{
+    Counts {
+        logins: sessions.entries().len() as u64,
+        procs: summary.entries().len() as u64,
+    }
+}
+
+/// Sees that the batch and the call fit.
+fn check_room(stored: Counts, calls: usize, batch: &Batch) -> Result<(), PostFault>
+    requires few_logins { stored.logins ≤ ENTRY_LIMIT }
+    requires few_procs { stored.procs ≤ ENTRY_LIMIT }
+    requires few_calls { calls ≤ CALL_LIMIT }
+    ensures room { OnOk result (HasRoom stored batch.now) }
+    ensures calls { OnOk result (calls < CALL_LIMIT) }
+    ensures few { OnOk result (record_count batch.now ≤ 1024) }
+    ensures cause { IfErr result (IsPostRefusal stored calls batch.now) }
+    ensures told { IfErr result (λ f. f ≢ PostFault.Memory) }
+{
+    let count = batch.len() as u64;
+    match batch.kind() {
+        Kind::Login if stored.logins + count > ENTRY_LIMIT as u64 => {
+            return Err(PostFault::LoginsFull {
+                stored: stored.logins,
+            });
+        }
+        Kind::Proc if stored.procs + count > ENTRY_LIMIT as u64 => {
+            return Err(PostFault::ProcsFull {
+                stored: stored.procs,
+            });
+        }
+        Kind::Login | Kind::Proc => {}
+    }
+    if calls >= CALL_LIMIT {
+        return Err(PostFault::CallsFull);
+    }
+    Ok(())
+}
+
+/// Stores a batch as the host's, or nothing of it.
+fn store(
+    sessions: &mut Sessions,
+    summary: &mut Summary,
+    host: u32,
+    batch: &Batch,
+) -> Result<(), Memory>
+    requires host { host < sessions.old.hosts }
+    requires logins { length sessions.old.entries + length (logins_in batch.now) ≤ ENTRY_LIMIT }
+    requires procs { length summary.old.entries + length (procs_in batch.now) ≤ ENTRY_LIMIT }
+    ensures hosts { sessions.new.hosts ≡ sessions.old.hosts }
+    ensures logins { sessions.new.entries ≡ (if is_ok result then sessions.old.entries ++ posted_by host (logins_in batch.now) else sessions.old.entries) }
+    ensures procs { summary.new.entries ≡ (if is_ok result then summary.old.entries ++ entries_of host (procs_in batch.now) else summary.old.entries) }
+{
+    match batch.kind() {
+        Kind::Login => {
+            sessions.prepare(host, batch)?;
+            sessions.add(host, batch);
+        }
+        Kind::Proc => {
+            summary.prepare(host, batch)?;
+            summary.add(host, batch);
+        }
+    }
+    Ok(())
+}
+
+/// Adds a call to the history, and answers how many that makes.
+fn record(calls: &mut Vec<Call>, call: Call) -> u64
+    requires { vec_len calls.old < vec_capacity calls.old }
+    ensures history { calls.new.items ≡ calls.old.items ++ call ∷ [] }
+    ensures number { result ≡ vec_len calls.new }
+{
+    calls.push_reserved(call);
+    calls.len() as u64
+}
+
+impl Book {
+    /// An empty book of so many callers.
+    pub fn new(alloc: Global, callers: u32) -> Result<Book, Memory>
+        requires some { 1 ≤ callers }
+        requires few { callers ≤ 128 }
+        ensures empty { IfOk result (λ b. b ≡ empty callers) }
+        ensures legal { IfOk result IsLegal }
+    {
+        Ok(Book {
+            callers,
+            sessions: Sessions::new(alloc, callers)?,
+            summary: Summary::new(alloc),
+            calls: Vec::new(alloc),
+        })
+    }
+
+    /// How many callers it has.
+    pub fn callers(&self) -> u32
+        ensures { result ≡ self.now.callers }
+    {
+        self.callers
+    }
+
+    /// The stored login entries, in stored order.
+    pub fn logins(&self) -> &[Entry]
+        ensures { result.now ≡ self.now.logins }
+    {
+        self.sessions.entries()
+    }
+
+    /// The stored process entries, in stored order.
+    pub fn procs(&self) -> &[ProcEntry]
+        ensures { result.now ≡ self.now.procs }
+    {
+        self.summary.entries()
+    }
+
+    /// The answered calls, in order.
+    pub fn calls(&self) -> &[Call]
+        ensures { result.now ≡ self.now.calls }
+    {
+        self.calls.as_slice()
+    }
+
+    /// Hands out the entries and the calls.
+    pub fn into_parts(self) -> (Vec<Entry>, Vec<ProcEntry>, Vec<Call>)
+        ensures logins { result.0.items ≡ self.logins }
+        ensures procs { result.1.items ≡ self.procs }
+        ensures calls { result.2.items ≡ self.calls }
+    {
+        let Book {
+            callers: _,
+            sessions,
+            summary,
+            calls,
+        } = self;
+        (sessions.into_entries(), summary.into_entries(), calls)
+    }
+
+    /// Stores a batch as the caller's. Refused, nothing has changed: for records that do not fit,
+    /// for calls, then for memory.
+    pub fn post(&mut self, caller: u32, batch: &Batch) -> Result<Receipt, PostFault>
+        requires caller { caller < self.old.callers }
+        ensures stored { OnOk result (self.new ≡ posted self.old caller batch.now) }
+        ensures receipt { IfOk result (IsReceipt self.old self.new) }
+        ensures refused { OnErr result (self.new ≡ self.old) }
+        ensures cause { IfErr result (IsPostRefusal (counts_of self.old) (length self.old.calls) batch.now) }
+        ensures legal { IsLegal self.new }
+    {
+        let before = counts(&self.sessions, &self.summary);
+        check_room(before, self.calls.len(), batch)?;
+        self.calls.reserve(1)?;
+        store(&mut self.sessions, &mut self.summary, caller, batch)?;
+        let after = counts(&self.sessions, &self.summary);
+        let posted = Call::Posted {
+            caller,
+            before,
+            after,
+        };
+        let call = record(&mut self.calls, posted);
+        Ok(Receipt {
+            call,
+            before,
+            after,
+        })
+    }
+
+    /// Answers a question over all that is stored. Refused, nothing has changed: for calls, for a
+    /// host that no caller has, then for memory.
+    pub fn ask(
+        &mut self,
+        alloc: Global,
+        caller: u32,
+        question: &Question,
+    ) -> Result<Served, AskFault>
+        requires caller { caller < self.old.callers }
+        requires askable { IsAskable question.now }
+        ensures stored { OnOk result (self.new ≡ asked self.old caller question.now) }
+        ensures served { IfOk result (IsServed self.old self.new question.now) }
+        ensures days { IfOk result (λ r. HasDays r.answer) }
+        ensures refused { OnErr result (self.new ≡ self.old) }
+        ensures cause { IfErr result (IsAskRefusal self.old.callers (length self.old.calls) question.now) }
+        ensures legal { IsLegal self.new }
+    {
+        if self.calls.len() >= CALL_LIMIT {
+            return Err(AskFault::CallsFull);
+        }
+        let at = counts(&self.sessions, &self.summary);
+        let answer = answer(alloc, &self.sessions, self.callers, &self.summary, question)?;
+        let kept = answer.try_copy(alloc)?;
+        self.calls.reserve(1)?;
+        let asked = Call::Asked {
+            caller,
+            at,
+            question: *question,
+            answer: kept,
+        };
+        let call = record(&mut self.calls, asked);
+        Ok(Served { call, at, answer })
+    }
+}

@@ -1,0 +1,77 @@
+//! The rows of connect times.
+ghost use Rattle.std.specs.Prelude.{◌≡◌, All, IfOk, map};
+ghost use Rattle.tally_book.specs.Answers.{HasDay, connect_rows, row_of_day, row_of_day_user, row_of_user};
+ghost use Rattle.tally_sessions.specs.Days.{IsDay, IsOffset};
+
+use crate::question::ConnectRow;
+use std::alloc::{AllocError, Global};
+use tally_records::{List, Memory};
+use tally_sessions::{DayTime, DayUserTime, Sessions, UserTime};
+
+fn user_rows(alloc: Global, times: &[UserTime]) -> Result<Vec<ConnectRow>, AllocError>
+    ensures { IfOk result (λ rows. rows.items ≡ map row_of_user times.now) }
+{
+    times
+        .iter()
+        .map(|time| ConnectRow {
+            day: None,
+            user: Some(time.user),
+            seconds: time.seconds,
+        })
+        .collect(alloc)
+}
+
+fn day_rows(alloc: Global, times: &[DayTime]) -> Result<Vec<ConnectRow>, AllocError>
+    ensures { IfOk result (λ rows. rows.items ≡ map row_of_day times.now) }
+{
+    times
+        .iter()
+        .map(|time| ConnectRow {
+            day: Some(time.day),
+            user: None,
+            seconds: time.seconds,
+        })
+        .collect(alloc)
+}
+
+fn day_user_rows(alloc: Global, times: &[DayUserTime]) -> Result<Vec<ConnectRow>, AllocError>
+    ensures { IfOk result (λ rows. rows.items ≡ map row_of_day_user times.now) }
+{
+    times
+        .iter()
+        .map(|time| ConnectRow {
+            day: Some(time.day),
+            user: Some(time.user),
+            seconds: time.seconds,
+        })
+        .collect(alloc)
+}
+
+/// The rows of connect times by day, by user, by both or none.
+pub(crate) fn connect_rows(
+    alloc: Global,
+    sessions: &Sessions,
+    by_day: bool,
+    by_user: bool,
+    offset: i32,
+) -> Result<List<ConnectRow>, Memory>
+    requires { IsOffset offset }
+    ensures value { IfOk result (λ rows. rows ≡ connect_rows by_day by_user offset sessions.now.entries) }
+    ensures days { IfOk result (All HasDay) }
+{
+    match (by_day, by_user) {
+        (false, false) => Ok(List::new(alloc)),
+        (false, true) => {
+            let times = sessions.connect_by_user(alloc)?;
+            Ok(List::from_vec(user_rows(alloc, times.as_slice())?))
+        }
+        (true, false) => {
+            let times = sessions.connect_by_day(alloc, offset)?;
+            Ok(List::from_vec(day_rows(alloc, times.as_slice())?))
+        }
+        (true, true) => {
+            let times = sessions.connect_by_day_user(alloc, offset)?;
+            Ok(List::from_vec(day_user_rows(alloc, times.as_slice())?))
+        }
+    }
+}

@@ -1,0 +1,19 @@
+//! A book of stored records: sessions, summaries and the history of answered calls in one object.
+#![tactic(auto)]
+
+mod answering;
+mod book;
+mod connect;
+mod fault;
+mod history;
+mod laws;
+mod question;
+
+pub use book::{Book, CALL_LIMIT};
+pub use fault::{AskFault, PostFault};
+pub use history::{Call, Counts, Receipt, Served};
+pub use laws::{entries_are_posts, host_order_is_enough};
+pub use question::{Answer, ConnectRow, Question};
+
+#[cfg(test)]
+mod tests;
