@@ -1,5 +1,5 @@
 //! Sums of seconds over the days of sessions.
-ghost use Rattle.std.specs.Prelude.{◌≡◌, ◌≤◌, ◌<◌, ◌+◌, ◌^◌, ℕ, ℤ, ◌⊎◌, List as Items, OnOk, IfOk, length, bytes_eq, if◌then◌else◌};
+ghost use Rattle.std.specs.Prelude.{◌≡◌, ◌≤◌, ◌<◌, ◌+◌, ◌^◌, ℤ, OnOk, IfOk, length};
 ghost use Rattle.std.specs.Ordering.{int_cmp};
 ghost use Rattle.tally_sessions.specs.Days as days;
 ghost use Rattle.tally_sessions.specs.Sums.{seconds_of_day, sum_at};

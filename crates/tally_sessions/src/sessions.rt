@@ -1,9 +1,9 @@
-ghost use Rattle.std.specs.Prelude.{◌≡◌, ◌≤◌, ◌<◌, ◌^◌, ◌+◌, ◌++◌, [], ℕ, Option, All, Some, None, OnOk, OnErr, IfOk, length, vec_len};
-ghost use Rattle.tally_records.specs.Records.{Records, logins_in, record_count, IsLogins};
+ghost use Rattle.std.specs.Prelude.{◌≡◌, ◌≤◌, ◌<◌, ◌^◌, ◌+◌, ◌++◌, [], Option, All, Some, None, OnOk, OnErr, IfOk, length, vec_len};
+ghost use Rattle.tally_records.specs.Records.{logins_in, record_count, IsLogins};
 ghost use Rattle.tally_sessions.specs.Hosts.{posted_by};
 ghost use Rattle.tally_sessions.specs.Totals.{total_of, connect_of, latest_stays, first_time};
 ghost use Rattle.tally_sessions.specs.Kept.{AreNewTracks};
-ghost use Rattle.tally_sessions.specs.State.{State, Prepared};
+ghost use Rattle.tally_sessions.specs.State.{State};
 
 use crate::entry::{Entry, Stay};
 use crate::track::Track;

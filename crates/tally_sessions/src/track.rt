@@ -1,5 +1,5 @@
 //! The stays and the clock of one host, kept forward record by record.
-ghost use Rattle.std.specs.Prelude.{◌≡◌, ◌≤◌, ◌<◌, ◌+◌, ◌-◌, ◌*◌, ◌^◌, ◌++◌, ℕ, List as Items, Option, Some, OnOk, length, unwrap_or, vec_len, ◌+ℤ◌};
+ghost use Rattle.std.specs.Prelude.{◌≡◌, ◌≤◌, ◌<◌, ◌+◌, ◌-◌, ◌++◌, ℕ, List as Items, Option, Some, OnOk, length, unwrap_or, vec_len, ◌+ℤ◌};
 ghost use Rattle.tally_records.specs.Event.{event_of};
 ghost use Rattle.tally_records.specs.declared.login.Event.TheVariants.{Login};
 ghost use Rattle.tally_sessions.specs.Clock.{shift_at};
