@@ -5,7 +5,7 @@ use Rattle.std.proofs.lemmas.List.{append-nil, get_or_default, get_or-set_same, 
 use Rattle.std.proofs.lemmas.List.Sums.{sum_by-append, sum_by-set, sum_by-le}
 use Rattle.std.specs.Map.{lookup}
 use Rattle.std.specs.Option.{option_map_or}
-use Rattle.std.specs.Prelude.{◌&&◌, bytes_eq, sum_by}
+use Rattle.std.specs.Prelude.{bytes_eq, sum_by}
 use Rattle.tally_records.specs.declared.login.LoginRecord.{LoginRecord}
 use Rattle.tally_records.specs.declared.login.Event.{Event}
 use Rattle.tally_records.specs.declared.login.Event.TheVariants.{Login, Logout, Boot, Down, OldTime, NewTime, Nothing}
@@ -16,7 +16,7 @@ use Rattle.tally_sessions.specs.declared.ending.Ending.{Ending}
 use Rattle.tally_sessions.specs.declared.ending.TrackedStay.{TrackedStay}
 use Rattle.tally_sessions.specs.Hosts.{entry_at}
 use Rattle.tally_sessions.specs.Stays.{is_login_event, starts_stay}
-use Rattle.tally_sessions.specs.Track.{no_stay, stay_at, start_of, counts, covers, ended_length, ended_sum, sum_of, started, HasSums, IsEntered, LengthFits}
+use Rattle.tally_sessions.specs.Track.{no_stay, stay_at, start_of, counts, ended_length, ended_sum, sum_of, started, HasSums, IsEntered, LengthFits}
 use Rattle.tally_sessions.proofs.Places.{each-push}
 
 -- one stay is replaced by its next state

@@ -1,23 +1,16 @@
 -- The stays of a host as they stand now, from its track.
-use Rattle.std.proofs.Common.{◌≡◌, ℕ, ◌+◌, ◌<◌, ◌≤◌, List, [], ◌∷◌, ◌++◌, map, filter, not, length, get_or, take, drop, reverse, Bool, true, false, cond, Option, Some, None, ℤ, pos, refl, sym, ap, ◌∙◌, arith}
-use Rattle.std.proofs.lemmas.Bool.{false≢true}
-use Rattle.std.proofs.lemmas.List.{take_more, take_all, map-append, length-map, at_drop_more, reverse-append, take-append-le, take-append-drop, get_or-map}
-use Rattle.std.proofs.lemmas.List.Elements.{filter-append}
-use Rattle.std.proofs.lemmas.List.Sums.{sum_by-append}
+use Rattle.std.proofs.Common.{◌≡◌, ℕ, ◌+◌, ◌<◌, ◌≤◌, List, [], ◌∷◌, ◌++◌, map, length, get_or, take, drop, reverse, Option, Some, None, ℤ, pos, refl, sym, ap, ◌∙◌, arith}
+use Rattle.std.proofs.lemmas.List.{take_all, length-map, at_drop_more, reverse-append, take-append-le, take-append-drop, get_or-map}
 use Rattle.std.proofs.Math.Seq.{take-length}
-use Rattle.std.specs.Prelude.{◌&&◌, bytes_eq, sum_by}
-use Rattle.tally_records.specs.declared.login.Event.{Event}
-use Rattle.tally_records.specs.declared.login.Event.TheVariants.{Login, Logout, Boot, Down, OldTime, NewTime, Nothing}
-use Rattle.tally_records.specs.Event.{event_of}
 use Rattle.tally_sessions.specs.declared.entry.Entry.{Entry}
 use Rattle.tally_sessions.specs.declared.entry.Stay.{Stay}
 use Rattle.tally_sessions.specs.declared.ending.Ending.{Ending}
 use Rattle.tally_sessions.specs.declared.ending.TrackedStay.{TrackedStay}
 use Rattle.tally_sessions.specs.declared.track.Track.{Track}
 use Rattle.tally_sessions.specs.Hosts.{of_host}
-use Rattle.tally_sessions.specs.Stays.{is_boot_event, is_login_event, last_time, starts_stay}
-use Rattle.tally_sessions.specs.Totals.{session_seconds, stays_of, user_seconds}
-use Rattle.tally_sessions.specs.Track.{start_of, ending_now, stay_now, tracked_in, IsTrack}
+use Rattle.tally_sessions.specs.Stays.{last_time}
+use Rattle.tally_sessions.specs.Totals.{stays_of}
+use Rattle.tally_sessions.specs.Track.{stay_now, tracked_in, IsTrack}
 use Rattle.tally_sessions.specs.Tracking.{clock, completed, tracked_from}
 use Rattle.tally_sessions.proofs.Forward.{stays_from-tracked}
 use Rattle.tally_sessions.proofs.StayCounts.{length-stays_from}

@@ -1,13 +1,9 @@
 -- The track of a host, behind one record more.
-use Rattle.std.proofs.Common.{◌≡◌, ◌≢◌, ◌⊎◌, inl, inr, ℕ, ◌+◌, ◌<◌, ◌≤◌, ◌&&◌, List, [], ◌∷◌, ◌++◌, map, length, get_or, take, Bool, true, false, cond, Option, Some, None, IsSome, unwrap_or, ℤ, pos, ◌+ℤ◌, refl, sym, ap, ◌∙◌, arith, subst, length-append}
-use Rattle.std.proofs.lemmas.Int.{ints}
-use Rattle.std.proofs.lemmas.Bool.{false≢true, cases_eq}
-use Rattle.std.proofs.lemmas.List.{length-map, get_or-map, get_or_append_left, map-append, with_items_is}
-use Rattle.std.proofs.Math.Seq.{get_or-append_seam}
-use Rattle.std.proofs.lemmas.Slice.Eq.{bytes_eq-Decides}
-use Rattle.std.specs.Map.{lookup}
+use Rattle.std.proofs.Common.{◌≡◌, ◌⊎◌, inl, inr, ℕ, ◌+◌, ◌<◌, ◌≤◌, List, [], ◌∷◌, ◌++◌, map, length, take, Bool, true, false, cond, Option, Some, None, unwrap_or, ℤ, pos, ◌+ℤ◌, refl, sym, ap, ◌∙◌, arith, subst, length-append}
+use Rattle.std.proofs.lemmas.Bool.{false≢true}
+use Rattle.std.proofs.lemmas.List.{length-map, map-append, with_items_is}
 use Rattle.std.specs.Option.{option_map}
-use Rattle.std.specs.Prelude.{bytes_eq, slice_get}
+use Rattle.std.specs.Prelude.{slice_get}
 use Rattle.std.specs.Vec.{with_items, vec_len, vec_capacity}
 use Rattle.std.specs.HashMap.{spare}
 use Rattle.tally_records.specs.declared.login.LoginRecord.{LoginRecord}
@@ -20,15 +16,15 @@ use Rattle.tally_sessions.specs.declared.ending.TrackedStay.{TrackedStay}
 use Rattle.tally_sessions.specs.declared.track.Track.{Track}
 use Rattle.tally_sessions.specs.Clock.{pending_old_time, shift_at}
 use Rattle.tally_sessions.specs.Hosts.{of_host, entry_at}
-use Rattle.tally_sessions.specs.Stays.{ends_event, ends_stay, starts_stay, is_login_event, last_time}
-use Rattle.tally_sessions.specs.Track.{no_stay, stay_at, start_of, behind, tracked_in, IsWithin, IsTracked, IsOnLine, AreTracked, IsTrack, started, LeadsTo, ends_every_stay, sum_of, HasRoom, HasSums, IsEntered}
+use Rattle.tally_sessions.specs.Stays.{ends_stay, starts_stay, last_time}
+use Rattle.tally_sessions.specs.Track.{start_of, behind, tracked_in, IsWithin, AreTracked, IsTrack, started, LeadsTo, ends_every_stay, sum_of, HasRoom, HasSums, IsEntered}
 use Rattle.tally_sessions.specs.Tracking.{Tracked, pending_at, clock, tracked_from, advanced, fresh}
 use Rattle.tally_sessions.proofs.Clocks.{pending_old_time-push}
 use Rattle.tally_sessions.proofs.EndedSteps.{HasSums-start}
 use Rattle.tally_sessions.proofs.Forward.{clock-push, last_time-push, tracked_from-push}
 use Rattle.tally_sessions.proofs.HostSteps.{of_host-take_same}
-use Rattle.tally_sessions.proofs.TrackSteps.{tracked_in-behind, behind-ended, behind-ends, behind-pending, ends_all, some_inj}
-use Rattle.tally_sessions.proofs.TrackedAdvance.{IsWithin-all, IsWithin-more, AreTracked-advance, Sweeps}
+use Rattle.tally_sessions.proofs.TrackSteps.{tracked_in-behind, ends_all}
+use Rattle.tally_sessions.proofs.TrackedAdvance.{AreTracked-advance, Sweeps}
 
 map-tracked_in : (host : ℕ) (es : List Entry) (now : ℤ) (x : LoginRecord) (ts : List TrackedStay) → map (tracked_in host es) (map (behind es now x) ts) ≡ map (advanced host now x) (map (tracked_in host es) ts)
 map-tracked_in host es now x [] = refl

@@ -1,33 +1,22 @@
 -- The tracked stays of a host and the table of its lines, behind one record more.
-use Rattle.std.proofs.Common.{◌≡◌, ◌≢◌, ◌⊎◌, inl, inr, ℕ, ◌+◌, ◌<◌, ◌≤◌, ◌&&◌, List, [], ◌∷◌, ◌++◌, map, length, get_or, take, Bool, true, false, cond, Option, Some, None, IsSome, unwrap_or, ℤ, pos, ◌+ℤ◌, refl, sym, ap, ◌∙◌, arith, subst, length-append}
+use Rattle.std.proofs.Common.{◌≡◌, ◌≢◌, ◌⊎◌, inl, inr, ℕ, ◌+◌, ◌<◌, ◌≤◌, ◌&&◌, List, [], ◌∷◌, ◌++◌, map, length, get_or, Bool, true, false, cond, Some, None, IsSome, ℤ, refl, sym, ap, ◌∙◌, arith, subst, length-append}
 use Rattle.std.proofs.lemmas.Int.{ints}
 use Rattle.std.proofs.lemmas.Bool.{false≢true, cases_eq}
-use Rattle.std.proofs.lemmas.List.{length-map, get_or-map, get_or_append_left, map-append, with_items_is}
+use Rattle.std.proofs.lemmas.List.{length-map, get_or-map, get_or_append_left}
 use Rattle.std.proofs.Math.Seq.{get_or-append_seam}
 use Rattle.std.proofs.lemmas.Slice.Eq.{bytes_eq-Decides}
 use Rattle.std.specs.Map.{lookup}
-use Rattle.std.specs.Option.{option_map}
-use Rattle.std.specs.Prelude.{bytes_eq, slice_get}
-use Rattle.std.specs.Vec.{with_items, vec_len, vec_capacity}
-use Rattle.std.specs.HashMap.{spare}
+use Rattle.std.specs.Prelude.{bytes_eq}
 use Rattle.tally_records.specs.declared.login.LoginRecord.{LoginRecord}
 use Rattle.tally_records.specs.declared.login.Event.{Event}
 use Rattle.tally_records.specs.declared.login.Event.TheVariants.{Login, Logout, Boot, Down, OldTime, NewTime, Nothing}
 use Rattle.tally_records.specs.Event.{event_of}
-use Rattle.tally_sessions.specs.declared.ended.EndedSums.{EndedSums}
 use Rattle.tally_sessions.specs.declared.entry.Entry.{Entry}
 use Rattle.tally_sessions.specs.declared.ending.TrackedStay.{TrackedStay}
-use Rattle.tally_sessions.specs.declared.track.Track.{Track}
-use Rattle.tally_sessions.specs.Clock.{pending_old_time, shift_at}
-use Rattle.tally_sessions.specs.Hosts.{of_host, entry_at}
-use Rattle.tally_sessions.specs.Stays.{ends_event, ends_stay, starts_stay, is_login_event, last_time}
-use Rattle.tally_sessions.specs.Track.{no_stay, stay_at, start_of, behind, tracked_in, IsWithin, IsTracked, IsOnLine, AreTracked, IsTrack, started, LeadsTo, ends_every_stay, sum_of, HasRoom, HasSums, IsEntered}
-use Rattle.tally_sessions.specs.Tracking.{Tracked, pending_at, clock, tracked_from, advanced, fresh}
-use Rattle.tally_sessions.proofs.Clocks.{pending_old_time-push}
-use Rattle.tally_sessions.proofs.EndedSteps.{HasSums-start}
-use Rattle.tally_sessions.proofs.Forward.{clock-push, last_time-push, tracked_from-push}
-use Rattle.tally_sessions.proofs.HostSteps.{of_host-take_same}
-use Rattle.tally_sessions.proofs.TrackSteps.{tracked_in-behind, behind-ended, behind-ends, behind-pending, ends_all, some_inj}
+use Rattle.tally_sessions.specs.Hosts.{entry_at}
+use Rattle.tally_sessions.specs.Stays.{ends_event, ends_stay, starts_stay, is_login_event}
+use Rattle.tally_sessions.specs.Track.{no_stay, stay_at, start_of, behind, IsWithin, IsTracked, IsOnLine, AreTracked, started, LeadsTo}
+use Rattle.tally_sessions.proofs.TrackSteps.{behind-ended, behind-ends, behind-pending, some_inj}
 
 pub IsWithin-more : (n : ℕ) (z : ℤ) → IsWithin n z → IsWithin (n + 1) z
 IsWithin-more n z h = let a = h.low in let b = h.high in record { low = omega (arith, ints); high = omega (arith, ints) }

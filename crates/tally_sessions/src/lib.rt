@@ -15,7 +15,7 @@ mod sums;
 mod times;
 mod track;
 
-pub use crate::days::days_add_up;
+pub use crate::days::{days_add_up, days_hold_their_times};
 pub use crate::entry::{End, Entry, Stay};
 pub use crate::sessions::{ENTRY_LIMIT, HOST_LIMIT, Sessions};
 pub use crate::times::{DayTime, DayUserTime, UserTime};
