@@ -1,9 +1,10 @@
 -- What the steps of a summary keep.
-use Rattle.std.proofs.Common.{◌≡◌, ℕ, ◌+◌, ◌-◌, ◌<◌, ◌≤◌, ◌^◌, Bool, true, List, [], ◌∷◌, ◌++◌, length, take, drop, get_or, All, Option, None, Some, is_some, unwrap_or, refl, sym, ap, subst, ◌∙◌, arith, append_assoc, length-append, length-drop}
+use Rattle.std.proofs.Common.{◌≡◌, ℕ, ◌+◌, ◌<◌, ◌≤◌, ◌^◌, Bool, true, List, [], ◌∷◌, ◌++◌, length, take, drop, get_or, All, Option, None, Some, is_some, unwrap_or, refl, sym, ap, subst, ◌∙◌, arith, append_assoc, length-append, length-drop}
 use Rattle.std.proofs.lemmas.List.{drop-append-le, length-map, map-append, take-append-le, take_all, take_more, take-take, take-map, length-take}
 use Rattle.std.proofs.Math.ListN.{drop_of_length-le}
 use Rattle.std.proofs.lemmas.List.Elements.{All-append, All-head, All-map, All-tail, All-take}
 use Rattle.std.proofs.lemmas.Bool.{false≢true}
+use Rattle.std.specs.HashMap.{spare}
 use Rattle.std.specs.Option.{option_map}
 use Rattle.std.specs.Prelude.{MatchOption, nat_eq}
 use Rattle.tally_records.specs.ProcRecord.{IsBounded}
@@ -39,7 +40,7 @@ back_of n xs zs within =
 pub keeps : (s t : Inside) (zs : List ProcEntry) → IsSound s → t.stored ≡ s.stored → t.total ≡ s.total → t.entries.items ≡ take s.stored s.entries.items ++ zs → length zs + s.stored ≤ 2 ^ 20 → All IsBounded (records_of zs)
     → ((rs : List ProcRecord) → HasTotals is_same_command command_of s.commands.entries rs → HasTotals is_same_command command_of t.commands.entries rs)
     → ((rs : List ProcRecord) → HasTotals nat_eq (λ r. r.uid) s.users.entries rs → HasTotals nat_eq (λ r. r.uid) t.users.entries rs)
-    → MatchOption t.ready (zs ≡ []) (λ host. All (CanCount t host) zs) → IsSound t
+    → MatchOption t.ready (zs ≡ []) (λ host. CanCount t host zs) → IsSound t
 keeps s t zs sound stored total items few bounded commands users waiting =
     let front : stored_of t ≡ stored_of s = (λ i. take (stored i) (items i)) ∙ front_of s.stored s.entries.items zs sound.stored in
     let back : waiting_of t ≡ zs = (λ i. drop (stored i) (items i)) ∙ back_of s.stored s.entries.items zs sound.stored in
@@ -53,7 +54,7 @@ keeps s t zs sound stored total items few bounded commands users waiting =
       total = total ∙ sound.total ∙ ap (λ es. usage_of (records_of es)) (sym front);
       commands = commands (records_of (stored_of t)) (subst (λ es. HasTotals is_same_command command_of s.commands.entries (records_of es)) (sym front) sound.commands);
       users = users (records_of (stored_of t)) (subst (λ es. HasTotals nat_eq (λ r. r.uid) s.users.entries (records_of es)) (sym front) sound.users);
-      waiting = subst (λ es. MatchOption t.ready (es ≡ []) (λ host. All (CanCount t host) es)) (sym back) waiting;
+      waiting = subst (λ es. MatchOption t.ready (es ≡ []) (λ host. CanCount t host es)) (sym back) waiting;
     }
 
 -- the records of placed entries
@@ -71,10 +72,6 @@ same_totals eq key_of es fs same rs h = subst (λ l. HasTotals eq key_of l rs) (
 pub length-entries_of : (host : ℕ) (rs : List ProcRecord) → length (entries_of host rs) ≡ length rs
 length-entries_of host rs = length-map rs (λ (r : ProcRecord). let e : ProcEntry = record { host = host; item = r } in e)
 
--- all from n on, as a range gives it
-pub tail_of : {X : Type 0} (n : ℕ) (xs : List X) → take (length xs - n) (drop n xs) ≡ drop n xs
-tail_of n xs = take_all (length xs - n) (drop n xs) (omega (arith, length-drop n xs))
-
 -- the stored records are bounded, and no more than a summary holds
 pub stored-bounded : (s : Inside) → IsSound s → All IsBounded (records_of (stored_of s))
 stored-bounded s sound = subst (All IsBounded) (take-map (λ (e : ProcEntry). e.item) s.stored s.entries.items) (All-take IsBounded s.stored (records_of s.entries.items) sound.bounded)
@@ -87,9 +84,9 @@ pub empty-HasTotals : {K : Type 0} (eq : K → K → Bool) (key_of : ProcRecord 
 empty-HasTotals eq key_of = record { at = λ k. sym usage_of-none }
 
 -- where nothing waits, all that waits can be counted
-none_waiting : (s : Inside) (ready : Option ℕ) → waiting_of s ≡ [] → MatchOption ready (waiting_of s ≡ []) (λ host. All (CanCount s host) (waiting_of s))
+none_waiting : (s : Inside) (ready : Option ℕ) → waiting_of s ≡ [] → MatchOption ready (waiting_of s ≡ []) (λ host. CanCount s host (waiting_of s))
 none_waiting s None none = none
-none_waiting s (Some host) none = subst (All (CanCount s host)) (sym none) (λ k d l. absurd (omega (arith, l)))
+none_waiting s (Some host) none = subst (CanCount s host) (sym none) (record { of_host = λ k d l. absurd (omega (arith, l)); commands = omega arith; users = omega arith })
 
 -- fields with nothing in them are sound
 pub empty-IsSound : (s : Inside) → s.entries.items ≡ [] → s.stored ≡ 0 → s.commands.entries ≡ [] → s.users.entries ≡ [] → s.total ≡ no_usage → IsSound s
@@ -119,12 +116,20 @@ same_host host (e ∷ es) all =
 pub waiting_is : (s : Inside) (host : ℕ) (batch : List ProcRecord) → IsSound s → (contents_of s).ready ≡ Some (record { host = host; records = batch }) → waiting_of s ≡ entries_of host batch
 waiting_is s host batch sound ready = by s.ready sound.waiting ready
   where
-    by : (o : Option ℕ) → MatchOption o (waiting_of s ≡ []) (λ h. All (CanCount s h) (waiting_of s)) → option_map (λ h. let p : Prepared = record { host = h; records = records_of (waiting_of s) } in p) o ≡ Some (record { host = host; records = batch }) → waiting_of s ≡ entries_of host batch
+    by : (o : Option ℕ) → MatchOption o (waiting_of s ≡ []) (λ h. CanCount s h (waiting_of s)) → option_map (λ h. let p : Prepared = record { host = h; records = records_of (waiting_of s) } in p) o ≡ Some (record { host = host; records = batch }) → waiting_of s ≡ entries_of host batch
     by None none e = absurd (let f : is_some (option_map (λ (h : ℕ). let p : Prepared = record { host = h; records = records_of (waiting_of s) } in p) None) ≡ true = ap is_some e in false≢true f)
-    by (Some h) all e =
+    by (Some h) can e =
         let p : Prepared = record { host = h; records = records_of (waiting_of s) } in
         let same : p ≡ record { host = host; records = batch } = ap (λ o. unwrap_or o p) e in
-        same_host h (waiting_of s) (λ k d l. (all k d l).of_host) ∙ (λ i. entries_of (same i).host (same i).records)
+        same_host h (waiting_of s) can.of_host ∙ (λ i. entries_of (same i).host (same i).records)
+
+-- both tables have room for the groups of the batch that the summary is ready for
+pub tables_have_room : (s : Inside) (batch : Prepared) → IsSound s → (contents_of s).ready ≡ Some batch → (length s.entries.items ≤ spare s.commands + s.stored) × (length s.entries.items ≤ spare s.users + s.stored)
+tables_have_room s batch sound ready = by s.ready sound.waiting ready
+  where
+    by : (o : Option ℕ) → MatchOption o (waiting_of s ≡ []) (λ h. CanCount s h (waiting_of s)) → option_map (λ h. let p : Prepared = record { host = h; records = records_of (waiting_of s) } in p) o ≡ Some batch → (length s.entries.items ≤ spare s.commands + s.stored) × (length s.entries.items ≤ spare s.users + s.stored)
+    by None none e = absurd (let f : is_some (option_map (λ (h : ℕ). let p : Prepared = record { host = h; records = records_of (waiting_of s) } in p) None) ≡ true = ap is_some e in false≢true f)
+    by (Some h) can e = (omega (arith, can.commands, length-drop s.stored s.entries.items), omega (arith, can.users, length-drop s.stored s.entries.items))
 
 -- once all entries are counted, they are the stored ones
 pub all_counted : (s t : Inside) → IsSound s → t.entries.items ≡ s.entries.items → t.stored ≡ length s.entries.items → t.ready ≡ None → t.total ≡ usage_of (records_of s.entries.items)
@@ -139,5 +144,5 @@ all_counted s t sound items stored ready total commands users =
       total = total ∙ ap (λ es. usage_of (records_of es)) (sym front);
       commands = subst (λ es. HasTotals is_same_command command_of t.commands.entries (records_of es)) (sym front) commands;
       users = subst (λ es. HasTotals nat_eq (λ r. r.uid) t.users.entries (records_of es)) (sym front) users;
-      waiting = subst (λ o. MatchOption o (waiting_of t ≡ []) (λ host. All (CanCount t host) (waiting_of t))) (sym ready) back;
+      waiting = subst (λ o. MatchOption o (waiting_of t ≡ []) (λ host. CanCount t host (waiting_of t))) (sym ready) back;
     }

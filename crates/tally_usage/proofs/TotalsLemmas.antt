@@ -1,8 +1,8 @@
--- What keeps a table of groups right: a key that is entered, and a record that is counted.
-use Rattle.std.proofs.Common.{◌≡◌, ℕ, ◌+◌, ◌-◌, ◌<◌, ◌≤◌, ◌^◌, Bool, true, false, cond, List, [], ◌∷◌, ◌++◌, length, take, drop, get_or, All, Option, None, Some, unwrap_or, IsSome, refl, sym, ap, subst, ◌∙◌, arith, length-drop, length-take-le}
+-- What keeps a table of groups right: a record that is counted in its group, or as the first of its group.
+use Rattle.std.proofs.Common.{◌≡◌, ℕ, ◌+◌, ◌<◌, ◌≤◌, ◌^◌, Bool, true, false, cond, List, [], ◌∷◌, ◌++◌, length, take, get_or, All, Option, Some, unwrap_or, refl, sym, ap, subst, ◌∙◌, arith, length-take-le}
 use Rattle.std.specs.Cmp.{IsEquivalence}
 use Rattle.std.specs.Map.{lookup}
-use Rattle.std.proofs.lemmas.List.{take_more, take-map, map-append, length-map, get_or-drop, get_or-map}
+use Rattle.std.proofs.lemmas.List.{take_more, take-map, map-append, length-map, get_or-map}
 use Rattle.std.proofs.lemmas.List.Elements.{filter-append, All-take}
 use Rattle.tally_records.specs.declared.process.ProcRecord.{ProcRecord}
 use Rattle.tally_records.specs.ProcRecord.{IsBounded}
@@ -37,6 +37,15 @@ plus-none u = λ i. record {
   mem_cpu = (let e : u.mem_cpu + 0 ≡ u.mem_cpu = omega arith in e) i;
 }
 
+pub none-plus : (u : Usage) → plus no_usage u ≡ u
+none-plus u = λ i. record {
+  count = (let e : 0 + u.count ≡ u.count = omega arith in e) i;
+  real = (let e : 0 + u.real ≡ u.real = omega arith in e) i;
+  cpu = (let e : 0 + u.cpu ≡ u.cpu = omega arith in e) i;
+  io = (let e : 0 + u.io ≡ u.io = omega arith in e) i;
+  mem_cpu = (let e : 0 + u.mem_cpu ≡ u.mem_cpu = omega arith in e) i;
+}
+
 module _ {K : Type 0} {eq : K → K → Bool} (laws : IsEquivalence eq) (exact : (x y : K) → eq x y ≡ true → x ≡ y) (key_of : ProcRecord → K) where
   abbrev found : List (K × Usage) → K → Usage
   found totals k = unwrap_or (lookup (eq k) totals) no_usage
@@ -62,31 +71,19 @@ module _ {K : Type 0} {eq : K → K → Bool} (laws : IsEquivalence eq) (exact :
       subst Fits sum (filter-Fits (λ x. eq k (key_of x)) (rs ++ r ∷ []) bounded few)
 
   -- a record is counted
-  pub HasTotals-count : (totals after : List (K × Usage)) (rs : List ProcRecord) (r : ProcRecord) (u : Usage) → HasTotals eq key_of totals rs → lookup (eq (key_of r)) totals ≡ Some u
-      → ((q : K) → lookup (eq q) after ≡ cond (eq (key_of r) q) (Some (plus u (usage_of (r ∷ [])))) (lookup (eq q) totals)) → HasTotals eq key_of after (rs ++ r ∷ [])
-  HasTotals-count totals after rs r u has at updates = record { at = λ q. by q (eq (key_of r) q) refl }
+  pub HasTotals-count : (totals after : List (K × Usage)) (rs : List ProcRecord) (r : ProcRecord) (w : Usage) → HasTotals eq key_of totals rs → w ≡ plus (found totals (key_of r)) (usage_of (r ∷ []))
+      → ((q : K) → lookup (eq q) after ≡ cond (eq (key_of r) q) (Some w) (lookup (eq q) totals)) → HasTotals eq key_of after (rs ++ r ∷ [])
+  HasTotals-count totals after rs r w has is_sum updates = record { at = λ q. by q (eq (key_of r) q) refl }
     where
       by : (q : K) (b : Bool) → eq (key_of r) q ≡ b → found after q ≡ usage_of (records_with eq key_of q (rs ++ r ∷ []))
       by q true e =
           let same : key_of r ≡ q = exact _ _ e in
-          let was : usage_of (records_with eq key_of q rs) ≡ u = subst (λ k. usage_of (records_with eq key_of k rs) ≡ u) same (sym (has.at (key_of r)) ∙ ap (λ o. unwrap_or o no_usage) at) in
-          ap (λ o. unwrap_or o no_usage) (updates q ∙ ap (λ b. cond b (Some (plus u (usage_of (r ∷ [])))) (lookup (eq q) totals)) e)
-          ∙ sym (usage-push_own rs r q (laws.symm q (key_of r) ∙ e) ∙ ap (λ v. plus v (usage_of (r ∷ []))) was)
+          let was : usage_of (records_with eq key_of q rs) ≡ found totals (key_of r) = subst (λ k. usage_of (records_with eq key_of k rs) ≡ found totals (key_of r)) same (sym (has.at (key_of r))) in
+          ap (λ o. unwrap_or o no_usage) (updates q ∙ ap (λ b. cond b (Some w) (lookup (eq q) totals)) e)
+          ∙ is_sum ∙ sym (usage-push_own rs r q (laws.symm q (key_of r) ∙ e) ∙ ap (λ v. plus v (usage_of (r ∷ []))) was)
       by q false e =
-          ap (λ o. unwrap_or o no_usage) (updates q ∙ ap (λ b. cond b (Some (plus u (usage_of (r ∷ [])))) (lookup (eq q) totals)) e)
+          ap (λ o. unwrap_or o no_usage) (updates q ∙ ap (λ b. cond b (Some w) (lookup (eq q) totals)) e)
           ∙ has.at q ∙ sym (usage-push_other rs r q (laws.symm q (key_of r) ∙ e))
-
-  -- a key is entered with nothing counted
-  pub HasTotals-enter : (totals after : List (K × Usage)) (k : K) (rs : List ProcRecord) → lookup (eq k) totals ≡ None
-      → ((q : K) → lookup (eq q) after ≡ cond (eq k q) (Some no_usage) (lookup (eq q) totals)) → HasTotals eq key_of totals rs → HasTotals eq key_of after rs
-  HasTotals-enter totals after k rs absent updates has = record { at = λ q. by q (eq k q) refl }
-    where
-      by : (q : K) (b : Bool) → eq k q ≡ b → found after q ≡ usage_of (records_with eq key_of q rs)
-      by q true e =
-          ap (λ o. unwrap_or o no_usage) (updates q ∙ ap (λ b. cond b (Some no_usage) (lookup (eq q) totals)) e)
-          ∙ sym (ap (λ o. unwrap_or o no_usage) (subst (λ j. lookup (eq j) totals ≡ None) (exact k q e) absent)) ∙ has.at q
-      by q false e =
-          ap (λ o. unwrap_or o no_usage) (updates q ∙ ap (λ b. cond b (Some no_usage) (lookup (eq q) totals)) e) ∙ has.at q
 
   -- the usage of entry i, added to what its group has, fits
   pub entry-Fits : (totals : List (K × Usage)) (entries : List ProcEntry) (i : ℕ) (d : ProcEntry) (k : K) (u v : Usage) → HasTotals eq key_of totals (records_of (take i entries)) → All IsBounded (records_of entries) → length entries ≤ 2 ^ 20
@@ -98,32 +95,18 @@ module _ {K : Type 0} {eq : K → K → Bool} (laws : IsEquivalence eq) (exact :
       let short : length (records_of (take i entries) ++ r ∷ []) ≤ 2 ^ 20 = omega (arith, ap length more, length-map (take (i + 1) entries) (λ (e : ProcEntry). e.item), length-take-le (i + 1) entries) in
       subst (λ w. Fits (plus u w)) (sym is_one) (counted-Fits totals (records_of (take i entries)) r u has (subst (λ j. lookup (eq j) totals ≡ Some u) is_key (sym at)) all short)
 
-  -- entry i is counted
-  pub entry-counted : (totals after : List (K × Usage)) (entries : List ProcEntry) (i : ℕ) (d : ProcEntry) (k : K) (u v w : Usage) → HasTotals eq key_of totals (records_of (take i entries))
-      → i < length entries → k ≡ key_of (get_or entries i d).item → Some u ≡ lookup (eq k) totals → v ≡ usage_of ((get_or entries i d).item ∷ []) → w ≡ plus u v
+  -- entry i is counted: its usage is added to what its group has, if anything
+  pub entry-counted : (totals after : List (K × Usage)) (entries : List ProcEntry) (i : ℕ) (d : ProcEntry) (k : K) (o : Option Usage) (v w : Usage) → HasTotals eq key_of totals (records_of (take i entries))
+      → i < length entries → k ≡ key_of (get_or entries i d).item → o ≡ lookup (eq k) totals → v ≡ usage_of ((get_or entries i d).item ∷ []) → w ≡ plus (unwrap_or o no_usage) v
       → ((q : K) → lookup (eq q) after ≡ cond (eq k q) (Some w) (lookup (eq q) totals)) → HasTotals eq key_of after (records_of (take (i + 1) entries))
-  entry-counted totals after entries i d k u v w has within is_key at is_one is_sum updates =
+  entry-counted totals after entries i d k o v w has within is_key at is_one is_sum updates =
       let r = (get_or entries i d).item in
-      let sum : w ≡ plus u (usage_of (r ∷ [])) = is_sum ∙ ap (plus u) is_one in
+      let had : unwrap_or o no_usage ≡ found totals (key_of r) = ap (λ p. unwrap_or p no_usage) at ∙ ap (found totals) is_key in
       subst (HasTotals eq key_of after) (sym (records_of_more entries i d within))
-      (HasTotals-count totals after (records_of (take i entries)) r u has (subst (λ j. lookup (eq j) totals ≡ Some u) is_key (sym at))
-      (λ q. updates q ∙ ap (λ x. cond (eq k q) (Some x) (lookup (eq q) totals)) sum ∙ ap (λ j. cond (eq j q) (Some (plus u (usage_of (r ∷ [])))) (lookup (eq q) totals)) is_key))
-
--- what holds of the entries from `start` on, by place
-pub at_from_drop : {X : Type 0} (P : X → Type 0) (xs : List X) (start : ℕ) → All P (drop start xs) → (k : ℕ) (d : X) → start ≤ k → k < length xs → P (get_or xs k d)
-at_from_drop P xs start all k d from within =
-    let place : start + (k - start) ≡ k = omega arith in
-    subst P (get_or-drop start xs (k - start) d ∙ ap (λ j. get_or xs j d) place) (all (k - start) d (omega (arith, length-drop start xs)))
+      (HasTotals-count totals after (records_of (take i entries)) r w has (is_sum ∙ (λ j. plus (had j) (is_one j)))
+      (λ q. updates q ∙ ap (λ j. cond (eq j q) (Some w) (lookup (eq q) totals)) is_key))
 
 -- each entry's record is bounded
 pub bounded_at : (entries : List ProcEntry) → All IsBounded (records_of entries) → (k : ℕ) (d : ProcEntry) → k < length entries → IsBounded (get_or entries k d).item
 bounded_at entries all k d within =
     subst IsBounded (get_or-map (λ (e : ProcEntry). e.item) entries k d d.item within) (all k d.item (omega (arith, length-map entries (λ (e : ProcEntry). e.item))))
-
--- a key that a table has stays there at a write
-pub IsSome-updated : {K X : Type 0} (eq : K → K → Bool) (k : K) (w : X) (before after : K → Option X) → ((q : K) → after q ≡ cond (eq k q) (Some w) (before q)) → (q : K) → IsSome (before q) → IsSome (after q)
-IsSome-updated eq k w before after updates q is = subst IsSome (sym (updates q)) (by (eq k q))
-  where
-    by : (b : Bool) → IsSome (cond b (Some w) (before q))
-    by true = refl
-    by false = is

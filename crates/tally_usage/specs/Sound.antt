@@ -1,6 +1,6 @@
 -- How a summary's fields hold its contents.
 use Rattle.std.specs.Prelude.{◌≡◌, ℕ, ◌≤◌, nat_eq, List, [], MatchOption, All, take, drop, length}
-use Rattle.std.specs.HashMap.{ContainsKey}
+use Rattle.std.specs.HashMap.{spare}
 use Rattle.std.specs.Option.{option_map}
 use Rattle.tally_records.specs.ProcRecord.{IsBounded}
 use Rattle.tally_usage.specs.declared.entry.ProcEntry.{ProcEntry}
@@ -24,11 +24,11 @@ contents_of s = record {
   ready = option_map (λ host. record { host = host; records = records_of (waiting_of s) }) s.ready;
 }
 
--- the entry can be counted: it is the host's, and both tables have its key
-pub record CanCount (s : Inside) (host : ℕ) (e : ProcEntry) : Type 0 where
-  pub of_host : e.host ≡ host
-  pub command : ContainsKey is_same_command s.commands (command_of e.item)
-  pub user : ContainsKey nat_eq s.users e.item.uid
+-- the entries can be counted: they are the host's, and each table has room for a group of each
+pub record CanCount (s : Inside) (host : ℕ) (es : List ProcEntry) : Type 0 where
+  pub of_host : All (λ e. e.host ≡ host) es
+  pub commands : length es ≤ spare s.commands
+  pub users : length es ≤ spare s.users
 
 pub record IsSound (s : Inside) : Type 0 where
   pub few : length s.entries.items ≤ ENTRY_LIMIT
@@ -37,4 +37,4 @@ pub record IsSound (s : Inside) : Type 0 where
   pub total : s.total ≡ usage_of (records_of (stored_of s))
   pub commands : HasTotals is_same_command command_of s.commands.entries (records_of (stored_of s))
   pub users : HasTotals nat_eq (λ r. r.uid) s.users.entries (records_of (stored_of s))
-  pub waiting : MatchOption s.ready (waiting_of s ≡ []) (λ host. All (CanCount s host) (waiting_of s))
+  pub waiting : MatchOption s.ready (waiting_of s ≡ []) (λ host. CanCount s host (waiting_of s))

@@ -10,7 +10,7 @@ ghost use Rattle.tally_usage.specs.User.{user_rows};
 use crate::command::{self, Command, CommandRow};
 use crate::entry::{ENTRY_LIMIT, ProcEntry};
 use crate::order::Order;
-use crate::table::{count_entries, count_total, enter_keys};
+use crate::table::{count_entries, count_total};
 use crate::usage::Usage;
 use crate::user::{self, UidRow};
 use indexmap::IndexMap;
@@ -77,9 +77,6 @@ impl Summary {
         self.commands.reserve(count)?;
         self.users.reserve(count)?;
         place_records(&mut self.entries, host, batch);
-        let waiting = &self.entries.as_slice()[self.stored..];
-        enter_keys(&mut self.commands, waiting);
-        enter_keys(&mut self.users, waiting);
         self.ready = Some(host);
         Ok(())
     }

@@ -1,7 +1,6 @@
 //! Tables of what the records of each group used.
-ghost use Rattle.std.specs.Prelude.{◌≡◌, ◌≤◌, All, List, drop, length, take};
-ghost use Rattle.indexmap.specs.IndexMap.{spare, ContainsKey};
-ghost use Rattle.tally_records.specs.declared.process.ProcRecord.{ProcRecord};
+ghost use Rattle.std.specs.Prelude.{◌≡◌, ◌≤◌, ◌+◌, All, length, take};
+ghost use Rattle.indexmap.specs.IndexMap.{spare};
 ghost use Rattle.tally_records.specs.ProcRecord.{IsBounded};
 ghost use Rattle.tally_usage.specs.Totals.{HasTotals, records_of};
 ghost use Rattle.tally_usage.specs.Usage.{usage_of};
@@ -11,22 +10,7 @@ use crate::group::GroupKey;
 use crate::usage::Usage;
 use indexmap::IndexMap;
 
-/// Enters the keys of the entries that the table lacks, with nothing counted.
-pub(crate) fn enter_keys<K: GroupKey>(table: &mut IndexMap<K, Usage>, entries: &[ProcEntry])
-    requires { length entries.now ≤ spare table.old }
-    ensures totals { (rs : List ProcRecord) → HasTotals K.eq K.key_of table.old.entries rs
-        → HasTotals K.eq K.key_of table.new.entries rs }
-    ensures entered { All (λ e. ContainsKey K.eq table.new (K.key_of e.item)) entries.now }
-{
-    for entry in entries {
-        let key = K::of(&entry.item);
-        if !table.contains_key(&key) {
-            table.insert(key, Usage::none()).unwrap();
-        }
-    }
-}
-
-/// Counts the entries from `start` on, whose keys the table has.
+/// Counts the entries from `start` on, in the room that the table has for their groups.
 pub(crate) fn count_entries<K: GroupKey>(
     table: &mut IndexMap<K, Usage>,
     entries: &[ProcEntry],
@@ -36,13 +20,17 @@ pub(crate) fn count_entries<K: GroupKey>(
     requires few { length entries.now ≤ ENTRY_LIMIT }
     requires bounded { All IsBounded (records_of entries.now) }
     requires totals { HasTotals K.eq K.key_of table.old.entries (records_of (take start entries.now)) }
-    requires entered { All (λ e. ContainsKey K.eq table.old (K.key_of e.item)) (drop start entries.now) }
+    requires room { length entries.now ≤ spare table.old + start }
     ensures { HasTotals K.eq K.key_of table.new.entries (records_of entries.now) }
 {
     for i in start..entries.len() {
         let process = &entries[i].item;
-        if let Some(usage) = table.get_mut(&K::of(process)) {
-            usage.add(&Usage::of(process));
+        let key = K::of(process);
+        let usage = Usage::of(process);
+        if let Some(counted) = table.get_mut(&key) {
+            counted.add(&usage);
+        } else {
+            table.insert(key, usage).unwrap();
         }
     }
 }

@@ -6,13 +6,21 @@ use Rattle.tally_usage.specs.Command.{command_of, is_same_command}
 use Rattle.tally_usage.specs.Sound.{waiting_of}
 use Rattle.tally_usage.specs.Totals.{HasTotals, records_of}
 use Rattle.tally_usage.specs.Usage.{usage_of}
-use Rattle.tally_usage.proofs.SummaryLemmas.{all_counted, waiting_is}
+use Rattle.tally_usage.proofs.SummaryLemmas.{all_counted, tables_have_room, waiting_is}
 use Rattle.tally_usage.proofs.summary.Summary.add.Goals as goal
 
 pub count_entries-requires-clause-totals : goal.count_entries-requires-clause-totals
 count_entries-requires-clause-totals c =
     let s = c.self.inside in
     subst (λ es. HasTotals is_same_command command_of s.commands.entries (records_of (take s.stored es))) (sym c.as_slice-entries.ensures.value) c.self.invariant.commands
+
+pub count_entries-requires-clause-room : goal.count_entries-requires-clause-room
+count_entries-requires-clause-room c =
+    omega (arith, ap length c.as_slice-entries.ensures.value, (tables_have_room c.self.inside _ c.self.invariant (ap (λ v. v.ready) c.self.view_is ∙ c.requires.ready)).0)
+
+pub count_entries-requires-2-clause-room : goal.count_entries-requires-2-clause-room
+count_entries-requires-2-clause-room c =
+    omega (arith, ap length c.as_slice-entries.ensures.value, (tables_have_room c.self.inside _ c.self.invariant (ap (λ v. v.ready) c.self.view_is ∙ c.requires.ready)).1)
 
 pub invariant_of-self : goal.invariant_of-self
 invariant_of-self c =

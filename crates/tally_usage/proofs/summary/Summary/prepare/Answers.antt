@@ -1,6 +1,5 @@
-use Rattle.std.proofs.Common.{◌≡◌, ◌+◌, ◌-◌, ◌≤◌, ◌^◌, All, Some, drop, length, take, arith, refl, sym, ap, subst, ◌∙◌, ◌++◌, []}
+use Rattle.std.proofs.Common.{◌≡◌, ◌+◌, ◌≤◌, ◌^◌, All, Some, drop, length, take, arith, refl, sym, ap, subst, ◌∙◌, ◌++◌, []}
 use Rattle.std.proofs.lemmas.List.{append-nil, length-take}
-use Rattle.std.specs.HashMap.{ContainsKey}
 use Rattle.std.specs.Prelude.{nat_eq}
 use Rattle.tally_records.specs.ProcRecord.{IsBounded}
 use Rattle.tally_records.specs.Records.{procs_in}
@@ -8,7 +7,7 @@ use Rattle.tally_usage.specs.Command.{command_of, is_same_command}
 use Rattle.tally_usage.specs.Summary.{entries_of}
 use Rattle.tally_usage.specs.Totals.{records_of}
 use Rattle.tally_usage.proofs.BatchLemmas.{record_count-is}
-use Rattle.tally_usage.proofs.SummaryLemmas.{back_of, hosts-entries_of, keeps, length-entries_of, records_of-entries_of, same_totals, tail_of}
+use Rattle.tally_usage.proofs.SummaryLemmas.{back_of, hosts-entries_of, keeps, length-entries_of, records_of-entries_of, same_totals}
 use Rattle.tally_usage.proofs.summary.Summary.prepare.Goals as goal
 
 pub invariant_of-self : goal.invariant_of-self
@@ -33,16 +32,14 @@ invariant_of-self-2 c =
     let items : c.place_records.new.entries.items ≡ take s.stored s.entries.items ++ zs = c.place_records.ensures ∙ ap (λ l. l ++ zs) (c.reserve.ensures.items ∙ c.truncate.ensures.items) in
     let few : length zs + s.stored ≤ 2 ^ 20 = omega (arith, c.requires.room, record_count-is c.args.batch.now c.requires.kind, ap (λ v. length v.entries) c.self.view_is, length-take s.stored s.entries.items, c.self.invariant.stored, length-entries_of c.args.host (procs_in c.args.batch.now)) in
     let bounded : All IsBounded (records_of zs) = subst (All IsBounded) (sym (records_of-entries_of c.args.host (procs_in c.args.batch.now))) c.len-count.ensures.bounded in
-    let waiting : take (length c.as_slice.result.now - s.stored) (drop s.stored c.as_slice.result.now) ≡ zs = tail_of s.stored c.as_slice.result.now ∙ ap (drop s.stored) (c.as_slice.ensures.value ∙ items) ∙ back_of s.stored s.entries.items zs c.self.invariant.stored in
-    let commands : All (λ e. ContainsKey is_same_command c.enter_keys.new.table (command_of e.item)) (take (length c.as_slice.result.now - s.stored) (drop s.stored c.as_slice.result.now)) = c.enter_keys.ensures.entered in
-    let users : All (λ e. ContainsKey nat_eq c.enter_keys-2.new.table e.item.uid) (take (length c.as_slice.result.now - s.stored) (drop s.stored c.as_slice.result.now)) = c.enter_keys-2.ensures.entered in
+    let count : length zs ≡ c.len-count.result = length-entries_of c.args.host (procs_in c.args.batch.now) ∙ sym (record_count-is c.args.batch.now c.requires.kind) ∙ sym c.len-count.ensures.count in
     keeps s _ zs c.self.invariant refl refl items few bounded
-    (λ rs h. c.enter_keys.ensures.totals rs (same_totals is_same_command command_of _ _ c.reserve-2.ensures.entries rs h))
-    (λ rs h. c.enter_keys-2.ensures.totals rs (same_totals nat_eq (λ r. r.uid) _ _ c.reserve-3.ensures.entries rs h))
-    (λ k d l. record {
-      of_host = hosts-entries_of c.args.host (procs_in c.args.batch.now) k d l;
-      command = subst (All (λ e. ContainsKey is_same_command c.enter_keys.new.table (command_of e.item))) waiting commands k d l;
-      user = subst (All (λ e. ContainsKey nat_eq c.enter_keys-2.new.table e.item.uid)) waiting users k d l;
+    (same_totals is_same_command command_of _ _ c.reserve-2.ensures.entries)
+    (same_totals nat_eq (λ r. r.uid) _ _ c.reserve-3.ensures.entries)
+    (record {
+      of_host = hosts-entries_of c.args.host (procs_in c.args.batch.now);
+      commands = omega (arith, count, c.in_ok-reserve-2.ensures.ok);
+      users = omega (arith, count, c.in_ok-reserve-3.ensures.ok);
     })
 
 pub returns-clause-ready : goal.returns-clause-ready
