@@ -164,16 +164,39 @@ fn filled(book: &mut Book, batch: &Batch) -> Option<PostFault> {
     None
 }
 
+/// Fills a book with the batch; why it was refused at last, and what an empty batch is answered then.
+fn overfilled(
+    alloc: Global,
+    batch: &Batch,
+    empty: &Batch,
+) -> Result<(Option<PostFault>, Receipt), Fail> {
+    let mut book = Book::new(alloc, 1)?;
+    let refused = filled(&mut book, batch);
+    Ok((refused, post(&mut book, 0, empty)?))
+}
+
 #[test]
-fn a_full_book_takes_an_empty_batch_alone(rt: HostRuntime) -> Result<(), Fail> {
-    let mut book = Book::new(rt.alloc(), 1)?;
+fn a_book_full_of_login_records_takes_an_empty_batch_alone(rt: HostRuntime) -> Result<(), Fail> {
     let zeros = vec![in rt.alloc(); 0u8; 393_216]?;
     let batch = Batch::logins(rt.alloc(), zeros.as_slice())?;
-    let full = PostFault::LoginsFull { stored: 1_048_576 };
-    assert_eq!(rt; filled(&mut book, &batch), Some(full));
-    assert_eq!(rt; book.logins().len(), 1_048_576);
     let empty = Batch::logins(rt.alloc(), &[])?;
-    assert_eq!(rt; post(&mut book, 0, &empty)?.call, 1025);
+    let (refused, receipt) = overfilled(rt.alloc(), &batch, &empty)?;
+    assert_eq!(rt; refused, Some(PostFault::LoginsFull { stored: 1_048_576 }));
+    assert_eq!(rt; (receipt.call, receipt.after), (1025, counts(1_048_576, 0)));
+    Ok(())
+}
+
+#[test]
+fn a_book_full_of_process_records_takes_an_empty_batch_alone(rt: HostRuntime) -> Result<(), Fail> {
+    let mut bytes = Vec::new(rt.alloc());
+    for _ in 0..1024 {
+        bytes.extend_from_slice(&make_record(0, &[0; 10]))?;
+    }
+    let batch = Batch::procs(rt.alloc(), bytes.as_slice())?;
+    let empty = Batch::procs(rt.alloc(), &[])?;
+    let (refused, receipt) = overfilled(rt.alloc(), &batch, &empty)?;
+    assert_eq!(rt; refused, Some(PostFault::ProcsFull { stored: 1_048_576 }));
+    assert_eq!(rt; (receipt.call, receipt.after), (1025, counts(0, 1_048_576)));
     Ok(())
 }
 
