@@ -1,0 +1,169 @@
+//! The worked script of a book of two callers: one session of an hour, and three runs of make.
+ghost use Rattle.std.specs.Prelude.{◌≡◌, ◌<◌, IfOk};
+ghost use Rattle.tally_book.specs.Answers.{IsAskable, HasDays};
+
+use crate::bytes::{login_record, logins, make_record, procs, put};
+use crate::printing::print_copy;
+use crate::stopped::Stopped;
+use std::alloc::Global;
+use tally_book::{AskFault, Book, PostFault, Question, Receipt, Served};
+use tally_records::{Batch, Memory};
+use tally_usage::Order;
+
+/// How much a book holds.
+#[derive(Clone, Copy, PartialEq, Eq)]
+struct Held {
+    logins: usize,
+    procs: usize,
+    calls: usize,
+}
+
+fn held_by(book: &Book) -> Held {
+    Held {
+        logins: book.logins().len(),
+        procs: book.procs().len(),
+        calls: book.calls().len(),
+    }
+}
+
+/// A book of two callers.
+pub(crate) fn new_book(alloc: Global) -> Result<Book, Memory>
+    ensures { IfOk result (λ b. b.callers ≡ 2) }
+{
+    match Book::new(alloc, 2) {
+        Err(_) => Book::new(alloc, 2),
+        made => made,
+    }
+}
+
+/// Posts, and posts again where memory was refused.
+pub(crate) fn post(book: &mut Book, caller: u32, batch: &Batch) -> Result<Receipt, Stopped>
+    requires { caller < book.old.callers }
+    ensures { book.new.callers ≡ book.old.callers }
+{
+    let before = held_by(book);
+    match book.post(caller, batch) {
+        Err(PostFault::Memory) if held_by(book) != before => Err(Stopped::Changed("the book")),
+        Err(PostFault::Memory) => Ok(book.post(caller, batch)?),
+        posted => Ok(posted?),
+    }
+}
+
+/// Asks, and asks again where memory was refused.
+fn ask(alloc: Global, book: &mut Book, caller: u32, question: &Question) -> Result<Served, Stopped>
+    requires caller { caller < book.old.callers }
+    requires askable { IsAskable question.now }
+    ensures callers { book.new.callers ≡ book.old.callers }
+    ensures days { IfOk result (λ served. HasDays served.answer) }
+{
+    let before = held_by(book);
+    match book.ask(alloc, caller, question) {
+        Err(AskFault::Memory) if held_by(book) != before => Err(Stopped::Changed("the book")),
+        Err(AskFault::Memory) => Ok(book.ask(alloc, caller, question)?),
+        asked => Ok(asked?),
+    }
+}
+
+/// A session of one hour.
+pub(crate) fn hour(alloc: Global) -> Result<Batch, Stopped> {
+    let mut bytes = [0; 768];
+    put(&mut bytes, 0, &login_record(7, "tty1", "ann", 1_000_000));
+    put(&mut bytes, 384, &login_record(8, "tty1", "", 1_003_600));
+    Ok(logins(alloc, &bytes)?)
+}
+
+/// One run of make that executed, and two that only forked.
+pub(crate) fn makes(alloc: Global) -> Result<Batch, Stopped> {
+    let forked = make_record(1, &[60, 0, 0, 0, 60, 0, 200, 0, 3, 0]);
+    let mut bytes = [0; 192];
+    put(
+        &mut bytes,
+        0,
+        &make_record(0, &[120, 0, 60, 0, 0x58, 2, 0xf4, 1, 0xe8, 3]),
+    );
+    put(&mut bytes, 64, &forked);
+    put(&mut bytes, 128, &forked);
+    Ok(procs(alloc, &bytes)?)
+}
+
+fn print_receipt<R: Print>(rt: &R, receipt: Receipt) -> Result<(), Stopped> {
+    let Receipt {
+        call,
+        before,
+        after,
+    } = receipt;
+    println!(rt;
+        "post {call}: from {} {} to {} {}",
+        before.logins, before.procs, after.logins, after.procs
+    )?;
+    Ok(())
+}
+
+/// Asks, and prints a copy of the answer.
+pub(crate) fn report<R: Print + AllocGlobal>(
+    rt: &R,
+    book: &mut Book,
+    caller: u32,
+    question: &Question,
+) -> Result<(), Stopped>
+    requires caller { caller < book.old.callers }
+    requires askable { IsAskable question.now }
+    ensures { book.new.callers ≡ book.old.callers }
+{
+    let served = ask(rt.alloc(), book, caller, question)?;
+    println!(rt;
+        "report {}: at {} {}",
+        served.call, served.at.logins, served.at.procs
+    )?;
+    print_copy(rt, &served.answer)
+}
+
+const TOTAL: Question = Question::Connect {
+    by_day: false,
+    by_user: false,
+    offset: 0,
+};
+
+const COMMANDS: Question = Question::Commands {
+    order: Order::Cpu,
+    reverse: false,
+    all: false,
+};
+
+/// A host that no caller has is refused, and is no call.
+fn ask_of_nobody<R: Print + AllocGlobal>(rt: &R, book: &mut Book) -> Result<(), Stopped>
+    requires { book.old.callers ≡ 2 }
+    ensures { book.new.callers ≡ 2 }
+{
+    let question = Question::Last {
+        host: 2,
+        limit: None,
+    };
+    match book.ask(rt.alloc(), 1, &question) {
+        Err(AskFault::NoSuchHost(host)) => {
+            println!(rt; "no host {host}, {} calls", book.calls().len())?;
+            Ok(())
+        }
+        _ => Err(Stopped::Changed("a refusal")),
+    }
+}
+
+/// Prints what each call of the script answers.
+pub(crate) fn script<R: Print + AllocGlobal>(rt: &R) -> Result<(), Stopped> {
+    let mut book = new_book(rt.alloc())?;
+    let hour = hour(rt.alloc())?;
+    let makes = makes(rt.alloc())?;
+    print_receipt(rt, post(&mut book, 0, &hour)?)?;
+    report(rt, &mut book, 1, &TOTAL)?;
+    ask_of_nobody(rt, &mut book)?;
+    print_receipt(rt, post(&mut book, 1, &makes)?)?;
+    report(rt, &mut book, 0, &COMMANDS)?;
+    let (logins, procs, calls) = book.into_parts();
+    println!(rt;
+        "book: {} {} in {} calls",
+        logins.len(),
+        procs.len(),
+        calls.len()
+    )?;
+    Ok(())
+}

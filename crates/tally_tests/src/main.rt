@@ -1,0 +1,30 @@
+//! Scripts over the calls of the crates that memory can be refused to. A refused call leaves things as
+//! they were and is begun again once, so that what is printed is the same with and without a refusal.
+#![tactic(auto)]
+
+mod book;
+mod bytes;
+mod printing;
+mod reports;
+mod sessions;
+mod stopped;
+
+use crate::stopped::Stopped;
+use std::process::ExitCode;
+
+/// Runs the scripts, each of which prints what its calls answer.
+fn scripts<R: Print + AllocGlobal>(rt: &R) -> Result<(), Stopped> {
+    sessions::script(rt)?;
+    book::script(rt)?;
+    reports::script(rt)
+}
+
+fn main(rt: HostRuntime) -> ExitCode {
+    match scripts(&rt) {
+        Ok(()) => ExitCode::SUCCESS,
+        Err(stopped) => {
+            let _ = eprintln!(rt; "tally_tests: {stopped}");
+            ExitCode::FAILURE
+        }
+    }
+}

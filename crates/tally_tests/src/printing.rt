@@ -1,0 +1,43 @@
+//! Answers, copied and printed.
+ghost use Rattle.std.specs.Prelude.{◌≡◌, IfOk};
+ghost use Rattle.tally_book.specs.Answers.{HasDays};
+
+use crate::stopped::Stopped;
+use std::alloc::Global;
+use std::io::{self, Write};
+use tally_book::Answer;
+use tally_print::{Kept, PrintFault, print_answer};
+use tally_records::Memory;
+
+/// An equal answer, copied again where memory was refused.
+fn copy(alloc: Global, answer: &Answer) -> Result<Answer, Memory>
+    ensures { IfOk result (λ copied. copied ≡ answer.now) }
+{
+    match answer.try_copy(alloc) {
+        Err(_) => answer.try_copy(alloc),
+        copied => copied,
+    }
+}
+
+/// The text of an answer, printed again where memory was refused: to the printer or to its output.
+fn text(alloc: Global, answer: &Answer) -> Result<Kept, PrintFault>
+    requires { HasDays answer.now }
+{
+    let mut first = Kept::new(alloc);
+    if print_answer(alloc, answer, 0, &mut first).is_ok() {
+        return Ok(first);
+    }
+    let mut second = Kept::new(alloc);
+    print_answer(alloc, answer, 0, &mut second)?;
+    Ok(second)
+}
+
+/// Prints a copy of the answer.
+pub(crate) fn print_copy<R: Print + AllocGlobal>(rt: &R, answer: &Answer) -> Result<(), Stopped>
+    requires { HasDays answer.now }
+{
+    let copied = copy(rt.alloc(), answer)?;
+    let printed = text(rt.alloc(), &copied)?;
+    io::writer(rt).write_all(printed.bytes())?;
+    Ok(())
+}
