@@ -26,3 +26,4 @@ pub mod RowLemmas
 pub mod DayRows
 pub mod DayUsers
 pub mod UserRows
+pub mod SumSteps

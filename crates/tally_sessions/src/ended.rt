@@ -3,6 +3,7 @@ ghost use Rattle.std.specs.Prelude.{◌≡◌, ◌≤◌, ◌<◌, ◌+◌, ◌^
 ghost use Rattle.indexmap.specs.IndexMap.{spare};
 ghost use Rattle.tally_sessions.specs.Track.{covers, sum_of, IsEntered};
 
+use crate::key::Key;
 use indexmap::IndexMap;
 use std::alloc::Global;
 use tally_records::{Memory, Name};
@@ -11,7 +12,7 @@ use tally_records::{Memory, Name};
 #[derive(Drop)]
 pub(crate) struct EndedSums {
     pub(crate) all: u64,
-    pub(crate) users: IndexMap<Name, u64>,
+    pub(crate) users: IndexMap<Key, u64>,
 }
 
 impl EndedSums {
@@ -30,7 +31,7 @@ impl EndedSums {
         ensures { result ≡ sum_of self.now who }
     {
         match who {
-            Some(user) => self.users.get(&user).copied().unwrap_or(0),
+            Some(user) => self.users.get(&Key::of(&user)).copied().unwrap_or(0),
             None => self.all,
         }
     }
@@ -53,8 +54,9 @@ impl EndedSums {
         ensures entered { IsEntered self.new user.now }
         ensures room { spare self.old.users ≤ spare self.new.users + 1 }
     {
-        if !self.users.contains_key(user) {
-            self.users.insert(*user, 0).unwrap();
+        let key = Key::of(user);
+        if !self.users.contains_key(&key) {
+            self.users.insert(key, 0).unwrap();
         }
     }
 
@@ -67,7 +69,7 @@ impl EndedSums {
         ensures room { spare self.new.users ≡ spare self.old.users }
     {
         self.all += u64::from(length);
-        if let Some(sum) = self.users.get_mut(user) {
+        if let Some(sum) = self.users.get_mut(&Key::of(user)) {
             *sum += u64::from(length);
         }
     }

@@ -10,10 +10,11 @@ ghost use Rattle.tally_sessions.specs.Track as spec;
 
 use crate::ended::EndedSums;
 use crate::entry::{End, Entry};
+use crate::key::Key;
 use crate::rules::{begin_of, end_at, ends_every, ends_line, is_login_record, seconds_between};
 use crate::sessions::ENTRY_LIMIT;
 use indexmap::IndexMap;
-use tally_records::{Event, LoginRecord, Name};
+use tally_records::{Event, LoginRecord};
 
 /// The end of a stay, and what follows from it.
 #[derive(Clone, Copy)]
@@ -172,7 +173,7 @@ pub(crate) fn end_pending(
     stays: &mut [TrackedStay],
     sums: &mut EndedSums,
     swept: usize,
-    lines: &IndexMap<Name, usize>,
+    lines: &IndexMap<Key, usize>,
     entries: &[Entry],
     at: usize,
     clock: i64,
@@ -194,7 +195,8 @@ pub(crate) fn end_pending(
     if ends_every(event) {
         sweep(stays, sums, swept, entries, clock, by, event);
     } else if ends_line(event) {
-        if let Some(&i) = lines.get(&by.line) {
+        let line = Key::of(&by.line);
+        if let Some(&i) = lines.get(&line) {
             end_stay(stays, sums, i, entries, clock, by, event);
         }
     }

@@ -9,6 +9,7 @@ mod days;
 mod ended;
 mod ending;
 mod entry;
+mod key;
 mod rules;
 mod sessions;
 mod sums;
@@ -21,6 +22,10 @@ pub use crate::sessions::{ENTRY_LIMIT, HOST_LIMIT, Sessions};
 pub use crate::times::{DayTime, DayUserTime, UserTime};
 
 #[cfg(test)]
+mod lists;
+#[cfg(test)]
 mod scan;
+#[cfg(test)]
+mod scripts;
 #[cfg(test)]
 mod tests;

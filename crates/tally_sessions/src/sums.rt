@@ -28,9 +28,16 @@ pub(crate) fn add<K: Ord + Copy + Drop>(
     ensures { OnOk result ((k : K) → sum_at K.cmp sums.new.entries k
         ≡ sum_at K.cmp sums.old.entries k + (if is_eq (K.cmp key k) then seconds else 0)) }
 {
-    let sum = sums.get(&key).copied().unwrap_or(0) + seconds;
-    sums.insert(key, sum)?;
-    Ok(())
+    match sums.get_mut(&key) {
+        Some(sum) => {
+            *sum += seconds;
+            Ok(())
+        }
+        None => {
+            sums.insert(key, seconds)?;
+            Ok(())
+        }
+    }
 }
 
 /// The sum of the lengths of each user's sessions.

@@ -10,11 +10,12 @@ ghost use Rattle.tally_sessions.specs.Tracking.{pending_at};
 use crate::ended::EndedSums;
 use crate::ending::{TrackedStay, end_pending};
 use crate::entry::Entry;
+use crate::key::Key;
 use crate::rules::{ends_every, pending_behind, shift_of};
 use crate::sessions::ENTRY_LIMIT;
 use indexmap::IndexMap;
 use std::alloc::Global;
-use tally_records::{Event, LoginRecord, Memory, Name, event};
+use tally_records::{Event, LoginRecord, Memory, event};
 
 /// The stays of one host.
 #[derive(Drop)]
@@ -24,7 +25,7 @@ pub(crate) struct Track {
     /// How many of the first stays the last boot or shutdown found.
     pub(crate) swept: usize,
     /// The place of the latest login on each line.
-    pub(crate) lines: IndexMap<Name, usize>,
+    pub(crate) lines: IndexMap<Key, usize>,
     /// The old time that waits for its new one.
     pub(crate) old_time: Option<i32>,
     /// By how much the clock has moved.
@@ -102,7 +103,9 @@ impl Track {
         match event {
             Event::Login => {
                 let record = &entries[at].item;
-                self.lines.insert(record.line, self.stays.len()).unwrap();
+                self.lines
+                    .insert(Key::of(&record.line), self.stays.len())
+                    .unwrap();
                 self.sums.enter(&record.user);
             }
             Event::Boot => {}

@@ -1,4 +1,4 @@
-use Rattle.std.proofs.Common.{◌≡◌, Some, None, refl, sym, ap, ◌∙◌}
+use Rattle.std.proofs.Common.{◌≡◌, Some, None, refl, sym, ap, subst, ◌∙◌}
 use Rattle.std.proofs.lemmas.Int.{to_z-of_z}
 use Rattle.std.specs.Int.{w64}
 use Rattle.std.specs.Map.{lookup}
@@ -14,12 +14,14 @@ use Rattle.tally_sessions.proofs.ending.end_pending.Goals as goal
 
 pub end_stay-requires-clause-i_in : goal.end_stay-requires-clause-i_in
 end_stay-requires-clause-i_in c =
-    let leads : lookup (bytes_eq (entry_at c.args.entries.now c.args.at).item.line) c.args.lines.now.entries ≡ Some c.in-Some.field-0.now = sym c.get.ensures.value ∙ ap option_copied c.in-Some.is in
+    let leads : lookup (bytes_eq (entry_at c.args.entries.now c.args.at).item.line) c.args.lines.now.entries ≡ Some c.in-Some.field-0.now =
+    subst (λ k. lookup (bytes_eq k) c.args.lines.now.entries ≡ Some c.in-Some.field-0.now) c.of-line.ensures (sym c.get.ensures.value ∙ ap option_copied c.in-Some.is) in
     (c.requires.tracked.on _ _ leads).within
 
 pub end_stay-requires-clause-ends : goal.end_stay-requires-clause-ends
 end_stay-requires-clause-ends c =
-    let leads : lookup (bytes_eq (entry_at c.args.entries.now c.args.at).item.line) c.args.lines.now.entries ≡ Some c.in-Some.field-0.now = sym c.get.ensures.value ∙ ap option_copied c.in-Some.is in
+    let leads : lookup (bytes_eq (entry_at c.args.entries.now c.args.at).item.line) c.args.lines.now.entries ≡ Some c.in-Some.field-0.now =
+    subst (λ k. lookup (bytes_eq k) c.args.lines.now.entries ≡ Some c.in-Some.field-0.now) c.of-line.ensures (sym c.get.ensures.value ∙ ap option_copied c.in-Some.is) in
     let on = c.requires.tracked.on _ _ leads in
     ends_on_line _ _ c.args.event on.login (sym c.requires.told) (line_event c.args.event (sym c.ends_line.ensures ∙ c.if-ends_line.true)) on.same
 
@@ -28,7 +30,8 @@ returns-in-Some-clause-stays c =
     let es = c.args.entries.now in
     let x = (entry_at es c.args.at).item in
     let same = to_z-of_z w64 c.args.clock c.ranges.clock in
-    let leads : lookup (bytes_eq x.line) c.args.lines.now.entries ≡ Some c.in-Some.field-0.now = sym c.get.ensures.value ∙ ap option_copied c.in-Some.is in
+    let leads : lookup (bytes_eq x.line) c.args.lines.now.entries ≡ Some c.in-Some.field-0.now =
+    subst (λ k. lookup (bytes_eq k) c.args.lines.now.entries ≡ Some c.in-Some.field-0.now) c.of-line.ensures (sym c.get.ensures.value ∙ ap option_copied c.in-Some.is) in
     let i = c.in-Some.field-0.now in
     c.end_stay.ensures.stays
     ∙ map-at (spec.behind es c.args.clock x) spec.no_stay c.args.stays.now i _ (c.requires.tracked.on _ _ leads).within (ap (λ z. spec.behind es z x (spec.stay_at c.args.stays.now i)) same)
@@ -39,7 +42,8 @@ pub returns-in_default-clause-stays : goal.returns-in_default-clause-stays
 returns-in_default-clause-stays c =
     let es = c.args.entries.now in
     let x = (entry_at es c.args.at).item in
-    let nowhere : lookup (bytes_eq x.line) c.args.lines.now.entries ≡ None = sym c.get.ensures.value ∙ ap option_copied c.in_default.is in
+    let nowhere : lookup (bytes_eq x.line) c.args.lines.now.entries ≡ None =
+    subst (λ k. lookup (bytes_eq k) c.args.lines.now.entries ≡ None) c.of-line.ensures (sym c.get.ensures.value ∙ ap option_copied c.in_default.is) in
     sym (map-same (spec.behind es c.args.clock x) spec.no_stay c.args.stays.now
     (λ k lt. behind-line_event es c.args.at c.args.lines.now.entries c.args.swept c.args.stays.now c.args.clock x c.args.event c.requires.tracked (sym c.requires.told) (line_event c.args.event (sym c.ends_line.ensures ∙ c.if-ends_line.true))
     k lt (λ at. some≢none k (sym at ∙ nowhere))))

@@ -1,0 +1,13 @@
+-- How the key of a table is hashed.
+use Rattle.std.proofs.Common.{◌≡◌, ◌∷◌, [], ℕ, List, true, sym}
+use Rattle.std.specs.Cmp.Lexicographic.{same_text}
+use Rattle.std.specs.Hash as fed
+use Rattle.std.specs.Str.{bytes_eq}
+
+-- what hashes a name: its bytes at once
+abbrev pub writes_of : List ℕ → fed.HashWrites
+writes_of name = name ∷ []
+
+-- the same name is hashed by the same write
+pub same_writes : (a b : List ℕ) → bytes_eq a b ≡ true → writes_of a ≡ writes_of b
+same_writes a b h = λ i. writes_of (same_text a b (sym h) i)
