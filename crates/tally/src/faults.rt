@@ -1,6 +1,8 @@
 //! Fault lines on standard error, and the statuses. Where standard error fails, the status still
 //! tells.
 use std::process::ExitCode;
+use tally_book::AskFault;
+use tally_cli::{FileArg, RunFault};
 use tally_desk::FeedFault;
 use tally_records::RecordFault;
 
@@ -17,9 +19,9 @@ pub(crate) fn fault<R: Eprint>(rt: &R, status: u8, text: &str) -> ExitCode {
 }
 
 /// Tells a fault of a file.
-pub(crate) fn file_fault<R: Eprint>(rt: &R, path: &str, text: &str) -> ExitCode {
+pub(crate) fn file_fault<R: Eprint>(rt: &R, status: u8, path: &str, text: &str) -> ExitCode {
     let _ = eprintln!(rt; "tally: {path}: {text}");
-    ExitCode::from(FAULT)
+    ExitCode::from(status)
 }
 
 /// Tells the text of a refused command line.
@@ -28,18 +30,42 @@ pub(crate) fn usage<R: Eprint>(rt: &R, text: &str) -> ExitCode {
     ExitCode::from(REFUSED)
 }
 
-/// Tells why a file was not read in full.
-pub(crate) fn feed_fault<R: Eprint>(rt: &R, path: &str, found: FeedFault) -> ExitCode {
+/// Tells why a run over these files gave no whole output.
+pub(crate) fn run_fault<R: Eprint>(rt: &R, files: &[FileArg], found: RunFault) -> ExitCode {
     match found {
-        FeedFault::Memory => file_fault(rt, path, "out of memory"),
-        FeedFault::Read => file_fault(rt, path, "read failed"),
-        FeedFault::TooLong => file_fault(rt, path, "more than 1048576 records"),
-        FeedFault::Torn { records, rest } => {
-            let _ = eprintln!(rt; "tally: {path}: torn after {records} records, {rest} bytes left");
+        RunFault::Memory => fault(rt, FAULT, "out of memory"),
+        RunFault::Write => fault(rt, FAULT, "write failed"),
+        RunFault::Callers(count) => {
+            let _ = eprintln!(rt; "tally: {count} callers, 1 to 128 are allowed");
             ExitCode::from(FAULT)
         }
-        FeedFault::Bad { at, fault } => bad_record(rt, path, at, fault),
+        RunFault::File { host, fault } => {
+            let path = match files.get(host as usize) {
+                Some(file) => file.path.as_str(),
+                None => "",
+            };
+            feed_fault(rt, path, fault)
+        }
+        RunFault::Asker { caller: _, fault } => ask_fault(rt, fault),
     }
+}
+
+/// Tells why a file was not read in full.
+fn feed_fault<R: Eprint>(rt: &R, path: &str, found: FeedFault) -> ExitCode {
+    let text = match found {
+        FeedFault::Memory => "out of memory",
+        FeedFault::Read => "read failed",
+        FeedFault::TooLong => "more than 1048576 records",
+        FeedFault::LoginsFull { .. } => "too many login records",
+        FeedFault::ProcsFull { .. } => "too many process records",
+        FeedFault::CallsFull => "too many calls",
+        FeedFault::Torn { records, rest } => {
+            let _ = eprintln!(rt; "tally: {path}: torn after {records} records, {rest} bytes left");
+            return ExitCode::from(FAULT);
+        }
+        FeedFault::Bad { at, fault } => return bad_record(rt, path, at, fault),
+    };
+    file_fault(rt, FAULT, path, text)
 }
 
 fn bad_record<R: Eprint>(rt: &R, path: &str, at: u64, found: RecordFault) -> ExitCode {
@@ -52,4 +78,16 @@ fn bad_record<R: Eprint>(rt: &R, path: &str, at: u64, found: RecordFault) -> Exi
         }
     };
     ExitCode::from(FAULT)
+}
+
+/// Tells why a report of an asker was refused.
+fn ask_fault<R: Eprint>(rt: &R, found: AskFault) -> ExitCode {
+    match found {
+        AskFault::Memory => fault(rt, FAULT, "out of memory"),
+        AskFault::CallsFull => fault(rt, FAULT, "too many calls"),
+        AskFault::NoSuchHost(host) => {
+            let _ = eprintln!(rt; "tally: no host {host}");
+            ExitCode::from(FAULT)
+        }
+    }
 }

@@ -1,7 +1,14 @@
 //! The files of the command line, opened.
+ghost use Rattle.std.specs.Prelude.{IfOk};
+ghost use Rattle.std.specs.List.{All};
+ghost use Rattle.tally_cli.specs.Deals.{IsReadable};
+
+use std::alloc::{AllocFailed, Global};
 use std::fs;
 use std::io::{self, Read};
 use std::rt::Files;
+use tally_cli::{FileArg, Source};
+use tally_desk::Reading;
 
 /// The path of the program's own standard input.
 const STANDARD_INPUT: &str = "/dev/stdin";
@@ -22,9 +29,25 @@ impl<F: Read + Drop, S: Read + Drop> Read for Opened<F, S> {
     }
 }
 
+/// What is read of the files.
+pub(crate) type Sources<F, S> = Vec<Source<Reading<Opened<F, S>>>>;
+
+/// Why the files were not all opened.
+pub(crate) enum OpenFault<'a> {
+    Memory,
+    /// The file of this path could not be opened.
+    NotOpened(&'a str),
+}
+
+impl<'a, T: Drop> From<AllocFailed<T>> for OpenFault<'a> {
+    fn from(_error: AllocFailed<T>) -> OpenFault<'a> {
+        OpenFault::Memory
+    }
+}
+
 /// Opens a file. Where `/dev/stdin` is refused, as it is for a pipe that another user made,
 /// standard input is read as the runtime has it.
-pub(crate) fn open<R: Files + Input>(rt: &R, path: &str) -> Option<Opened<R::File, R::Reader>>
+fn open<R: Files + Input>(rt: &R, path: &str) -> Option<Opened<R::File, R::Reader>>
 where
     R::File: Drop,
 {
@@ -33,4 +56,27 @@ where
         Err(_) if path == STANDARD_INPUT => Some(Opened::Standard(rt.reader())),
         Err(_) => None,
     }
+}
+
+/// Opens the files in order, up to the first that cannot be opened.
+pub(crate) fn open_all<'a, R: Files + Input>(
+    rt: &R,
+    alloc: Global,
+    files: &'a [FileArg],
+) -> Result<Sources<R::File, R::Reader>, OpenFault<'a>>
+where
+    R::File: Drop,
+    ensures { IfOk result (λ sources. All (IsReadable (λ failures. failures)) sources.items) }
+{
+    let mut sources = Vec::new(alloc);
+    for file in files {
+        let path = file.path.as_str();
+        let Some(opened) = open(rt, path) else {
+            return Err(OpenFault::NotOpened(path));
+        };
+        let kind = file.kind;
+        let input = Reading::new(opened);
+        sources.push(Source { kind, input })?;
+    }
+    Ok(sources)
 }

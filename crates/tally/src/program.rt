@@ -1,21 +1,24 @@
 //! The program over a runtime.
-ghost use Rattle.std.specs.Prelude.{◌<◌, length};
 ghost use Rattle.tally_cli.specs.Jobs.{IsRunnable};
 
-use crate::faults::{FAULT, REFUSED, fault, feed_fault, file_fault, usage};
-use crate::opened::open;
+use crate::faults::{FAULT, REFUSED, fault, file_fault, run_fault, usage};
+use crate::opened::{OpenFault, open_all};
 use crate::words::{WordsFault, words};
 use std::io;
 use std::process::ExitCode;
 use std::rt::{Env, Files};
-use tally_cli::{FileArg, Job, Line, LineFault, RunFault, Source, job_of, run};
-use tally_desk::Reading;
+use std::sync::Wait;
+use std::thread::Threads;
+use tally_cli::{FileArg, Job, Line, LineFault, file_word, job_of, run};
+use tally_desk::OpenGate;
 use tally_print::Writing;
 
 /// Runs the program, and says how it went.
-pub(crate) fn tally<R: Env + Files + Input + Print + Eprint + AllocGlobal>(rt: &R) -> ExitCode
+pub(crate) fn tally<R>(rt: &R) -> ExitCode
 where
-    R::File: Drop,
+    R: Env + Files + Input + Print + Eprint + AllocGlobal + Threads + Wait + Sync,
+    R::File: Drop + Send,
+    R::Reader: Send,
 {
     let words = match words(rt) {
         Ok(words) => words,
@@ -27,6 +30,7 @@ where
         Ok(Line::Help { text }) => help(rt, text.as_str()),
         Err(LineFault::Memory) => fault(rt, FAULT, "out of memory"),
         Err(LineFault::Usage { text }) => usage(rt, text.as_str()),
+        Err(LineFault::Prefix { index }) => no_prefix(rt, words.as_slice(), index),
     }
 }
 
@@ -37,31 +41,31 @@ fn help<R: Print + Eprint>(rt: &R, text: &str) -> ExitCode {
     }
 }
 
-/// Opens the file, reads it and prints the report.
-fn report<R: Files + Input + Print + Eprint + AllocGlobal>(
-    rt: &R,
-    job: &Job,
-    files: &[FileArg],
-) -> ExitCode
+fn no_prefix<R: Eprint + AllocGlobal>(rt: &R, words: &[String], index: usize) -> ExitCode {
+    match file_word(rt.alloc(), words, index) {
+        Ok(word) => file_fault(rt, REFUSED, word.as_str(), "no prefix w: or p:"),
+        Err(_) => fault(rt, FAULT, "out of memory"),
+    }
+}
+
+/// Opens all files, and then reads them and prints the report.
+fn report<R>(rt: &R, job: &Job, files: &[FileArg]) -> ExitCode
 where
-    R::File: Drop,
-    requires runnable { IsRunnable job.now }
-    requires some { 0 < length files.now }
+    R: Files + Input + Print + Eprint + AllocGlobal + Threads + Wait + Sync,
+    R::File: Drop + Send,
+    R::Reader: Send,
+    requires { IsRunnable job.now }
 {
-    let file = &files[0];
-    let path = file.path.as_str();
-    let Some(opened) = open(rt, path) else {
-        return file_fault(rt, path, "cannot be opened");
-    };
-    let source = Source {
-        kind: file.kind,
-        input: Reading::new(opened),
+    let sources = match open_all(rt, rt.alloc(), files) {
+        Ok(sources) => sources,
+        Err(OpenFault::Memory) => return fault(rt, FAULT, "out of memory"),
+        Err(OpenFault::NotOpened(path)) => {
+            return file_fault(rt, FAULT, path, "cannot be opened");
+        }
     };
     let mut out = Writing::new(io::writer(rt));
-    match run(rt.alloc(), job, source, &mut out) {
+    match run(rt, rt.alloc(), job, sources, &OpenGate, &mut out) {
         Ok(()) => ExitCode::SUCCESS,
-        Err(RunFault::Memory) => fault(rt, FAULT, "out of memory"),
-        Err(RunFault::Write) => fault(rt, FAULT, "write failed"),
-        Err(RunFault::File { host: _, fault }) => feed_fault(rt, path, fault),
+        Err(found) => run_fault(rt, files, found),
     }
 }

@@ -1,4 +1,15 @@
+pub mod Asked
+pub mod Carried
 pub mod CommandLemmas
+pub mod Dealt
+pub mod Each
+pub mod Faults
 pub mod FileLemmas
+pub mod Final
+pub mod FirstPasses
 pub mod LineLemmas
-pub mod RunLemmas
+pub mod Numbered
+pub mod Outcomes
+pub mod Reported
+pub mod Taken
+pub mod Texts

@@ -1,5 +1,6 @@
 -- The command line of the program, as `clap` reads it.
 use Rattle.std.specs.Prelude.{◌≡◌, ◌∷◌, ℕ, [], Some, true, false, codes, pos}
+use Rattle.clap.specs.Lexer.{usize_max}
 use Rattle.clap.specs.Simple.{on_top}
 use Rattle.clap.specs.Words.{App, Rule, Text, app_of, new_app, new_rule, with_rule, with_subcommand}
 use Rattle.clap.specs.declared.builder.action.ArgAction.TheVariants.{SetTrue}
@@ -33,6 +34,14 @@ limit_rule = record (new_rule (codes "limit")) {
   parser = Some (between 1 1048576);
 }
 
+-- threads that read files
+abbrev pub feeders_rule : Rule
+feeders_rule = number_rule (codes "feeders") (between 1 64) (codes "4")
+
+-- threads that ask reports
+abbrev pub askers_rule : Rule
+askers_rule = number_rule (codes "askers") (between 0 64) (codes "0")
+
 -- minutes east of UTC
 abbrev pub east_rule : Rule
 east_rule = number_rule (codes "east") (between 0 1439) (codes "0")
@@ -41,13 +50,17 @@ east_rule = number_rule (codes "east") (between 0 1439) (codes "0")
 abbrev pub west_rule : Rule
 west_rule = number_rule (codes "west") (between 0 1439) (codes "0")
 
--- the file
+-- the files, one or more
 abbrev pub file_rule : Rule
-file_rule = record (new_rule (codes "file")) { value_names = 1; required = true }
+file_rule = record (new_rule (codes "file")) {
+  value_names = 1;
+  range = Some (record { start_inclusive = 1; end_inclusive = usize_max });
+  required = true;
+}
 
--- the options and the file that each subcommand has, after its own
+-- the options and the files that each subcommand has, after its own
 abbrev pub with_common : App → App
-with_common app = with_rule (with_rule (with_rule app east_rule) west_rule) file_rule
+with_common app = with_rule (with_rule (with_rule (with_rule app feeders_rule) east_rule) west_rule) file_rule
 
 -- `last`
 abbrev pub last_app : App
@@ -67,6 +80,10 @@ usage_app = with_common (with_rule (with_rule (with_rule (with_rule (new_app (co
     (flag_rule (codes "by_calls") 110))
     (flag_rule (codes "reverse") 114))
 
+-- `all`
+abbrev pub all_app : App
+all_app = with_common (with_rule (new_app (codes "all")) askers_rule)
+
 -- words without a program's name, of which one names a subcommand
 abbrev pub top_app : App
 top_app = on_top (λ s. record s { no_binary_name = true; subcommand_required = true })
@@ -74,8 +91,8 @@ top_app = on_top (λ s. record s { no_binary_name = true; subcommand_required = 
 
 -- the whole command line
 unfoldable pub tally_app : App
-tally_app = with_subcommand (with_subcommand (with_subcommand top_app
-    last_app.top) connect_app.top) usage_app.top
+tally_app = with_subcommand (with_subcommand (with_subcommand (with_subcommand top_app
+    last_app.top) connect_app.top) usage_app.top) all_app.top
 
 -- `clap` reads the command as this one, and no argument of it is global
 pub record IsCommand (app : App) (command : Command) : Type 0 where

@@ -1,6 +1,9 @@
 pub mod CommandLine
+pub mod Deals
+pub mod Failures
 pub mod FileWords
 pub mod Jobs
 pub mod Lines
 pub mod Output
 pub mod Runs
+pub mod Tasks

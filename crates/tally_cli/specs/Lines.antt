@@ -1,9 +1,9 @@
 -- What a command line asks for.
-use Rattle.std.specs.Prelude.{◌≡◌, ◌≢◌, ◌⊎◌, List, [], Option, Some, None, ⊤, codes, length}
+use Rattle.std.specs.Prelude.{◌≡◌, ◌≢◌, ◌⊎◌, ◌≤◌, ◌<◌, List, [], Option, Some, None, ⊤, codes, length}
 use Rattle.std.specs.Prelude.{option_map, unwrap_or}
 use Rattle.clap.specs.Words.{Row, Text, all_of, fault_of, subcommand_of}
 use Rattle.tally_cli.specs.CommandLine.{tally_app}
-use Rattle.tally_cli.specs.FileWords.{NamesFiles}
+use Rattle.tally_cli.specs.FileWords.{IsFirstBare, NamesFiles}
 use Rattle.tally_cli.specs.Jobs.{IsRunnable}
 use Rattle.tally_cli.specs.declared.files.FileArg.{FileArg}
 use Rattle.tally_cli.specs.declared.job.Job.{Job}
@@ -37,6 +37,7 @@ name_of (report.Last limit) = codes "last"
 name_of (report.Connect by_day by_user) = codes "ac"
 name_of (report.Commands order reverse all) = codes "sa"
 name_of (report.Users order reverse) = codes "sa"
+name_of report.All = codes "all"
 
 -- the matches are of a report's subcommand
 abbrev pub AsksFor : Report → Met → Type 0
@@ -44,14 +45,16 @@ AsksFor r met = option_map (λ found. found.0) met ≡ Some (name_of r)
 
 -- a run that the matches ask for
 pub record IsRunOf (met : Met) (job : Job) (files : List FileArg) : Type 0 where
-  pub report : AsksFor job.report met
+  pub named : AsksFor job.report met
   pub runnable : IsRunnable job
-  pub one_file : length files ≡ 1
+  pub few_askers : job.askers ≤ 64
+  pub all_is_asked : (job.askers ≡ 0) ⊎ (job.report ≡ report.All)
+  pub some_file : 0 < length files
   pub names_files : NamesFiles job.report (file_words met) files
 
--- the matches name no report, or not one file
+-- the matches name no report, or no file
 abbrev pub IsIncomplete : Met → Type 0
-IsIncomplete met = ((r : Report) → ¬ AsksFor r met) ⊎ (length (file_words met) ≢ 1)
+IsIncomplete met = ((r : Report) → ¬ AsksFor r met) ⊎ (file_words met ≡ [])
 
 -- the answer to matches
 abbrev pub IsLineOf : Met → Line → Type 0
@@ -62,6 +65,13 @@ IsLineOf met (line.Help text) = ⊥
 abbrev pub IsFaultOf : Met → LineFault → Type 0
 IsFaultOf met fault.Memory = ⊤
 IsFaultOf met (fault.Usage text) = IsIncomplete met
+IsFaultOf met (fault.Prefix index) = AsksFor report.All met × IsFirstBare (file_words met) index
+
+-- why words name no files to a report
+abbrev pub IsFileFault : Report → List Text → LineFault → Type 0
+IsFileFault r words fault.Memory = ⊤
+IsFileFault r words (fault.Usage text) = ⊥
+IsFileFault r words (fault.Prefix index) = (r ≡ report.All) × IsFirstBare words index
 
 -- `clap` refuses the words, or answers them with help
 abbrev pub IsRefused : List Text → Type 0
@@ -77,8 +87,15 @@ Answers words (line.Help text) = IsRefused words
 abbrev pub Refuses : List Text → LineFault → Type 0
 Refuses words fault.Memory = ⊤
 Refuses words (fault.Usage text) = IsRefused words ⊎ IsIncomplete (met_in words)
+Refuses words (fault.Prefix index) = AsksFor report.All (met_in words) × IsFirstBare (file_words (met_in words)) index
 
 -- an answer without a run
 abbrev pub IsHelp : Line → Type 0
 IsHelp (line.Run job files) = ⊥
 IsHelp (line.Help text) = ⊤
+
+-- a fault of no file
+abbrev pub IsMemoryOrUsage : LineFault → Type 0
+IsMemoryOrUsage fault.Memory = ⊤
+IsMemoryOrUsage (fault.Usage text) = ⊤
+IsMemoryOrUsage (fault.Prefix index) = ⊥

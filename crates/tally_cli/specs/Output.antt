@@ -1,30 +1,64 @@
--- The output of a job.
-use Rattle.std.specs.Prelude.{ℕ, ℤ, List}
+-- The output of a job, as a function of the job and the files alone.
+use Rattle.std.specs.Prelude.{◌++◌, ◌∷◌, [], ℕ, ℤ, Bool, List, Option, Some, None, false, true, map, filter}
+use Rattle.std.specs.List.{enumerate_from, flat_map}
 use Rattle.tally_book.specs.declared.question.Question.{Question}
 use Rattle.tally_book.specs.declared.question.Question.TheVariants as questions
 use Rattle.tally_book.specs.Answers.{answer_of}
 use Rattle.tally_print.specs.AnswerText.{answer_text}
 use Rattle.tally_records.specs.Records.{Records, logins_in, procs_in}
+use Rattle.tally_records.specs.declared.batch.Kind.{Kind}
+use Rattle.tally_records.specs.declared.batch.Kind.TheVariants.{Login, Proc}
 use Rattle.tally_sessions.specs.Hosts.{posted_by}
 use Rattle.tally_sessions.specs.declared.entry.Entry.{Entry}
 use Rattle.tally_usage.specs.Summary.{entries_of}
 use Rattle.tally_usage.specs.declared.entry.ProcEntry.{ProcEntry}
+use Rattle.tally_usage.specs.declared.order.Order.TheVariants as order
 use Rattle.tally_cli.specs.declared.job.Job.{Job}
 use Rattle.tally_cli.specs.declared.job.Report.{Report}
-use Rattle.tally_cli.specs.declared.job.Report.TheVariants.{Last, Connect, Commands, Users}
+use Rattle.tally_cli.specs.declared.job.Report.TheVariants.{Last, Connect, Commands, Users, All}
 
--- the question that a report on one file, which is host 0, answers
-abbrev pub question_of : Report → ℤ → Question
-question_of (Last limit) offset = questions.Last 0 limit
-question_of (Connect by_day by_user) offset = questions.Connect by_day by_user offset
-question_of (Commands order reverse all) offset = questions.Commands order reverse all
-question_of (Users order reverse) offset = questions.Users order reverse
+-- a file is of the wanted kind, if one is wanted
+abbrev pub is_wanted : Option Kind → Kind → Bool
+is_wanted (Some Login) Proc = false
+is_wanted (Some Proc) Login = false
+is_wanted wanted kind = true
 
--- the text of a report on login and process entries, at an offset in minutes east of UTC
-abbrev pub report_text : Report → ℤ → List Entry → List ProcEntry → List ℕ
-report_text report offset logins procs = answer_text (answer_of (question_of report offset) logins procs) offset
+-- the questions for the stays of each file of the wanted kind, whose number is its host
+abbrev pub stays_asked : Option Kind → Option ℕ → List Kind → List Question
+stays_asked wanted limit kinds = map (λ numbered. questions.Last numbered.0 limit)
+    (filter (λ numbered. is_wanted wanted numbered.1) (enumerate_from 0 kinds))
 
--- the output over the records of one file, which is host 0
-abbrev pub output : Job → Records → List ℕ
-output job file =
-    report_text job.report job.offset (posted_by 0 (logins_in file)) (entries_of 0 (procs_in file))
+-- the questions of a report on files of these kinds, in the order of their sections
+abbrev pub questions_of : Report → ℤ → List Kind → List Question
+questions_of (Last limit) offset kinds = stays_asked None limit kinds
+questions_of (Connect by_day by_user) offset kinds = questions.Connect by_day by_user offset ∷ []
+questions_of (Commands by reverse all) offset kinds = questions.Commands by reverse all ∷ []
+questions_of (Users by reverse) offset kinds = questions.Users by reverse ∷ []
+questions_of All offset kinds = stays_asked (Some Login) None kinds
+    ++ questions.Connect false false offset ∷ questions.Commands order.Cpu false false ∷ []
+
+-- the login entries of files, each under its number
+abbrev pub login_entries : List Records → List Entry
+login_entries files = flat_map (λ numbered. posted_by numbered.0 (logins_in numbered.1)) (enumerate_from 0 files)
+
+-- the process entries of files, each under its number
+abbrev pub proc_entries : List Records → List ProcEntry
+proc_entries files = flat_map (λ numbered. entries_of numbered.0 (procs_in numbered.1)) (enumerate_from 0 files)
+
+-- texts with an empty line between each two
+abbrev pub sections : List (List ℕ) → List ℕ
+sections [] = []
+sections (text ∷ texts) = text ++ flat_map (λ t. 10 ∷ t) texts
+
+-- the text of the answer to a question
+abbrev pub section : ℤ → List Entry → List ProcEntry → Question → List ℕ
+section offset logins procs question = answer_text (answer_of question logins procs) offset
+
+-- the text of a job's report over login and process entries, of which each file of these kinds is a host
+abbrev pub report_text : Job → List Kind → List Entry → List ProcEntry → List ℕ
+report_text job kinds logins procs =
+    sections (map (section job.offset logins procs) (questions_of job.report job.offset kinds))
+
+-- the output of a job over files, each a kind and its records
+abbrev pub output : Job → List Kind → List Records → List ℕ
+output job kinds files = report_text job kinds (login_entries files) (proc_entries files)

@@ -1,54 +1,154 @@
 -- What is known when a run ends.
-use Rattle.std.specs.Prelude.{◌≡◌, ◌⊎◌, ℕ, List, Option, None, Some, Result, Ok, Err, ⊤, flat_map}
-use Rattle.tally_records.specs.Records.{Records, logins_in, procs_in}
-use Rattle.tally_sessions.specs.Hosts.{posted_by}
-use Rattle.tally_sessions.specs.declared.entry.Entry.{Entry}
-use Rattle.tally_usage.specs.Summary.{entries_of}
-use Rattle.tally_usage.specs.declared.entry.ProcEntry.{ProcEntry}
+use Rattle.std.specs.Prelude.{◌≡◌, ◌⊎◌, ◌<◌, ℕ, Bool, List, Option, None, Some, Result, Ok, Err, ⊤, length, map, min, slice_index_or, sum_by}
+use Rattle.std.specs.List.{All}
+use Rattle.tally_book.specs.Contents.{Contents}
+use Rattle.tally_book.specs.Deeds.{SameOfEachHost}
+use Rattle.tally_book.specs.declared.fault.AskFault.TheVariants as ask
+use Rattle.tally_desk.specs.Batches.{records_in}
+use Rattle.tally_desk.specs.Blocks.{feed_fault}
+use Rattle.tally_desk.specs.Feeds.{good_batches}
+use Rattle.tally_desk.specs.Passes.{HasDone, PassState, Stands}
 use Rattle.tally_desk.specs.declared.fault.FeedFault.{FeedFault}
 use Rattle.tally_desk.specs.declared.fault.FeedFault.TheVariants as feed
 use Rattle.tally_print.specs.declared.output.PrintFault.{PrintFault}
 use Rattle.tally_print.specs.declared.output.PrintFault.TheVariants as print
+use Rattle.tally_records.specs.Records.{Records, logins_in, procs_in}
+use Rattle.tally_records.specs.declared.batch.Kind.{Kind}
+use Rattle.tally_cli.specs.Deals.{AreCarriedOut}
+use Rattle.tally_cli.specs.Failures.{IsLeast}
+use Rattle.tally_cli.specs.Output.{login_entries, output, proc_entries}
+use Rattle.tally_cli.specs.Tasks.{IsExplained}
 use Rattle.tally_cli.specs.declared.fault.RunFault.{RunFault}
-use Rattle.tally_cli.specs.declared.fault.RunFault.TheVariants.{Memory, File, Write}
+use Rattle.tally_cli.specs.declared.fault.RunFault.TheVariants.{Memory, Callers, File, Asker, Write}
+use Rattle.tally_cli.specs.declared.gather.Cause.{Cause}
+use Rattle.tally_cli.specs.declared.gather.Cause.TheVariants as cause
+use Rattle.tally_cli.specs.declared.gather.Failure.{Failure}
+use Rattle.tally_cli.specs.declared.job.Job.{Job}
+use Rattle.tally_cli.specs.declared.sources.Source.{Source}
+use Rattle.tally_cli.specs.declared.task.Task.{Task}
 
--- what a store holds once these batches were posted to it
-pub record Holds (logins : List Entry) (procs : List ProcEntry) (posts : List Records) : Type 0 where
-  pub logins_are : logins ≡ posted_by 0 (flat_map logins_in posts)
-  pub procs_are : procs ≡ entries_of 0 (flat_map procs_in posts)
+-- an input that tells its bytes, and what kind of records they are
+pub record Told : Type 0 where
+  pub kind : Kind
+  pub bytes : List ℕ
 
--- no file is at fault
-abbrev pub IsNoFile : RunFault → Type 0
-IsNoFile Memory = ⊤
-IsNoFile (File host fault) = ⊥
-IsNoFile Write = ⊤
+-- a source tells this
+pub record TellsAt {I : Type 0} (to_come : I → Option (List ℕ)) (source : Source I) (input : Told) : Type 0 where
+  pub kind : source.kind ≡ input.kind
+  pub bytes : to_come source.input ≡ Some input.bytes
+
+-- the sources tell these
+abbrev pub Tell : {I : Type 0} → (I → Option (List ℕ)) → List (Source I) → List Told → Type 0
+Tell to_come sources inputs = (length inputs ≡ length sources)
+    × ((k : ℕ) (s : Source _) (i : Told) → k < length sources → TellsAt to_come (slice_index_or sources k s) (slice_index_or inputs k i))
+
+-- the first fault of an input
+abbrev pub fault_of : Told → Option FeedFault
+fault_of input = feed_fault input.kind input.bytes
+
+-- an input has no fault
+abbrev pub IsGood : Told → Type 0
+IsGood input = fault_of input ≡ None
+
+-- the records of an input
+abbrev pub records_told : Told → Records
+records_told input = records_in input.kind input.bytes
+
+-- the output of a job over what its sources tell
+abbrev pub output_told : Job → List Told → List ℕ
+output_told job inputs = output job (map (λ i. i.kind) inputs) (map records_told inputs)
+
+-- why a source is at fault: a fault of its own is its first
+abbrev pub IsFileCause : List Told → Told → FeedFault → Type 0
+IsFileCause inputs input feed.Memory = ⊤
+IsFileCause inputs input feed.Read = ⊤
+IsFileCause inputs input (feed.LoginsFull stored) = ⊤
+IsFileCause inputs input (feed.ProcsFull stored) = ⊤
+IsFileCause inputs input feed.CallsFull = ⊤
+IsFileCause inputs input fault = fault_of input ≡ Some fault
+
+-- the source with this number is the first at fault
+pub record IsFirstFault (inputs : List Told) (host : ℕ) (fault : FeedFault) : Type 0 where
+  pub near : host < length inputs
+  pub earlier : (k : ℕ) (i : Told) → k < host → IsGood (slice_index_or inputs k i)
+  pub own : (i : Told) → IsFileCause inputs (slice_index_or inputs host i) fault
+
+-- the inputs have no fault, and the book has just their records, each under its number
+pub record AreRead (inputs : List Told) (b : Contents) : Type 0 where
+  pub good : All IsGood inputs
+  pub same : SameOfEachHost b.logins (login_entries (map records_told inputs)) b.procs (proc_entries (map records_told inputs))
+
+-- what a fault of reading tells of the sources
+abbrev pub IsReadCause : List Told → RunFault → Type 0
+IsReadCause inputs Memory = ⊤
+IsReadCause inputs (Callers count) = ⊤
+IsReadCause inputs (File host fault) = IsFirstFault inputs host fault
+IsReadCause inputs (Asker caller fault) = All IsGood inputs
+IsReadCause inputs Write = ⊥
+
+-- what a fault tells of the sources, where `unwritten` says that nothing was written
+abbrev pub IsCause : List Told → Type 0 → RunFault → Type 0
+IsCause inputs unwritten Memory = unwritten ⊎ All IsGood inputs
+IsCause inputs unwritten (Callers count) = ⊤
+IsCause inputs unwritten (File host fault) = IsFirstFault inputs host fault
+IsCause inputs unwritten (Asker caller fault) = All IsGood inputs
+IsCause inputs unwritten Write = All IsGood inputs
+
+-- no source was read to its end, or its reports were refused: this holds
+abbrev pub Unwritten : Type 0 → RunFault → Type 0
+Unwritten unwritten Memory = ⊤
+Unwritten unwritten (Callers count) = unwritten
+Unwritten unwritten (File host fault) = unwritten
+Unwritten unwritten (Asker caller fault) = unwritten
+Unwritten unwritten Write = ⊤
+
+-- a number of callers is refused where it is none or above 128, and told as far as 32 bits hold it
+abbrev pub IsOpenRefusal : ℕ → RunFault → Type 0
+IsOpenRefusal callers Memory = ⊤
+IsOpenRefusal callers (Callers count) = (count ≡ min callers 4294967295) × ((callers ≡ 0) ⊎ (128 < callers))
+IsOpenRefusal callers fault = ⊥
+
+-- the fault of a run in which a caller failed for this cause
+abbrev pub fault_from_cause : ℕ → Cause → RunFault
+fault_from_cause caller (cause.Feed fault) = File caller fault
+fault_from_cause caller (cause.Ask fault) = Asker caller fault
+
+-- what a caller's failure makes of a run
+abbrev pub run_fault : Failure → RunFault
+run_fault failure = fault_from_cause failure.caller failure.cause
+
+-- a number of callers is refused only where it is none or above 128
+abbrev pub IsAllowed : ℕ → RunFault → Type 0
+IsAllowed callers (Callers count) = IsOpenRefusal callers (Callers count)
+IsAllowed callers fault = ⊤
+
+-- no source is at fault, and no asker
+abbrev pub IsPrintFault : RunFault → Type 0
+IsPrintFault Memory = ⊤
+IsPrintFault Write = ⊤
+IsPrintFault fault = ⊥
+
+-- nothing failed in printing
+abbrev pub IsUnprinted : RunFault → Type 0
+IsUnprinted Write = ⊥
+IsUnprinted fault = ⊤
 
 -- the fault of a run whose printer gave this one
 abbrev pub fault_from : PrintFault → RunFault
 fault_from print.Memory = Memory
 fault_from print.Write = Write
 
--- a fault that is the input's own is its first
-abbrev pub IsOwnFault : Option FeedFault → FeedFault → Type 0
-IsOwnFault first feed.Memory = ⊤
-IsOwnFault first feed.Read = ⊤
-IsOwnFault first fault = first ≡ Some fault
-
--- what a fault of the run tells of the file's first fault
-abbrev pub IsCause : Option FeedFault → Type 0 → RunFault → Type 0
-IsCause first unwritten Memory = unwritten ⊎ (first ≡ None)
-IsCause first unwritten (File host fault) = IsOwnFault first fault
-IsCause first unwritten Write = first ≡ None
-
--- where the file was not read to its end, it is the only one, and this holds
-abbrev pub AtFile : Type 0 → RunFault → Type 0
-AtFile unwritten Memory = ⊤
-AtFile unwritten (File host fault) = (host ≡ 0) × unwritten
-AtFile unwritten Write = ⊤
-
 -- how many calls of the output failed where a run ends so
 abbrev pub failed_writes : Result (Unit {0}) RunFault → ℕ
 failed_writes (Ok done) = 0
-failed_writes (Err Memory) = 0
-failed_writes (Err (File host fault)) = 0
 failed_writes (Err Write) = 1
+failed_writes (Err fault) = 0
+
+-- all callers worked through their tasks, and this is the closed book
+pub record AreWorkedThrough {I : Type 0} (to_come : I → Option (List ℕ)) (can_fail : I → Bool) (sources : List (Source I)) (passes : List PassState) (book : Contents) (failure : Option Failure) : Type 0 where
+  pub tasks : List (Task I)
+  pub carried : AreCarriedOut to_come can_fail sources passes tasks
+  pub explained : All (IsExplained tasks) tasks
+  pub least : IsLeast tasks failure
+  pub did : All (λ t. HasDone book t.pass) tasks
+  pub stand : All (λ t. Stands book t.pass) tasks

@@ -1,9 +1,9 @@
 //! The command line as `clap` reads it.
 ghost use Rattle.std.specs.Prelude.{◌≡◌, IfOk, false};
 ghost use Rattle.clap.specs.Words.{App, new_app, rule_of};
-ghost use Rattle.tally_cli.specs.CommandLine.{IsCommand, connect_app, east_rule, file_rule, flag_rule};
-ghost use Rattle.tally_cli.specs.CommandLine.{last_app, limit_rule, number_rule, tally_app, top_app, usage_app};
-ghost use Rattle.tally_cli.specs.CommandLine.{west_rule, with_common};
+ghost use Rattle.tally_cli.specs.CommandLine.{IsCommand, all_app, askers_rule, connect_app, east_rule};
+ghost use Rattle.tally_cli.specs.CommandLine.{feeders_rule, file_rule, flag_rule, last_app, limit_rule};
+ghost use Rattle.tally_cli.specs.CommandLine.{number_rule, tally_app, top_app, usage_app, west_rule, with_common};
 
 use clap::builder::ValueParser;
 use clap::{Arg, ArgAction, Command, value_parser};
@@ -16,7 +16,8 @@ pub(crate) fn tally<'a>(alloc: Global) -> Result<Command<'a>, AllocError>
     top(alloc)?
         .subcommand(last(alloc)?)?
         .subcommand(connect(alloc)?)?
-        .subcommand(usage(alloc)?)
+        .subcommand(usage(alloc)?)?
+        .subcommand(all(alloc)?)
 }
 
 fn top<'a>(alloc: Global) -> Result<Command<'a>, AllocError>
@@ -41,7 +42,7 @@ fn last<'a>(alloc: Global) -> Result<Command<'a>, AllocError>
         "List login sessions and running times, as last(1) does",
     )
     .arg(limit(alloc))?;
-    with_options(alloc, command)
+    with_options(alloc, command, "Read the login records of FILE")
 }
 
 fn connect<'a>(alloc: Global) -> Result<Command<'a>, AllocError>
@@ -50,7 +51,7 @@ fn connect<'a>(alloc: Global) -> Result<Command<'a>, AllocError>
     let command = named(alloc, "ac", "Sum connect time, as ac(1) does")
         .arg(flag(alloc, "by_day", 'd', "Sum by day"))?
         .arg(flag(alloc, "by_user", 'p', "Sum by user"))?;
-    with_options(alloc, command)
+    with_options(alloc, command, "Read the login records of FILE")
 }
 
 fn usage<'a>(alloc: Global) -> Result<Command<'a>, AllocError>
@@ -66,15 +67,39 @@ fn usage<'a>(alloc: Global) -> Result<Command<'a>, AllocError>
         .arg(flag(alloc, "by_user", 'm', "Sum by user, not by command"))?
         .arg(flag(alloc, "by_calls", 'n', "Order by calls, not by cpu time"))?
         .arg(flag(alloc, "reverse", 'r', "Reverse the order"))?;
-    with_options(alloc, command)
+    with_options(alloc, command, "Read the process records of FILE")
 }
 
-/// The options and the file that each subcommand has.
-fn with_options<'a>(alloc: Global, command: Command<'a>) -> Result<Command<'a>, AllocError>
+fn all<'a>(alloc: Global) -> Result<Command<'a>, AllocError>
+    ensures { IfOk result (IsCommand all_app) }
+{
+    let command = named(
+        alloc,
+        "all",
+        "Print last for each login file, then ac, then sa",
+    )
+    .arg(askers(alloc))?;
+    with_options(
+        alloc,
+        command,
+        "Read login records of w:PATH, process records of p:PATH",
+    )
+}
+
+/// The options and the files that each subcommand has.
+fn with_options<'a>(
+    alloc: Global,
+    command: Command<'a>,
+    files: &'a str,
+) -> Result<Command<'a>, AllocError>
     ensures { IfOk result (λ r. (app : App) → IsCommand app command.entry
         → IsCommand (with_common app) r) }
 {
-    command.arg(east(alloc))?.arg(west(alloc))?.arg(file(alloc))
+    command
+        .arg(feeders(alloc))?
+        .arg(east(alloc))?
+        .arg(west(alloc))?
+        .arg(file(alloc, files))
 }
 
 /// A command with no argument.
@@ -91,7 +116,7 @@ fn limit<'a>(alloc: Global) -> Arg<'a>
     Arg::new(alloc, "limit")
         .short('n')
         .value_name("N")
-        .help("Show the latest N stays, 1 to 1048576 [default: all]")
+        .help("Show the latest N stays of each file, 1 to 1048576 [default: all]")
         .value_parser(value_parser!(u32).range(1..=1_048_576))
 }
 
@@ -103,6 +128,24 @@ fn flag<'a>(alloc: Global, id: &'a str, short: char, help: &'a str) -> Arg<'a>
         .short(short)
         .help(help)
         .action(ArgAction::SetTrue)
+}
+
+fn askers<'a>(alloc: Global) -> Arg<'a>
+    ensures rule { rule_of result ≡ askers_rule }
+    ensures local { result.global ≡ false }
+{
+    let parser = value_parser!(u32).range(0..=64);
+    number(alloc, "askers", parser, "0").help(
+        "Ask reports with N threads while files are read, 0 to 64",
+    )
+}
+
+fn feeders<'a>(alloc: Global) -> Arg<'a>
+    ensures rule { rule_of result ≡ feeders_rule }
+    ensures local { result.global ≡ false }
+{
+    let parser = value_parser!(u32).range(1..=64);
+    number(alloc, "feeders", parser, "4").help("Read files with N threads, 1 to 64")
 }
 
 fn east<'a>(alloc: Global) -> Arg<'a>
@@ -125,14 +168,15 @@ fn west<'a>(alloc: Global) -> Arg<'a>
         .help("Show times M minutes west of UTC, 0 to 1439")
 }
 
-fn file<'a>(alloc: Global) -> Arg<'a>
+fn file<'a>(alloc: Global, help: &'a str) -> Arg<'a>
     ensures rule { rule_of result ≡ file_rule }
     ensures local { result.global ≡ false }
 {
     Arg::new(alloc, "file")
         .value_name("FILE")
-        .help("Read the records of FILE")
+        .help(help)
         .required(true)
+        .num_args(1..)
 }
 
 /// A long option with a number.

@@ -3,22 +3,39 @@ ghost use Rattle.std.specs.Prelude.{◌≡◌};
 ghost use Rattle.tally_cli.specs.Runs.{fault_from};
 ghost use Rattle.tally_cli.specs.declared.fault.RunFault.TheVariants as fault;
 
+use std::alloc::AllocError;
+use tally_book::AskFault;
 use tally_desk::FeedFault;
 use tally_print::PrintFault;
 use tally_records::Memory;
 use thiserror::Error;
 
-/// Why a run gave no whole report.
+/// Why a run gave no whole output.
 #[derive(Debug, PartialEq, Eq, Drop, Error)]
 pub enum RunFault {
+    /// Memory ran out, or no thread could be started.
     #[error("out of memory")]
     Memory,
-    /// The file of this number, counted from 0, was not read to its end.
+    /// There are no sources and askers, or more than 128.
+    #[error("{0} sources and askers, not 1 to 128")]
+    Callers(u32),
+    /// The source of this number, counted from 0, was not read to its end.
     #[error("file {host}: {fault}")]
     File { host: u32, fault: FeedFault },
+    /// A report of the asker with this number was refused.
+    #[error("asker {caller}: {fault}")]
+    Asker { caller: u32, fault: AskFault },
     /// The output failed.
     #[error("write failed")]
     Write,
+}
+
+impl From<AllocError> for RunFault {
+    ghost from_gives = { λ _ f. f ≡ fault.Memory };
+
+    fn from(_error: AllocError) -> RunFault {
+        RunFault::Memory
+    }
 }
 
 impl From<Memory> for RunFault {

@@ -8,28 +8,34 @@ pub enum Report {
     Last {
         limit: Option<u32>,
     },
-    /// Connect time, as ac(1) sums it.
+    /// Connect time over all files, as ac(1) sums it.
     Connect {
         by_day: bool,
         by_user: bool,
     },
-    /// The usage of commands, as sa(8) sums it.
+    /// The usage of commands over all files, as sa(8) sums it.
     Commands {
         order: Order,
         reverse: bool,
         all: bool,
     },
-    /// The usage of users, as `sa -m` sums it.
+    /// The usage of users over all files, as `sa -m` sums it.
     Users {
         order: Order,
         reverse: bool,
     },
+    /// The stays of each login file, then connect time, then the usage of commands.
+    All,
 }
 
 /// A report and how it is made.
 #[derive(Clone, Copy, Debug, PartialEq, Eq)]
 pub struct Job {
     pub report: Report,
+    /// How many threads read the files, 1 to 64.
+    pub feeders: u32,
+    /// How many threads ask reports meanwhile, up to 128. Their reports are not printed.
+    pub askers: u32,
     /// Minutes east of UTC.
     pub offset: i32,
 }

@@ -2,19 +2,26 @@
 #![tactic(auto)]
 
 mod command;
+mod deal;
 mod fault;
 mod files;
+mod gather;
 mod job;
 mod line;
-mod printing;
 mod running;
-mod store;
+mod sections;
+mod sources;
+mod task;
+mod work;
 
 pub use crate::fault::RunFault;
 pub use crate::files::FileArg;
 pub use crate::job::{Job, Report};
-pub use crate::line::{Line, LineFault, job_of};
-pub use crate::running::{Source, run};
+pub use crate::line::{Line, LineFault, file_word, job_of};
+pub use crate::running::run;
+pub use crate::sources::Source;
 
 #[cfg(test)]
-mod tests;
+mod line_tests;
+#[cfg(test)]
+mod run_tests;

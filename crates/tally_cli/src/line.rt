@@ -1,7 +1,7 @@
 //! The command line's words read as a job.
-ghost use Rattle.std.specs.Prelude.{◌≡◌, ◌≢◌, Some, ◌≤ℤ◌, pos, IfOk, IfErr, IfSome, IfNone, IsErr, codes, map, string_bytes};
+ghost use Rattle.std.specs.Prelude.{◌≡◌, ◌≢◌, ◌⊎◌, ◌≤◌, ◌≤ℤ◌, [], Some, pos, IfOk, IfErr, IfSome, IfNone, IsErr, codes, map, slice_index_or, string_bytes};
 ghost use Rattle.clap.specs.Words.{found_of, kind_of, rows_of, subcommand_rows_of};
-ghost use Rattle.tally_cli.specs.Lines.{Answers, IsFaultOf, IsLineOf, Refuses, IsHelp, name_of};
+ghost use Rattle.tally_cli.specs.Lines.{Answers, IsFaultOf, IsHelp, IsLineOf, IsMemoryOrUsage, Refuses, file_words, met_in, name_of, words_in};
 ghost use Rattle.tally_cli.specs.declared.job.Report.{Report};
 ghost use Rattle.tally_cli.specs.Jobs.{IsRunnable};
 ghost use Rattle.tally_cli.specs.declared.line.LineFault.TheVariants.{Memory};
@@ -32,6 +32,9 @@ pub enum LineFault {
     /// What is wrong with the words, and how the program is used.
     #[error("{text}")]
     Usage { text: String },
+    /// The file word with this index is the first that does not begin with `w:` or `p:`.
+    #[error("file {index} has no prefix w: or p:")]
+    Prefix { index: usize },
 }
 
 impl From<AllocError> for LineFault {
@@ -62,6 +65,40 @@ pub fn job_of(alloc: Global, words: &[String]) -> Result<Line, LineFault>
     }
 }
 
+/// The file word with this index, of words that name so many files; else an empty text.
+pub fn file_word(alloc: Global, words: &[String], index: usize) -> Result<String, LineFault>
+    ensures word { IfOk result (λ word. string_bytes word
+        ≡ slice_index_or (file_words (met_in (map string_bytes words.now))) index []) }
+    ensures err { IfErr result IsMemoryOrUsage }
+{
+    let command = command::tally(alloc)?;
+    match command.try_get_matches_from(words) {
+        Ok(matches) => Ok(String::from_str(alloc, word_at(&matches, index))?),
+        Err(error) => Err(fault_of(alloc, &error)),
+    }
+}
+
+fn word_at<'a>(matches: &ArgMatches<'a>, index: usize) -> &'a str
+    ensures { result.now ≡ slice_index_or (file_words (subcommand_rows_of matches.now)) index [] }
+{
+    match matches.subcommand() {
+        Some((_, matches)) => word_under(matches, index),
+        None => "",
+    }
+}
+
+fn word_under<'a>(matches: &ArgMatches<'a>, index: usize) -> &'a str
+    ensures { result.now ≡ slice_index_or (words_in (rows_of (found_of matches.now))) index [] }
+{
+    let Some(words) = matches.get_raw("file") else {
+        return "";
+    };
+    match words.get(index) {
+        Some(word) => word,
+        None => "",
+    }
+}
+
 /// The run that the matches of a whole command line ask for.
 fn run_of(alloc: Global, matches: &ArgMatches<'_>) -> Result<Line, LineFault>
     ensures ok { IfOk result (IsLineOf (subcommand_rows_of matches.now)) }
@@ -84,8 +121,8 @@ fn run_under(alloc: Global, name: &str, matches: &ArgMatches<'_>) -> Result<Line
     let Some(words) = matches.get_raw("file") else {
         return usage(alloc, "no file is named\n");
     };
-    if words.len() != 1 {
-        return usage(alloc, "one file is read\n");
+    if words.is_empty() {
+        return usage(alloc, "no file is named\n");
     }
     let files = files_of(alloc, report, words)?;
     let job = job_from(report, matches);
@@ -96,20 +133,32 @@ fn run_under(alloc: Global, name: &str, matches: &ArgMatches<'_>) -> Result<Line
 fn refused(alloc: Global, error: &Error) -> Result<Line, LineFault>
     ensures memory { kind_of error.now ≡ ErrorKind.OutOfMemory → result ≡ Err LineFault.Memory }
     ensures ok { IfOk result IsHelp }
+    ensures err { IfErr result IsMemoryOrUsage }
 {
-    if error.kind() == ErrorKind::OutOfMemory {
-        return Err(LineFault::Memory);
+    if error.kind() == ErrorKind::OutOfMemory || error.use_stderr() {
+        return Err(fault_of(alloc, error));
     }
     let text = error.to_string(alloc)?;
-    if error.use_stderr() {
-        Err(LineFault::Usage { text })
-    } else {
-        Ok(Line::Help { text })
+    Ok(Line::Help { text })
+}
+
+/// The fault where `clap` gives no matches and no help is asked for.
+fn fault_of(alloc: Global, error: &Error) -> LineFault
+    ensures memory { kind_of error.now ≡ ErrorKind.OutOfMemory → result ≡ LineFault.Memory }
+    ensures kind { IsMemoryOrUsage result }
+{
+    if error.kind() == ErrorKind::OutOfMemory {
+        return LineFault::Memory;
+    }
+    match error.to_string(alloc) {
+        Ok(text) => LineFault::Usage { text },
+        Err(_) => LineFault::Memory,
     }
 }
 
 fn usage(alloc: Global, text: &str) -> Result<Line, LineFault>
-    ensures { IsErr result }
+    ensures refused { IsErr result }
+    ensures kind { IfErr result IsMemoryOrUsage }
 {
     let text = String::from_str(alloc, text)?;
     Err(LineFault::Usage { text })
@@ -128,6 +177,7 @@ fn report_of(name: &str, matches: &ArgMatches<'_>) -> Option<Report>
             by_user: matches.get_flag("by_user"),
         }),
         "sa" => Some(usage_report(matches)),
+        "all" => Some(Report::All),
         _ => None,
     }
 }
@@ -154,11 +204,24 @@ fn usage_report(matches: &ArgMatches<'_>) -> Report
 fn job_from(report: Report, matches: &ArgMatches<'_>) -> Job
     ensures report { result.report ≡ report }
     ensures runnable { IsRunnable result }
+    ensures few { result.askers ≤ 64 }
+    ensures asked { (result.askers ≡ 0) ⊎ (report ≡ Report.All) }
 {
+    let askers = match report {
+        Report::All => number(matches, "askers", 0).min(64),
+        _ => 0,
+    };
     Job {
         report,
+        feeders: number(matches, "feeders", 4).clamp(1, 64),
+        askers,
         offset: minutes(matches, "east") - minutes(matches, "west"),
     }
+}
+
+/// The number of an option. `clap` has refused what lies outside of its range.
+fn number(matches: &ArgMatches<'_>, id: &str, default: u32) -> u32 {
+    matches.get_one::<u32>(id).unwrap_or(default)
 }
 
 fn minutes(matches: &ArgMatches<'_>, id: &str) -> i32

@@ -1,28 +1,173 @@
-//! A run: a file is read, and a report on it is printed.
-ghost use Rattle.std.specs.Prelude.{◌≡◌, ◌+◌, ◌-◌, ◌^◌, ◌<◌, ◌++◌, IfErr, IsTrue, List, None, OnOk, Some, ℕ, true};
-ghost use Rattle.tally_desk.specs.Batches.{records_in};
-ghost use Rattle.tally_desk.specs.Blocks.{feed_fault};
+//! A run: files are read by several threads into one book, and its reports are printed.
+ghost use Rattle.std.specs.Prelude.{◌≡◌, ◌+◌, ◌-◌, ◌^◌, ◌<◌, ◌≤◌, ◌++◌, IfErr, IfOk, IsTrue, List, OnOk, ℕ, true, length, map, slice_index_or};
+ghost use Rattle.std.specs.List.{All};
+ghost use Rattle.tally_book.specs.Books.{IsLegal};
+ghost use Rattle.tally_desk.specs.Passes.{HasDone, Stands, first_passes};
 ghost use Rattle.tally_desk.specs.declared.fault.FeedFault.TheVariants as feed_fault_of;
 ghost use Rattle.tally_print.specs.Output.{AppendsPrefix};
+ghost use Rattle.tally_cli.specs.Deals.{IsReadable};
+ghost use Rattle.tally_cli.specs.Output.{report_text};
 ghost use Rattle.tally_cli.specs.Jobs.{IsRunnable};
-ghost use Rattle.tally_cli.specs.Output.{output};
-ghost use Rattle.tally_cli.specs.Runs.{AtFile, IsCause, failed_writes};
+ghost use Rattle.tally_cli.specs.Runs.{AreRead, AreWorkedThrough, IsAllowed, IsCause, IsGood, IsOpenRefusal, IsPrintFault, IsReadCause, IsUnprinted};
+ghost use Rattle.tally_cli.specs.Runs.{Tell, Told, Unwritten, failed_writes, output_told, run_fault};
 
+use crate::deal::deal_out;
 use crate::fault::RunFault;
+use crate::gather::{Cause, Failure, take_all};
 use crate::job::Job;
-use crate::printing::print_report;
-use crate::store::Store;
-use std::alloc::Global;
-use tally_desk::{Input, feed};
+use crate::sections::{answers_to, print_sections, questions_of};
+use crate::sources::Source;
+use crate::work::carry_out_lists;
+use std::alloc::{AllocError, Global};
+use std::sync::Wait;
+use std::thread::Threads;
+use tally_book::{Book, entries_are_posts, host_order_is_enough};
+use tally_desk::{Desk, Gate, Input, OpenFault, Pass};
 use tally_print::Output;
 use tally_records::Kind;
 
-/// A file to be read.
-#[derive(Drop)]
-pub struct Source<I: Input> {
-    pub kind: Kind,
-    pub input: I,
-    pub ghost countable: { I.failures input < 2 ^ 64 - 1 },
+/// The closed book, where all passes are handed in.
+fn close_all(desk: Desk, passes: Vec<Pass>) -> Book
+    requires desk { All (λ p. p.desk ≡ desk.id) passes.items }
+    requires all { desk.callers ≤ length passes.items }
+    ensures callers { result.callers ≡ desk.callers }
+    ensures legal { IsLegal result }
+    ensures stand { All (Stands result) passes.items }
+    ensures did { All (HasDone result) passes.items }
+{
+    match desk.close(passes) {
+        Ok(book) => book,
+        Err(_) => unreachable!(),
+    }
+}
+
+/// The most sources and askers.
+const MOST_CALLERS: usize = 128;
+
+/// A desk with a caller for each source and each asker.
+fn open(alloc: Global, sources: usize, askers: u32) -> Result<(Desk, Vec<Pass>), RunFault>
+    requires { askers ≤ 128 }
+    ensures opened { IfOk result (λ r. (r.0.callers ≡ sources + askers)
+        × (r.1.items ≡ first_passes r.0.id (sources + askers))) }
+    ensures few { OnOk result (sources + askers ≤ 128) }
+    ensures some { OnOk result (0 < sources + askers) }
+    ensures refused { IfErr result (IsOpenRefusal (sources + askers)) }
+{
+    if sources > MOST_CALLERS {
+        let count = u32::try_from(sources).unwrap_or(u32::MAX);
+        return Err(RunFault::Callers(count.saturating_add(askers)));
+    }
+    match Desk::open(alloc, sources as u32 + askers) {
+        Ok(opened) => Ok(opened),
+        Err(OpenFault::Memory) => Err(RunFault::Memory),
+        Err(OpenFault::Callers(count)) => Err(RunFault::Callers(count)),
+    }
+}
+
+/// What a caller's failure makes of a run.
+fn fault_of(failure: Failure) -> RunFault
+    ensures value { result ≡ run_fault failure }
+    ensures unprinted { IsUnprinted result }
+{
+    let Failure { caller, cause } = failure;
+    match cause {
+        Cause::Feed(fault) => RunFault::File {
+            host: caller,
+            fault,
+        },
+        Cause::Ask(fault) => RunFault::Asker { caller, fault },
+    }
+}
+
+/// Does the work of all callers in several threads, and closes the desk.
+fn work_through<R: Threads + Wait + Sync, I: Input + Send, G: Gate + Sync>(
+    rt: &R,
+    alloc: Global,
+    desk: Desk,
+    passes: Vec<Pass>,
+    sources: Vec<Source<I>>,
+    feeders: usize,
+    gate: &G,
+) -> Result<(Book, Option<Failure>), AllocError>
+    requires feeders { (0 < feeders) × (feeders ≤ 64) }
+    requires callers { (desk.callers ≡ length passes.items) × (desk.callers ≤ 128) }
+    requires desk { All (λ p. p.desk ≡ desk.id) passes.items }
+    requires numbers { (k : ℕ) (p : _) → k < length passes.items → (slice_index_or passes.items k p).number ≡ k }
+    requires sources { length sources.items ≤ length passes.items }
+    requires countable { All (IsReadable I.failures) sources.items }
+    ensures callers { IfOk result (λ r. r.0.callers ≡ desk.callers) }
+    ensures legal { IfOk result (λ r. IsLegal r.0) }
+    ensures worked { IfOk result (λ r. AreWorkedThrough I.to_come I.can_fail sources.items passes.items r.0 r.1) }
+{
+    let mut back = Vec::with_capacity(alloc, passes.len())?;
+    let lists = deal_out(alloc, &desk, passes, sources, feeders)?;
+    let lists = carry_out_lists(rt, alloc, &desk, lists, gate)?;
+    let failure = take_all(lists, &mut back);
+    Ok((close_all(desk, back), failure))
+}
+
+/// Reads each file as one caller of a desk, several at once, and hands out the book. A fault is
+/// that of the first file at fault, else that of the first asker.
+fn feed_all<R: Threads + Wait + Sync, I: Input + Send, G: Gate + Sync>(
+    rt: &R,
+    alloc: Global,
+    job: &Job,
+    sources: Vec<Source<I>>,
+    gate: &G,
+) -> Result<Book, RunFault>
+    requires runnable { IsRunnable job.now }
+    requires readable { All (IsReadable I.failures) sources.items }
+    ensures whole { IfOk result (λ b. (inputs : List Told) → Tell I.to_come sources.items inputs → AreRead inputs b) }
+    ensures callers { IfOk result (λ b. b.callers ≡ length sources.items + job.now.askers) }
+    ensures few { OnOk result (length sources.items + job.now.askers ≤ 128) }
+    ensures some { OnOk result (0 < length sources.items + job.now.askers) }
+    ensures cause { IfErr result (λ f. (inputs : List Told) → Tell I.to_come sources.items inputs → IsReadCause inputs f) }
+    ensures allowed { IfErr result (IsAllowed (length sources.items + job.now.askers)) }
+    ensures unprinted { IfErr result IsUnprinted }
+    ensures read { IfErr result (λ f. (host : ℕ) → f ≡ RunFault.File host feed_fault_of.Read
+        → (s : Source _) → I.can_fail (slice_index_or sources.items host s).input ≡ true) }
+{
+    let (desk, passes) = open(alloc, sources.len(), job.askers)?;
+    let feeders = job.feeders as usize;
+    entries_are_posts();
+    let (book, failure) = work_through(rt, alloc, desk, passes, sources, feeders, gate)?;
+    match failure {
+        None => Ok(book),
+        Some(failure) => Err(fault_of(failure)),
+    }
+}
+
+/// The kinds of the files.
+fn kinds_of<I>(alloc: Global, sources: &[Source<I>]) -> Result<Vec<Kind>, AllocError>
+    ensures { IfOk result (λ v. v.items ≡ map (λ s. s.kind) sources.now) }
+{
+    sources.iter().map(|source| source.kind).collect(alloc)
+}
+
+/// Prints the job's report of the book, of which each file is a host.
+fn report<O: Output>(
+    alloc: Global,
+    job: &Job,
+    kinds: &[Kind],
+    book: Book,
+    out: &mut O,
+) -> Result<(), RunFault>
+    requires runnable { IsRunnable job.now }
+    requires hosts { length kinds.now ≤ book.callers }
+    requires few { book.callers ≤ 128 }
+    requires some { 0 < book.callers }
+    requires failures { O.failures out.old < 2 ^ 64 - 1 }
+    ensures prefix { IsTrue (O.tells out.old) → AppendsPrefix (O.written out.old) (O.written out.new)
+        (report_text job.now kinds.now book.logins book.procs) }
+    ensures ok { OnOk result (IsTrue (O.tells out.old) → O.written out.new
+        ≡ O.written out.old ++ report_text job.now kinds.now book.logins book.procs) }
+    ensures cause { IfErr result IsPrintFault }
+    ensures counts { O.failures out.new ≡ O.failures out.old + failed_writes result }
+    ensures stays { O.tells out.new ≡ O.tells out.old }
+{
+    let questions = questions_of(alloc, job, kinds)?;
+    let answers = answers_to(alloc, book, questions.as_slice())?;
+    print_sections(alloc, answers.as_slice(), job.offset, out)
 }
 
 /// Sees that what was written arrives.
@@ -39,39 +184,41 @@ fn finish<O: Output>(out: &mut O) -> Result<(), RunFault>
     }
 }
 
-/// Reads the file to its end, and then prints the job's report. Nothing is written before the
-/// whole file is found to be good.
-pub fn run<I: Input + Drop, O: Output>(
+/// Reads each file as one caller of a desk, several at once, and then prints the job's report on
+/// all of them. Nothing is written before every file is found to be good. A fault is that of the
+/// first file at fault, else that of the first asker.
+pub fn run<R: Threads + Wait + Sync, I: Input + Send, G: Gate + Sync, O: Output>(
+    rt: &R,
     alloc: Global,
     job: &Job,
-    source: Source<I>,
+    sources: Vec<Source<I>>,
+    gate: &G,
     out: &mut O,
 ) -> Result<(), RunFault>
     requires runnable { IsRunnable job.now }
+    requires readable { All (IsReadable I.failures) sources.items }
     requires writable { O.failures out.old < 2 ^ 64 - 1 }
-    ensures whole { OnOk result ((bytes : List ℕ) → I.to_come source.input ≡ Some bytes
-        → feed_fault source.kind bytes ≡ None) }
-    ensures written { OnOk result ((bytes : List ℕ) → I.to_come source.input ≡ Some bytes
+    ensures whole { OnOk result ((inputs : List Told) → Tell I.to_come sources.items inputs
+        → All IsGood inputs) }
+    ensures written { OnOk result ((inputs : List Told) → Tell I.to_come sources.items inputs
         → IsTrue (O.tells out.old) → O.written out.new
-        ≡ O.written out.old ++ output job.now (records_in source.kind bytes)) }
-    ensures prefix { (bytes : List ℕ) → I.to_come source.input ≡ Some bytes
+        ≡ O.written out.old ++ output_told job.now inputs) }
+    ensures prefix { (inputs : List Told) → Tell I.to_come sources.items inputs
         → IsTrue (O.tells out.old) → AppendsPrefix (O.written out.old) (O.written out.new)
-        (output job.now (records_in source.kind bytes)) }
-    ensures cause { IfErr result (λ f. (bytes : List ℕ) → I.to_come source.input ≡ Some bytes
-        → IsCause (feed_fault source.kind bytes)
-        (IsTrue (O.tells out.old) → O.written out.new ≡ O.written out.old) f) }
-    ensures unwritten { IfErr result (AtFile
+        (output_told job.now inputs) }
+    ensures cause { IfErr result (λ f. (inputs : List Told) → Tell I.to_come sources.items inputs
+        → IsCause inputs (IsTrue (O.tells out.old) → O.written out.new ≡ O.written out.old) f) }
+    ensures unwritten { IfErr result (Unwritten
         (IsTrue (O.tells out.old) → O.written out.new ≡ O.written out.old)) }
-    ensures read { IfErr result (λ f. f ≡ RunFault.File 0 feed_fault_of.Read
-        → I.can_fail source.input ≡ true) }
+    ensures allowed { IfErr result (IsAllowed (length sources.items + job.now.askers)) }
+    ensures read { IfErr result (λ f. (host : ℕ) → f ≡ RunFault.File host feed_fault_of.Read
+        → (s : Source _) → I.can_fail (slice_index_or sources.items host s).input ≡ true) }
     ensures counts { O.failures out.new ≡ O.failures out.old + failed_writes result }
     ensures stays { O.tells out.new ≡ O.tells out.old }
 {
-    let Source { kind, mut input } = source;
-    let mut store = Store::new(alloc)?;
-    if let Err(fault) = feed(alloc, &mut store, kind, &mut input) {
-        return Err(RunFault::File { host: 0, fault });
-    }
-    print_report(alloc, job, store, out)?;
+    let kinds = kinds_of(alloc, sources.as_slice())?;
+    let book = feed_all(rt, alloc, job, sources, gate)?;
+    host_order_is_enough();
+    report(alloc, job, kinds.as_slice(), book, out)?;
     finish(out)
 }

@@ -1,24 +1,24 @@
 -- How far a feed has come.
-use Rattle.std.proofs.Common.{◌≡◌, ◌∙◌, ◌++◌, inl, inr, ◌≤◌, ◌<◌, ◌+◌, ◌*◌, ℕ, List, [], ◌∷◌, Option, Some, None, map, take, drop, length, ap, sym, subst, refl, arith, append-nil, append_assoc}
+use Rattle.std.proofs.Common.{◌≡◌, ◌∙◌, ◌++◌, ◌≤◌, ◌<◌, ◌+◌, ◌*◌, ◌/◌, ℕ, List, [], ◌∷◌, Option, Some, None, map, take, drop, length, ap, sym, subst, refl, arith, append-nil, append_assoc}
 use Rattle.std.proofs.lemmas.List.{drop_all, length-drop, length-take, map-append}
-use Rattle.std.proofs.lemmas.Bool.{cases_lt}
-use Rattle.std.specs.Io.KnownBytes.{IsAtEnd}
 use Rattle.std.specs.List.{All}
-use Rattle.tally_records.specs.Records.{Records}
+use Rattle.std.specs.Prelude.{IfSome}
+use Rattle.tally_records.specs.Records.{Records, record_count}
 use Rattle.tally_records.specs.declared.batch.Kind.{Kind}
+use Rattle.tally_records.specs.declared.batch.Kind.TheVariants.{Login, Proc}
 use Rattle.tally_desk.specs.Blocks.{block_fault, block_size, feed_fault, good_blocks}
-use Rattle.tally_desk.specs.Batches.{AreJoined, records_in}
-use Rattle.tally_desk.specs.Feeds.{Adds, IsCut, IsFull, IsRefused, IsWhole, Stops, good_batches}
-use Rattle.tally_desk.specs.Turns.{TakesBlock, TurnStops}
+use Rattle.tally_desk.specs.Batches.{AreJoined, record_size, records_in}
+use Rattle.tally_book.specs.Contents.{Contents}
+use Rattle.tally_book.specs.declared.fault.PostFault.{PostFault}
+use Rattle.tally_book.specs.declared.fault.PostFault.TheVariants as post
+use Rattle.tally_desk.specs.Feeds.{AreOf, IsCut, IsFull, IsFullAt, IsRefused, IsWhole, Posts, Refuses, Stops, good_batches, refusal_of}
+use Rattle.tally_desk.specs.Passes.{PassState, deeds}
+use Rattle.tally_desk.specs.Turns.{IsBatch, Takes, TakesBlock, TurnStops}
 use Rattle.tally_desk.specs.declared.fault.FeedFault.{FeedFault}
-use Rattle.tally_desk.specs.declared.fault.FeedFault.TheVariants.{Memory, Read, Torn, TooLong, Bad}
-use Rattle.tally_desk.proofs.AddLemmas.{adds_more, adds_none, adds_same}
+use Rattle.tally_desk.specs.declared.fault.FeedFault.TheVariants.{Memory, Read, Torn, TooLong, Bad, LoginsFull, ProcsFull, CallsFull}
+use Rattle.tally_desk.proofs.PostLemmas.{posts_more, posts_none, posts_same}
 use Rattle.tally_desk.proofs.JoinLemmas.{Covers, covers_all, covers_more, covers_none}
-use Rattle.tally_desk.proofs.BlockLemmas.{block_size_some, fault-end, fault-here, fault-later, first_fault_from, good-end, good-here, good-later, good_from}
-
-no_elements : (xs : List ℕ) → length xs ≡ 0 → xs ≡ []
-no_elements [] none = refl
-no_elements (x ∷ xs) none = absurd (omega arith)
+use Rattle.tally_desk.proofs.BlockLemmas.{fault-end, fault-here, fault-later, first_fault_from, good-end, good-here, good-later, good_from}
 
 -- the first blocks were posted, `turn` in number, and these bytes are to come
 pub record FedTo (kind : Kind) (bytes : List ℕ) (posts : List Records → Type 0) (turn : ℕ) (rest : List ℕ) : Type 0 where
@@ -28,21 +28,21 @@ pub record FedTo (kind : Kind) (bytes : List ℕ) (posts : List Records → Type
   pub fault : first_fault_from kind (length bytes) turn rest ≡ feed_fault kind bytes
   pub covers : Covers kind bytes done rest
 
-module _ {S : Type 0} (holds : S → List Records → Type 0) (kind : Kind) (bytes : List ℕ) (old : S) where
-  pub fed_none : FedTo kind bytes (Adds holds old old) 0 bytes
-  fed_none = record { done = []; posted = adds_none holds old; good = refl; fault = refl; covers = covers_none kind bytes }
+module _ (kind : Kind) (bytes : List ℕ) (old : PassState) where
+  pub fed_none : FedTo kind bytes (Posts old old) 0 bytes
+  fed_none = record { done = []; posted = posts_none old old refl; good = refl; fault = refl; covers = covers_none kind bytes }
 
   -- one more block
-  pub fed_more : (mid new : S) (turn : ℕ) (rest : List ℕ) → FedTo kind bytes (Adds holds old mid) turn rest → 0 < length rest
+  pub fed_more : (mid new : PassState) (turn : ℕ) (rest : List ℕ) → FedTo kind bytes (Posts old mid) turn rest → 0 < length rest
       → block_fault kind (length bytes) (turn, take (block_size kind) rest) ≡ None
-      → Adds holds mid new (records_in kind (take (block_size kind) rest) ∷ [])
-      → FedTo kind bytes (Adds holds old new) (turn + 1) (drop (block_size kind) rest)
+      → Posts mid new (records_in kind (take (block_size kind) rest) ∷ [])
+      → FedTo kind bytes (Posts old new) (turn + 1) (drop (block_size kind) rest)
   fed_more mid new turn rest fed some ok posted =
       let block = take (block_size kind) rest in
       record {
         done = fed.done ++ block ∷ [];
-        posted = subst (Adds holds old new) (sym (map-append (records_in kind) fed.done (block ∷ [])))
-            (adds_more holds old mid new (map (records_in kind) fed.done) (records_in kind block ∷ []) fed.posted posted);
+        posted = subst (Posts old new) (sym (map-append (records_in kind) fed.done (block ∷ [])))
+            (posts_more old mid new (map (records_in kind) fed.done) (records_in kind block ∷ []) fed.posted posted);
         good = fed.good ∙ ap (λ l. fed.done ++ l) (good-later kind (length bytes) turn rest some ok)
             ∙ sym (append_assoc fed.done (block ∷ []) (good_from kind (length bytes) (turn + 1) (drop (block_size kind) rest)));
         fault = sym (fault-later kind (length bytes) turn rest some ok) ∙ fed.fault;
@@ -50,60 +50,87 @@ module _ {S : Type 0} (holds : S → List Records → Type 0) (kind : Kind) (byt
       }
 
   -- the end
-  pub fed_whole : (new : S) (turn : ℕ) (rest : List ℕ) → FedTo kind bytes (Adds holds old new) turn rest → rest ≡ [] → IsWhole kind bytes (Adds holds old new)
+  pub fed_whole : (new : PassState) (turn : ℕ) (rest : List ℕ) → FedTo kind bytes (Posts old new) turn rest → rest ≡ [] → IsWhole kind bytes (Posts old new)
   fed_whole new turn rest fed end =
       let all : fed.done ≡ good_blocks kind bytes =
       sym (fed.good ∙ ap (λ l. fed.done ++ l) (good-end kind (length bytes) turn rest end) ∙ append-nil fed.done) in
       let batches : map (records_in kind) fed.done ≡ good_batches kind bytes = ap (map (records_in kind)) all in
       record {
         no_fault = sym fed.fault ∙ fault-end kind (length bytes) turn rest end;
-        all = subst (Adds holds old new) batches fed.posted;
+        all = subst (Posts old new) batches fed.posted;
         joined = subst (λ l. AreJoined l (records_in kind bytes)) batches
             (covers_all kind bytes fed.done (subst (Covers kind bytes fed.done) end fed.covers));
       }
 
   -- a block with a fault
-  pub fed_refused : (new : S) (turn : ℕ) (rest : List ℕ) (f : FeedFault) → FedTo kind bytes (Adds holds old new) turn rest → 0 < length rest
-      → block_fault kind (length bytes) (turn, take (block_size kind) rest) ≡ Some f → IsRefused kind bytes (Adds holds old new) f
+  pub fed_refused : (new : PassState) (turn : ℕ) (rest : List ℕ) (f : FeedFault) → FedTo kind bytes (Posts old new) turn rest → 0 < length rest
+      → block_fault kind (length bytes) (turn, take (block_size kind) rest) ≡ Some f → IsRefused kind bytes (Posts old new) f
   fed_refused new turn rest f fed some bad =
       let all : fed.done ≡ good_blocks kind bytes =
       sym (fed.good ∙ ap (λ l. fed.done ++ l) (good-here kind (length bytes) turn rest f some bad) ∙ append-nil fed.done) in
       record {
         fault_is = sym fed.fault ∙ fault-here kind (length bytes) turn rest f some bad;
-        all = subst (Adds holds old new) (ap (map (records_in kind)) all) fed.posted;
+        all = subst (Posts old new) (ap (map (records_in kind)) all) fed.posted;
       }
 
-  cut : (new : S) (turn : ℕ) (rest : List ℕ) → FedTo kind bytes (Adds holds old new) turn rest
-      → IsCut kind bytes (Adds holds old new) (good_from kind (length bytes) turn rest)
+  cut : (new : PassState) (turn : ℕ) (rest : List ℕ) → FedTo kind bytes (Posts old new) turn rest
+      → IsCut kind bytes (Posts old new) (good_from kind (length bytes) turn rest)
   cut new turn rest fed = record { done = fed.done; good = fed.good; some = fed.posted }
 
-  -- a turn that stops
-  pub fed_stops : (new : S) (turn : ℕ) (rest : List ℕ) (f : FeedFault) → FedTo kind bytes (Adds holds old new) turn rest
-      → length bytes ≡ turn * block_size kind + length rest → TurnStops kind turn rest f → Stops kind bytes (Adds holds old new) f
-  fed_stops new turn rest Memory fed total stops = (_, cut new turn rest fed)
-  fed_stops new turn rest Read fed total stops = (_, cut new turn rest fed)
-  fed_stops new turn rest (Torn records torn) fed total stops =
+  -- a turn that took nothing
+  pub fed_stops : (new : PassState) (turn : ℕ) (rest : List ℕ) (seen : Contents) (f : FeedFault) → FedTo kind bytes (Posts old new) turn rest
+      → length bytes ≡ turn * block_size kind + length rest → TurnStops kind turn rest f → Stops kind bytes (Posts old new) seen f
+  fed_stops new turn rest seen Memory fed total stops = (_, cut new turn rest fed)
+  fed_stops new turn rest seen Read fed total stops = (_, cut new turn rest fed)
+  fed_stops new turn rest seen (Torn records torn) fed total stops =
       fed_refused new turn rest _ fed stops.0 (ap (λ n. block_fault kind n (turn, take (block_size kind) rest)) total ∙ stops.1)
-  fed_stops new turn rest TooLong fed total stops =
+  fed_stops new turn rest seen TooLong fed total stops =
       fed_refused new turn rest _ fed stops.0 (ap (λ n. block_fault kind n (turn, take (block_size kind) rest)) total ∙ stops.1)
-  fed_stops new turn rest (Bad at fault) fed total stops =
+  fed_stops new turn rest seen (Bad at fault) fed total stops =
       fed_refused new turn rest _ fed stops.0 (ap (λ n. block_fault kind n (turn, take (block_size kind) rest)) total ∙ stops.1)
+  fed_stops new turn rest seen (LoginsFull stored) fed total stops = absurd stops.1
+  fed_stops new turn rest seen (ProcsFull stored) fed total stops = absurd stops.1
+  fed_stops new turn rest seen CallsFull fed total stops = absurd stops.1
+
+  -- a good block whose post was refused
+  pub fed_full : (new : PassState) (turn : ℕ) (rest : List ℕ) (seen : Contents) (refusal : PostFault) → FedTo kind bytes (Posts old new) turn rest → 0 < length rest
+      → block_fault kind (length bytes) (turn, take (block_size kind) rest) ≡ None → Refuses seen (records_in kind (take (block_size kind) rest)) refusal
+      → IsFullAt kind bytes (Posts old new) seen refusal
+  fed_full new turn rest seen refusal fed some ok cause = record {
+    next = take (block_size kind) rest;
+    left = good_from kind (length bytes) (turn + 1) (drop (block_size kind) rest);
+    cut = record {
+      done = fed.done;
+      good = fed.good ∙ ap (λ l. fed.done ++ l) (good-later kind (length bytes) turn rest some ok);
+      some = fed.posted;
+    };
+    cause = cause;
+  }
+
+  pub fed_unposted : (new : PassState) (turn : ℕ) (rest : List ℕ) (seen : Contents) (refusal : PostFault) → FedTo kind bytes (Posts old new) turn rest → 0 < length rest
+      → block_fault kind (length bytes) (turn, take (block_size kind) rest) ≡ None → Refuses seen (records_in kind (take (block_size kind) rest)) refusal
+      → Stops kind bytes (Posts old new) seen (refusal_of refusal)
+  fed_unposted new turn rest seen post.Memory fed some ok cause = (_, cut new turn rest fed)
+  fed_unposted new turn rest seen (post.LoginsFull stored) fed some ok cause = fed_full new turn rest seen (post.LoginsFull stored) fed some ok cause
+  fed_unposted new turn rest seen (post.ProcsFull stored) fed some ok cause = fed_full new turn rest seen (post.ProcsFull stored) fed some ok cause
+  fed_unposted new turn rest seen post.CallsFull fed some ok cause = fed_full new turn rest seen post.CallsFull fed some ok cause
 
   -- a turn that posted nothing keeps what was fed
-  pub fed_same : (mid new : S) (turn : ℕ) (rest : List ℕ) → FedTo kind bytes (Adds holds old mid) turn rest → Adds holds mid new [] → FedTo kind bytes (Adds holds old new) turn rest
+  pub fed_same : (mid new : PassState) (turn : ℕ) (rest : List ℕ) → FedTo kind bytes (Posts old mid) turn rest → deeds new ≡ deeds mid → FedTo kind bytes (Posts old new) turn rest
   fed_same mid new turn rest fed same = record {
     done = fed.done;
-    posted = adds_same holds old mid new (map (records_in kind) fed.done) fed.posted same;
+    posted = posts_same old mid new (map (records_in kind) fed.done) fed.posted same;
     good = fed.good;
     fault = fed.fault;
     covers = fed.covers;
   }
 
 -- full batches were posted, `turn` in number
-pub record FullPosts (posts : List Records → Type 0) (turn : ℕ) : Type 0 where
+pub record FullPosts (kind : Kind) (posts : List Records → Type 0) (turn : ℕ) : Type 0 where
   pub batches : List Records
   pub posted : posts batches
   pub count : length batches ≡ turn
+  pub of_kind : AreOf kind batches
   pub full : All IsFull batches
 
 -- where an input tells its bytes, a feed has come so far
@@ -113,52 +140,75 @@ pub record Told (kind : Kind) (now : Option (List ℕ)) (posts : List Records �
   pub total : length bytes ≡ turn * block_size kind + length rest
   pub fed : FedTo kind bytes posts turn rest
 
-module _ {S : Type 0} (holds : S → List Records → Type 0) (kind : Kind) (bytes : List ℕ) (now : Option (List ℕ)) (old : S) where
-  -- a turn that stops a feed
-  pub told_stops : (mid new : S) (turn : ℕ) (f : FeedFault) → (told : Told kind now (Adds holds old mid) turn bytes)
-      → Adds holds mid new [] → TurnStops kind turn told.rest f → Stops kind bytes (Adds holds old new) f
-  told_stops mid new turn f told same stops =
-      fed_stops holds kind bytes old new turn told.rest f (fed_same holds kind bytes old mid new turn told.rest told.fed same) told.total stops
+pub begins : (kind : Kind) (bytes : List ℕ) (now : Option (List ℕ)) (p : PassState) → now ≡ Some bytes → Told kind now (Posts p p) 0 bytes
+begins kind bytes now p tells = record { rest = bytes; to_come = tells; total = omega arith; fed = fed_none kind bytes p }
 
-  block_of_total : (mid : S) (turn : ℕ) → (told : Told kind now (Adds holds old mid) turn bytes)
+count_full : (kind : Kind) (n : ℕ) → n / record_size kind ≡ 1024 → n ≤ block_size kind → n ≡ block_size kind
+count_full Login n is few = omega arith
+count_full Proc n is few = omega arith
+
+count_short : (kind : Kind) (n : ℕ) → n / record_size kind < 1024 → n < block_size kind
+count_short Login n short = omega arith
+count_short Proc n short = omega arith
+
+module _ (kind : Kind) (bytes : List ℕ) (now : Option (List ℕ)) (old : PassState) where
+  -- a turn that stops a feed
+  pub told_stops : (new : PassState) (turn : ℕ) (seen : Contents) (f : FeedFault) → (told : Told kind now (Posts old new) turn bytes)
+      → TurnStops kind turn told.rest f → Stops kind bytes (Posts old new) seen f
+  told_stops new turn seen f told stops = fed_stops kind bytes old new turn told.rest seen f told.fed told.total stops
+
+  block_of_total : (mid : PassState) (turn : ℕ) → (told : Told kind now (Posts old mid) turn bytes)
       → block_fault kind (turn * block_size kind + length told.rest) (turn, take (block_size kind) told.rest) ≡ None
       → block_fault kind (length bytes) (turn, take (block_size kind) told.rest) ≡ None
   block_of_total mid turn told good = ap (λ n. block_fault kind n (turn, take (block_size kind) told.rest)) told.total ∙ good
 
+  -- a block whose post was refused
+  pub told_unposted : (after : Option (List ℕ)) (mid new : PassState) (turn : ℕ) (batch : Records) (seen : Contents) (refusal : PostFault) → (told : Told kind now (Posts old mid) turn bytes)
+      → TakesBlock kind turn told.rest after batch → deeds new ≡ deeds mid → Refuses seen batch refusal → Stops kind bytes (Posts old new) seen (refusal_of refusal)
+  told_unposted after mid new turn batch seen refusal told takes same cause =
+      fed_unposted kind bytes old new turn told.rest seen refusal (fed_same kind bytes old mid new turn told.rest told.fed same) takes.some (block_of_total mid turn told takes.good)
+      (subst (λ b. Refuses seen b refusal) takes.batch_is cause)
+
+  fed_next : (after : Option (List ℕ)) (mid new : PassState) (turn : ℕ) (batch : Records) → (told : Told kind now (Posts old mid) turn bytes)
+      → TakesBlock kind turn told.rest after batch → Posts mid new (batch ∷ []) → FedTo kind bytes (Posts old new) (turn + 1) (drop (block_size kind) told.rest)
+  fed_next after mid new turn batch told takes posted =
+      fed_more kind bytes old mid new turn told.rest told.fed takes.some (block_of_total mid turn told takes.good) (subst (λ b. Posts mid new (b ∷ [])) takes.batch_is posted)
+
   -- a full block
-  pub told_more : (after : Option (List ℕ)) (mid new : S) (turn n : ℕ) → (told : Told kind now (Adds holds old mid) turn bytes)
-      → TakesBlock kind turn told.rest n after (Adds holds mid new) → n ≡ block_size kind → Told kind after (Adds holds old new) (turn + 1) bytes
-  told_more after mid new turn n told takes full =
-      let size : length (take (block_size kind) told.rest) ≡ block_size kind = sym takes.filled ∙ full in
-      let some : 0 < n = omega (arith, block_size_some kind) in
+  pub told_more : (after : Option (List ℕ)) (mid new : PassState) (turn : ℕ) (batch : Records) → (told : Told kind now (Posts old mid) turn bytes)
+      → TakesBlock kind turn told.rest after batch → Posts mid new (batch ∷ []) → IsFull batch → Told kind after (Posts old new) (turn + 1) bytes
+  told_more after mid new turn batch told takes posted full =
+      let few : length (take (block_size kind) told.rest) ≤ block_size kind = omega (arith, length-take (block_size kind) told.rest) in
+      let size : length (take (block_size kind) told.rest) ≡ block_size kind = count_full kind _ (sym takes.count ∙ full) few in
       let long : block_size kind ≤ length told.rest = omega (arith, length-take (block_size kind) told.rest, size) in
       let next : (turn + 1) * block_size kind ≡ turn * block_size kind + block_size kind = omega arith in
       record {
         rest = drop (block_size kind) told.rest;
         to_come = takes.left_is;
         total = omega (arith, told.total, next, long, length-drop (block_size kind) told.rest);
-        fed = fed_more holds kind bytes old mid new turn told.rest told.fed (omega (arith, block_size_some kind)) (block_of_total mid turn told (takes.good some)) (takes.some some);
+        fed = fed_next after mid new turn batch told takes posted;
       }
 
   -- a short block, which is the last
-  pub told_whole : (after : Option (List ℕ)) (mid new : S) (turn n : ℕ) → (told : Told kind now (Adds holds old mid) turn bytes)
-      → TakesBlock kind turn told.rest n after (Adds holds mid new) → n < block_size kind → IsWhole kind bytes (Adds holds old new)
-  told_whole after mid new turn n told takes short =
-      let size : length (take (block_size kind) told.rest) < block_size kind = omega (arith, takes.filled) in
+  pub told_short : (after : Option (List ℕ)) (mid new : PassState) (turn : ℕ) (batch : Records) → (told : Told kind now (Posts old mid) turn bytes)
+      → TakesBlock kind turn told.rest after batch → Posts mid new (batch ∷ []) → record_count batch < 1024 → IsWhole kind bytes (Posts old new)
+  told_short after mid new turn batch told takes posted short =
+      let size : length (take (block_size kind) told.rest) < block_size kind = count_short kind _ (subst (λ n. n < 1024) takes.count short) in
       let end : length told.rest ≤ block_size kind = omega (arith, length-take (block_size kind) told.rest) in
-      elim (cases_lt 0 n) [
-        | inl some ↦
-            let left : 0 < length told.rest = omega (arith, length-take (block_size kind) told.rest, takes.filled) in
-            fed_whole holds kind bytes old new (turn + 1) (drop (block_size kind) told.rest)
-            (fed_more holds kind bytes old mid new turn told.rest told.fed left (block_of_total mid turn told (takes.good some)) (takes.some some))
-            (drop_all (block_size kind) told.rest end)
-        | inr none ↦
-            let zero_bytes : n ≡ 0 = omega arith in
-            let no_rest : length told.rest ≡ 0 = omega (arith, length-take (block_size kind) told.rest, takes.filled, block_size_some kind) in
-            fed_whole holds kind bytes old new turn told.rest (fed_same holds kind bytes old mid new turn told.rest told.fed (takes.none zero_bytes)) (no_elements told.rest no_rest)
-      ]
+      fed_whole kind bytes old new (turn + 1) (drop (block_size kind) told.rest) (fed_next after mid new turn batch told takes posted) (drop_all (block_size kind) told.rest end)
 
-  -- the end of an input of as many blocks as there may be
-  pub told_end : (new : S) (turn : ℕ) → Told kind now (Adds holds old new) turn bytes → IsAtEnd now → IsWhole kind bytes (Adds holds old new)
-  told_end new turn told end =
-      fed_whole holds kind bytes old new turn told.rest told.fed (subst IsAtEnd told.to_come end)
+  -- the end of the input
+  pub told_end : (new : PassState) (turn : ℕ) → (told : Told kind now (Posts old new) turn bytes) → told.rest ≡ [] → IsWhole kind bytes (Posts old new)
+  told_end new turn told end = fed_whole kind bytes old new turn told.rest told.fed end
+
+module _ (kind : Kind) (next : Option Records) where
+  -- the first block, or the end
+  pub takes_some : (turn : ℕ) (rest : List ℕ) (left : Option (List ℕ)) (batch : Records) → next ≡ Some batch
+      → Takes kind turn rest left next → TakesBlock kind turn rest left batch
+  takes_some turn rest left batch is takes = subst (Takes kind turn rest left) is takes
+
+  pub takes_end : (turn : ℕ) (rest : List ℕ) (left : Option (List ℕ)) → next ≡ None → Takes kind turn rest left next → rest ≡ []
+  takes_end turn rest left is takes = subst (Takes kind turn rest left) is takes
+
+  pub some_batch : (batch : Records) → next ≡ Some batch → IfSome next (IsBatch kind) → IsBatch kind batch
+  some_batch batch is all = subst (λ n. IfSome n (IsBatch kind)) is all

@@ -1,17 +1,18 @@
 -- What one turn of a feed does.
-use Rattle.std.proofs.Common.{◌≡◌, ◌∙◌, ◌++◌, ◌≤◌, ◌<◌, ◌+◌, ◌*◌, ◌/◌, ◌%◌, ◌⊎◌, inl, inr, ℕ, List, [], ◌∷◌, Option, Some, None, take, drop, length, ap, sym, subst, arith, length-take-le, append-nil, drop_at, length-append}
+use Rattle.std.proofs.Common.{◌≡◌, ◌∙◌, ◌++◌, ◌≤◌, ◌<◌, ◌+◌, ◌*◌, ◌/◌, ◌%◌, ◌⊎◌, inl, inr, ℕ, List, [], Option, Some, None, take, drop, length, ap, refl, sym, subst, arith, length-take-le, append-nil, drop_at, length-append}
 use Rattle.std.proofs.lemmas.Bool.{cases_lt}
 use Rattle.std.proofs.lemmas.List.{drop_all, take_all}
 use Rattle.std.specs.Io.KnownBytes.{Consumes, IsAtEnd}
 use lib.Seq.{take-append-le}
-use Rattle.tally_records.specs.Records.{Records, record_count}
+use Rattle.tally_records.specs.Records.{Records, kind_of, record_count}
 use Rattle.tally_desk.specs.Batches.{record_size, records_in}
 use Rattle.tally_records.specs.declared.batch.Kind.{Kind}
+use Rattle.tally_records.specs.declared.batch.Kind.TheVariants.{Login, Proc}
 use Rattle.tally_desk.specs.Blocks.{block_fault, block_size}
-use Rattle.tally_desk.specs.Turns.{IsBlockRefusal, PostsBlock, TakesBlock, TurnStops}
+use Rattle.tally_desk.specs.Turns.{Gives, IsBatch, IsBlockRefusal, IsReadFault, TakesBlock, TurnStops}
 use Rattle.tally_desk.specs.declared.fault.FeedFault.{FeedFault}
-use Rattle.tally_desk.specs.declared.fault.FeedFault.TheVariants.{Memory, Read, Torn, TooLong, Bad}
-use Rattle.tally_desk.proofs.BlockLemmas.{any_total, block_size_whole}
+use Rattle.tally_desk.specs.declared.fault.FeedFault.TheVariants.{Memory, Read, Torn, TooLong, Bad, LoginsFull, ProcsFull, CallsFull}
+use Rattle.tally_desk.proofs.BlockLemmas.{any_total, block_size_some, block_size_whole}
 
 -- a block of `size` bytes was filled up to n
 module _ (block : List ℕ) (n size : ℕ) (within : n ≤ length block) (full : length block ≡ size) where
@@ -39,6 +40,29 @@ module _ (block : List ℕ) (n size : ℕ) (within : n ≤ length block) (full :
         ap (drop size) parts ∙ drop_at (take n block) ys size (filled_length ∙ omega arith)
   ]
 
+kind_of_records : (kind : Kind) (bytes : List ℕ) → kind_of (records_in kind bytes) ≡ kind
+unfolding records_in
+kind_of_records Login bytes = refl
+kind_of_records Proc bytes = refl
+
+some_records : (kind : Kind) (n : ℕ) → n % record_size kind ≡ 0 → 0 < n → 0 < n / record_size kind
+some_records Login n whole some = omega arith
+some_records Proc n whole some = omega arith
+
+few_records : (kind : Kind) (n : ℕ) → n ≤ block_size kind → n / record_size kind ≤ 1024
+few_records Login n few = omega arith
+few_records Proc n few = omega arith
+
+pub read_fault : (expected : Option FeedFault) (f : FeedFault) → Gives expected f → IsReadFault f
+read_fault expected Memory gives = tt
+read_fault expected Read gives = tt
+read_fault expected (Torn records torn) gives = tt
+read_fault expected TooLong gives = tt
+read_fault expected (Bad at fault) gives = tt
+read_fault expected (LoginsFull stored) gives = absurd gives
+read_fault expected (ProcsFull stored) gives = absurd gives
+read_fault expected CallsFull gives = absurd gives
+
 module _ (kind : Kind) (turn : ℕ) (block : List ℕ) (n : ℕ) (within : n ≤ length block) (full : length block ≡ block_size kind) where
   pub same_fault : (rest ys : List ℕ) → rest ≡ take n block ++ ys → (n < length block → ys ≡ [])
       → block_fault kind (turn * block_size kind + length rest) (turn, take (block_size kind) rest)
@@ -54,51 +78,63 @@ module _ (kind : Kind) (turn : ℕ) (block : List ℕ) (n : ℕ) (within : n ≤
             any_total kind _ _ (turn, take n block) (ap (λ m. m % record_size kind) whole ∙ block_size_whole kind)
       ]
 
-  pub posts_block : (posts : List Records → Type 0) → length (take n block) % record_size kind ≡ 0 → (length (take n block) ≡ 0 → posts [])
-      → (0 < length (take n block) → record_count (records_in kind (take n block)) ≡ length (take n block) / record_size kind)
-      → (0 < length (take n block) → posts (records_in kind (take n block) ∷ [])) → PostsBlock kind posts n
-  posts_block posts whole empty count some =
-      let long : length (take n block) ≡ n = filled_length block n (block_size kind) within full in
-      record {
-        short = omega arith;
-        whole = ap (λ m. m % record_size kind) (sym long) ∙ whole;
-        empty = λ none. empty (long ∙ none);
-        some = λ any. (
-          records_in kind (take n block),
-          some (omega arith),
-          count (omega arith) ∙ ap (λ m. m / record_size kind) long,
-        );
-      }
-
-  pub takes_block : (rest : List ℕ) (left : Option (List ℕ)) (posts : List Records → Type 0) → Consumes (Some rest) left (take n block)
-      → (n < length block → IsAtEnd left)
-      → (0 < length (take n block) → block_fault kind (turn * block_size kind + length (take n block)) (turn, take n block) ≡ None)
-      → (length (take n block) ≡ 0 → posts [])
-      → (0 < length (take n block) → posts (records_in kind (take n block) ∷ []))
-      → TakesBlock kind turn rest n left posts
-  takes_block rest None posts taken end good empty some = absurd taken
-  takes_block rest (Some ys) posts taken end good empty some =
-      let long : length (take n block) ≡ n = filled_length block n (block_size kind) within full in
-      let front = front_is block n (block_size kind) within full rest ys taken end in
-      record {
-        filled = sym long ∙ ap length (sym front);
-        left_is = ap Some (sym (back_is block n (block_size kind) within full rest ys taken end));
-        none = λ none. empty (long ∙ none);
-        good = λ any. same_fault rest ys taken end ∙ good (omega arith);
-        some = λ any. subst (λ b. posts (records_in kind b ∷ [])) (sym front) (some (omega arith));
-      }
-
   some_left : (rest ys : List ℕ) → rest ≡ take n block ++ ys → 0 < length (take n block) → 0 < length rest
   some_left rest ys parts some = omega (arith, ap length parts, length-append (take n block) ys)
 
-  pub turn_stops : (rest : List ℕ) (left : Option (List ℕ)) (f : FeedFault) → Consumes (Some rest) left (take n block)
+  any_left : (rest ys : List ℕ) → 0 < n → rest ≡ take n block ++ ys → 0 < length rest
+  any_left rest ys any parts = some_left rest ys parts (omega (arith, filled_length block n (block_size kind) within full))
+
+  -- its batch is that of the first block of the bytes to come
+  pub takes_block : (rest : List ℕ) (left : Option (List ℕ)) (batch : Records) → 0 < n → Consumes (Some rest) left (take n block)
+      → (n < length block → IsAtEnd left)
+      → block_fault kind (turn * block_size kind + length (take n block)) (turn, take n block) ≡ None
+      → batch ≡ records_in kind (take n block) → record_count batch ≡ length (take n block) / record_size kind
+      → TakesBlock kind turn rest left batch
+  takes_block rest None batch any taken end good is count = absurd taken
+  takes_block rest (Some ys) batch any taken end good is count =
+      let long : length (take n block) ≡ n = filled_length block n (block_size kind) within full in
+      let front = front_is block n (block_size kind) within full rest ys taken end in
+      record {
+        some = some_left rest ys taken (omega arith);
+        good = same_fault rest ys taken end ∙ good;
+        batch_is = is ∙ ap (records_in kind) (sym front);
+        count = count ∙ ap (λ (b : List ℕ). length b / record_size kind) (sym front);
+        left_is = ap Some (sym (back_is block n (block_size kind) within full rest ys taken end));
+      }
+
+  -- nothing was filled, so nothing was to come
+  pub takes_none : (rest : List ℕ) (left : Option (List ℕ)) → n ≡ 0 → Consumes (Some rest) left (take n block)
+      → (n < length block → IsAtEnd left) → rest ≡ []
+  takes_none rest None none taken end = absurd taken
+  takes_none rest (Some ys) none taken end =
+      let short : n < length block = omega (arith, full, block_size_some kind) in
+      let empty : take n block ≡ [] = ap (λ m. take m block) none in
+      taken ∙ ap (λ l. l ++ ys) empty ∙ end short
+
+  -- what a block of whole records has
+  pub is_batch : (batch : Records) → 0 < n → length (take n block) % record_size kind ≡ 0 → batch ≡ records_in kind (take n block)
+      → record_count batch ≡ length (take n block) / record_size kind → IsBatch kind batch
+  is_batch batch any whole is count =
+      let long : length (take n block) ≡ n = filled_length block n (block_size kind) within full in
+      let short : length (take n block) ≤ block_size kind = omega arith in
+      let all : record_count batch ≡ length (take n block) / record_size kind = count in
+      record {
+        of_kind = ap kind_of is ∙ kind_of_records kind (take n block);
+        some = subst (λ m. 0 < m) (sym all) (some_records kind (length (take n block)) whole (omega arith));
+        few = subst (λ m. m ≤ 1024) (sym all) (few_records kind (length (take n block)) short);
+      }
+
+  pub turn_stops : (rest : List ℕ) (left : Option (List ℕ)) (f : FeedFault) → 0 < n → Consumes (Some rest) left (take n block)
       → (n < length block → IsAtEnd left) → IsBlockRefusal kind turn (take n block) f → TurnStops kind turn rest f
-  turn_stops rest None f taken end refused = absurd taken
-  turn_stops rest (Some ys) Memory taken end refused = tt
-  turn_stops rest (Some ys) Read taken end refused = tt
-  turn_stops rest (Some ys) (Torn records torn) taken end refused = (some_left rest ys taken refused.some, same_fault rest ys taken end ∙ refused.gives)
-  turn_stops rest (Some ys) TooLong taken end refused = (some_left rest ys taken refused.some, same_fault rest ys taken end ∙ refused.gives)
-  turn_stops rest (Some ys) (Bad at fault) taken end refused = (some_left rest ys taken refused.some, same_fault rest ys taken end ∙ refused.gives)
+  turn_stops rest None f any taken end refused = absurd taken
+  turn_stops rest (Some ys) Memory any taken end refused = tt
+  turn_stops rest (Some ys) Read any taken end refused = tt
+  turn_stops rest (Some ys) (Torn records torn) any taken end refused = (any_left rest ys any taken, same_fault rest ys taken end ∙ refused)
+  turn_stops rest (Some ys) TooLong any taken end refused = (any_left rest ys any taken, same_fault rest ys taken end ∙ refused)
+  turn_stops rest (Some ys) (Bad at fault) any taken end refused = (any_left rest ys any taken, same_fault rest ys taken end ∙ refused)
+  turn_stops rest (Some ys) (LoginsFull stored) any taken end refused = absurd refused
+  turn_stops rest (Some ys) (ProcsFull stored) any taken end refused = absurd refused
+  turn_stops rest (Some ys) CallsFull any taken end refused = absurd refused
 
 -- the turn after the last block
 pub last_turn_stops : (kind : Kind) (turn : ℕ) (rest : List ℕ) (f : FeedFault) → turn ≡ 1024 → (f ≡ Read) ⊎ (f ≡ TooLong)

@@ -1,25 +1,50 @@
--- What a feed posts.
-use Rattle.std.specs.Prelude.{◌≡◌, ◌-◌, ◌<◌, ◌++◌, ℕ, List, Some, None, length, map, sum_by, take}
+-- What a feed posts, and what it leaves where it is refused.
+use Rattle.std.specs.Prelude.{◌≡◌, ◌+◌, ◌-◌, ◌*◌, ◌<◌, ◌≤◌, ◌++◌, ◌∷◌, ℕ, List, Some, None, ⊤, length, map, sum_by, take}
 use Rattle.std.specs.List.{All}
-use Rattle.tally_records.specs.Records.{Records, record_count}
+use Rattle.tally_records.specs.Records.{Records, kind_of, logins_in, procs_in, record_count}
 use Rattle.tally_records.specs.declared.batch.Kind.{Kind}
-use Rattle.tally_desk.specs.Batches.{AreJoined, records_in}
+use Rattle.tally_records.specs.declared.batch.Kind.TheVariants.{Login, Proc}
+use Rattle.tally_book.specs.Books.{IsLegal, counts_of}
+use Rattle.tally_book.specs.Contents.{Contents}
+use Rattle.tally_book.specs.Deeds.{Deed, Post}
+use Rattle.tally_book.specs.Refusals.{IsPostRefusal}
+use Rattle.tally_book.specs.declared.fault.PostFault.{PostFault}
+use Rattle.tally_book.specs.declared.fault.PostFault.TheVariants as post
+use Rattle.tally_desk.specs.Batches.{AreJoined, record_size, records_in}
 use Rattle.tally_desk.specs.Blocks.{feed_fault, good_blocks}
+use Rattle.tally_desk.specs.Passes.{PassState, deeds}
+use Rattle.tally_desk.specs.Views.{Follows}
 use Rattle.tally_desk.specs.declared.fault.FeedFault.{FeedFault}
-use Rattle.tally_desk.specs.declared.fault.FeedFault.TheVariants.{Memory, Read}
+use Rattle.tally_desk.specs.declared.fault.FeedFault.TheVariants.{Memory, Read, Torn, TooLong, Bad, LoginsFull, ProcsFull, CallsFull}
 use Rattle.tally_desk.specs.declared.feeding.Fed.{Fed}
 
--- a sink now holds these batches after those that it held
-abbrev pub Adds : {S : Type 0} → (S → List Records → Type 0) → S → S → List Records → Type 0
-Adds holds old new posts =
-    (before : List Records) → holds old before → holds new (before ++ posts)
+-- what a caller did that posted a batch
+abbrev pub post_of : Records → Deed
+post_of batch = Post (logins_in batch) (procs_in batch)
+
+-- what the caller did between are posts of these batches
+abbrev pub Posts : PassState → PassState → List Records → Type 0
+Posts old new batches = deeds new ≡ deeds old ++ map post_of batches
+
+-- it is the same caller's pass of the same desk, it knows no less, and a legal book stays one
+pub record Keeps (old new : PassState) : Type 0 where
+  pub desk : new.desk ≡ old.desk
+  pub number : new.number ≡ old.number
+  pub seen : Follows old.seen new.seen
+  pub legal : IsLegal old.seen → IsLegal new.seen
+  pub told : old.told ≤ new.told
 
 -- a batch of the most records
 abbrev pub IsFull : Records → Type 0
 IsFull batch = record_count batch ≡ 1024
 
--- batches as many as counted, none empty, and each but the last full
-pub record Counts (posts : List Records) (fed : Fed) : Type 0 where
+-- the batches are of one kind
+abbrev pub AreOf : Kind → List Records → Type 0
+AreOf kind batches = All (λ batch. kind_of batch ≡ kind) batches
+
+-- batches of a kind, as many as counted, none empty, and each but the last full
+pub record Counts (kind : Kind) (posts : List Records) (fed : Fed) : Type 0 where
+  pub of_kind : AreOf kind posts
   pub batches : length posts ≡ fed.batches
   pub records : sum_by record_count posts ≡ fed.records
   pub some_records : All (λ batch. 0 < record_count batch) posts
@@ -46,8 +71,60 @@ pub record IsCut (kind : Kind) (bytes : List ℕ) (posts : List Records → Type
   pub good : good_blocks kind bytes ≡ done ++ left
   pub some : posts (map (records_in kind) done)
 
+-- what was seen gives this cause to refuse the post of a batch
+abbrev pub Refuses : Contents → Records → PostFault → Type 0
+Refuses seen batch refusal = IsPostRefusal (counts_of seen) (length seen.calls) batch refusal
+
+-- a refused post: the good blocks before `next` were posted, and what was seen refuses that one
+pub record IsFullAt (kind : Kind) (bytes : List ℕ) (posts : List Records → Type 0) (seen : Contents) (refusal : PostFault) : Type 0 where
+  pub next : List ℕ
+  pub left : List (List ℕ)
+  pub cut : IsCut kind bytes posts (next ∷ left)
+  pub cause : Refuses seen (records_in kind next) refusal
+
 -- what was posted before a refusal
-abbrev pub Stops : Kind → List ℕ → (List Records → Type 0) → FeedFault → Type 0
-Stops kind bytes posts Memory = (left : List (List ℕ)) × IsCut kind bytes posts left
-Stops kind bytes posts Read = (left : List (List ℕ)) × IsCut kind bytes posts left
-Stops kind bytes posts fault = IsRefused kind bytes posts fault
+abbrev pub Stops : Kind → List ℕ → (List Records → Type 0) → Contents → FeedFault → Type 0
+Stops kind bytes posts seen Memory = (left : List (List ℕ)) × IsCut kind bytes posts left
+Stops kind bytes posts seen Read = (left : List (List ℕ)) × IsCut kind bytes posts left
+Stops kind bytes posts seen (LoginsFull stored) = IsFullAt kind bytes posts seen (post.LoginsFull stored)
+Stops kind bytes posts seen (ProcsFull stored) = IsFullAt kind bytes posts seen (post.ProcsFull stored)
+Stops kind bytes posts seen CallsFull = IsFullAt kind bytes posts seen post.CallsFull
+Stops kind bytes posts seen fault = IsRefused kind bytes posts fault
+
+-- the fault is one of the block after the first `count`, where it tells its place
+abbrev pub IsAfter : Kind → ℕ → FeedFault → Type 0
+IsAfter kind count (Torn records rest) =
+    (1024 * count ≤ records) × (records < 1024 * (count + 1)) × (0 < rest) × (rest < record_size kind)
+IsAfter kind count TooLong = count ≡ 1024
+IsAfter kind count (Bad at fault) = (1024 * count ≤ at) × (at < 1024 * (count + 1))
+IsAfter kind count fault = ⊤
+
+-- full batches were posted, no more than an input may have, and the fault is one of the block after them
+pub record IsStopped (kind : Kind) (posts : List Records → Type 0) (fault : FeedFault) : Type 0 where
+  pub batches : List Records
+  pub posted : posts batches
+  pub of_kind : AreOf kind batches
+  pub full : All IsFull batches
+  pub few : length batches ≤ 1024
+  pub place : IsAfter kind (length batches) fault
+
+-- what was seen refuses the post of some batch of this kind
+pub record IsFullFor (kind : Kind) (seen : Contents) (refusal : PostFault) : Type 0 where
+  pub batch : Records
+  pub of_kind : kind_of batch ≡ kind
+  pub few : record_count batch ≤ 1024
+  pub cause : Refuses seen batch refusal
+
+-- a full list is that of the kind, and a full book is one that was seen
+abbrev pub IsFeedRefusal : Kind → Contents → FeedFault → Type 0
+IsFeedRefusal kind seen (LoginsFull stored) = (kind ≡ Login) × IsFullFor kind seen (post.LoginsFull stored)
+IsFeedRefusal kind seen (ProcsFull stored) = (kind ≡ Proc) × IsFullFor kind seen (post.ProcsFull stored)
+IsFeedRefusal kind seen CallsFull = IsFullFor kind seen post.CallsFull
+IsFeedRefusal kind seen fault = ⊤
+
+-- the fault of a feed whose post was refused
+abbrev pub refusal_of : PostFault → FeedFault
+refusal_of post.Memory = Memory
+refusal_of (post.LoginsFull stored) = LoginsFull stored
+refusal_of (post.ProcsFull stored) = ProcsFull stored
+refusal_of post.CallsFull = CallsFull

@@ -1,4 +1,13 @@
 pub mod Batches
 pub mod Blocks
 pub mod Feeds
+pub mod Knowledge
+pub mod Openings
+pub mod Passes
+pub mod Rounds
+pub mod Rule
+pub mod Seats
+pub mod Steps
+pub mod Totals
 pub mod Turns
+pub mod Views

@@ -1,30 +1,31 @@
--- What one turn of a feed does.
-use Rattle.std.specs.Prelude.{◌≡◌, ◌+◌, ◌*◌, ◌/◌, ◌%◌, ◌<◌, ◌≤◌, ◌∷◌, ℕ, List, [], Option, Some, None, ⊤, drop, length, take}
-use Rattle.tally_records.specs.Records.{Records, record_count}
+-- What one turn of a feed takes from its input.
+use Rattle.std.specs.Prelude.{◌≡◌, ◌+◌, ◌*◌, ◌/◌, ◌<◌, ◌≤◌, ℕ, List, [], Option, Some, None, ⊤, drop, length, take}
+use Rattle.tally_records.specs.Records.{Records, kind_of, record_count}
 use Rattle.tally_records.specs.declared.batch.Kind.{Kind}
 use Rattle.tally_desk.specs.Batches.{batch_of, record_size, records_in}
 use Rattle.tally_desk.specs.Blocks.{bad_record, block_fault, block_size}
 use Rattle.tally_desk.specs.declared.fault.FeedFault.{FeedFault}
-use Rattle.tally_desk.specs.declared.fault.FeedFault.TheVariants.{Memory, Read}
+use Rattle.tally_desk.specs.declared.fault.FeedFault.TheVariants.{Memory, Read, LoginsFull, ProcsFull, CallsFull}
 
--- why a block of whole records is no batch
-abbrev pub IsBatchRefusal : Kind → ℕ → List ℕ → FeedFault → Type 0
-IsBatchRefusal kind turn bytes Memory = ⊤
-IsBatchRefusal kind turn bytes Read = ⊥
-IsBatchRefusal kind turn bytes fault = bad_record turn (batch_of kind bytes) ≡ Some fault
-
--- the fault that a turn gives, where the block's own fault is `expected`
+-- the fault that bytes give, where their own is `expected`: memory may run out first
 abbrev pub Gives : Option FeedFault → FeedFault → Type 0
 Gives expected Memory = ⊤
 Gives expected Read = ⊥
+Gives expected (LoginsFull stored) = ⊥
+Gives expected (ProcsFull stored) = ⊥
+Gives expected CallsFull = ⊥
 Gives expected fault = expected ≡ Some fault
 
--- why the bytes of a block were not posted
-pub record IsBlockRefusal (kind : Kind) (turn : ℕ) (bytes : List ℕ) (fault : FeedFault) : Type 0 where
-  pub some : 0 < length bytes
-  pub gives : Gives (block_fault kind (turn * block_size kind + length bytes) (turn, bytes)) fault
+-- why a block of whole records is no batch
+abbrev pub IsBatchRefusal : Kind → ℕ → List ℕ → FeedFault → Type 0
+IsBatchRefusal kind turn bytes fault = Gives (bad_record turn (batch_of kind bytes)) fault
 
--- why a turn failed, with these bytes to come
+-- why the bytes of a block are no batch
+abbrev pub IsBlockRefusal : Kind → ℕ → List ℕ → FeedFault → Type 0
+IsBlockRefusal kind turn bytes fault =
+    Gives (block_fault kind (turn * block_size kind + length bytes) (turn, bytes)) fault
+
+-- why no batch came of these bytes to come
 abbrev pub TurnStops : Kind → ℕ → List ℕ → FeedFault → Type 0
 TurnStops kind turn rest Memory = ⊤
 TurnStops kind turn rest Read = ⊤
@@ -32,19 +33,28 @@ TurnStops kind turn rest fault = (0 < length rest)
     × Gives (block_fault kind (turn * block_size kind + length rest)
     (turn, take (block_size kind) rest)) fault
 
--- n bytes were filled, and their records posted where there are any
-pub record PostsBlock (kind : Kind) (posts : List Records → Type 0) (n : ℕ) : Type 0 where
-  pub short : n ≤ block_size kind
-  pub whole : n % record_size kind ≡ 0
-  pub empty : n ≡ 0 → posts []
-  pub some : 0 < n → (batch : Records) × posts (batch ∷ [])
-      × (record_count batch ≡ n / record_size kind)
+-- a fault of the reading: no post was refused
+abbrev pub IsReadFault : FeedFault → Type 0
+IsReadFault (LoginsFull stored) = ⊥
+IsReadFault (ProcsFull stored) = ⊥
+IsReadFault CallsFull = ⊥
+IsReadFault fault = ⊤
 
--- a turn took the first block of the bytes to come and posted it, where there is any
-pub record TakesBlock (kind : Kind) (turn : ℕ) (rest : List ℕ) (n : ℕ) (left : Option (List ℕ)) (posts : List Records → Type 0) : Type 0 where
-  pub filled : n ≡ length (take (block_size kind) rest)
+-- a batch of some records of a kind, and not too many
+pub record IsBatch (kind : Kind) (batch : Records) : Type 0 where
+  pub of_kind : kind_of batch ≡ kind
+  pub some : 0 < record_count batch
+  pub few : record_count batch ≤ 1024
+
+-- the batch is that of the first block of the bytes to come, which is good, and the others are left
+pub record TakesBlock (kind : Kind) (turn : ℕ) (rest : List ℕ) (left : Option (List ℕ)) (batch : Records) : Type 0 where
+  pub some : 0 < length rest
+  pub good : block_fault kind (turn * block_size kind + length rest) (turn, take (block_size kind) rest) ≡ None
+  pub batch_is : batch ≡ records_in kind (take (block_size kind) rest)
+  pub count : record_count batch ≡ length (take (block_size kind) rest) / record_size kind
   pub left_is : left ≡ Some (drop (block_size kind) rest)
-  pub none : n ≡ 0 → posts []
-  pub good : 0 < n
-      → block_fault kind (turn * block_size kind + length rest) (turn, take (block_size kind) rest) ≡ None
-  pub some : 0 < n → posts (records_in kind (take (block_size kind) rest) ∷ [])
+
+-- a turn took the first block of the bytes to come, or found their end
+abbrev pub Takes : Kind → ℕ → List ℕ → Option (List ℕ) → Option Records → Type 0
+Takes kind turn rest left None = rest ≡ []
+Takes kind turn rest left (Some batch) = TakesBlock kind turn rest left batch

@@ -1,15 +1,15 @@
 //! One block of an input.
-ghost use Rattle.std.specs.Prelude.{◌≡◌, ◌+◌, ◌-◌, ◌*◌, ◌^◌, ◌<◌, ◌≤◌, ◌/◌, ◌%◌, ◌∷◌, [], IfErr, IfOk, OnErr, OnOk, Ok, None, length, take, is_some, true};
+ghost use Rattle.std.specs.Prelude.{◌≡◌, ◌≢◌, ◌+◌, ◌-◌, ◌*◌, ◌^◌, ◌<◌, ◌≤◌, ◌/◌, ◌%◌, IfErr, IfOk, IfSome, OnErr, OnOk, Ok, None, Some, List, ℕ, length, take, is_some, true};
 ghost use Rattle.std.specs.Io.KnownBytes.{Consumes, IsAtEnd};
 ghost use Rattle.tally_desk.specs.Batches.{batch_of, record_size, records_in};
 ghost use Rattle.tally_desk.specs.Blocks.{block_fault, block_size};
-ghost use Rattle.tally_desk.specs.Feeds.{Adds};
-ghost use Rattle.tally_desk.specs.Turns.{IsBatchRefusal, IsBlockRefusal};
+ghost use Rattle.tally_desk.specs.Feeds.{IsAfter};
+ghost use Rattle.tally_desk.specs.Turns.{IsBatch, IsBatchRefusal, IsBlockRefusal, IsReadFault, Takes, TurnStops};
+ghost use Rattle.tally_desk.specs.declared.fault.FeedFault.TheVariants as fault;
 ghost use Rattle.tally_records.specs.Records.{IsAnswer, NamesRecordBelow, record_count};
 
 use crate::fault::FeedFault;
 use crate::input::{Input, InputFault};
-use crate::sink::Sink;
 use std::alloc::Global;
 use tally_records::{BATCH_LIMIT, Batch, BatchFault, Kind, LOGIN_SIZE, PROC_SIZE};
 
@@ -66,21 +66,22 @@ fn read_batch(alloc: Global, kind: Kind, bytes: &[u8]) -> Result<Batch, BatchFau
 }
 
 /// The batch of a block of whole records.
-fn block_batch(alloc: Global, kind: Kind, bytes: &[u8], turn: u64) -> Result<Batch, FeedFault>
+fn block_batch(alloc: Global, kind: Kind, bytes: &[u8], turn: u32) -> Result<Batch, FeedFault>
     requires room { length bytes.now ≤ block_size kind }
     requires whole { length bytes.now % record_size kind ≡ 0 }
     requires early { turn < 1024 }
     ensures value { IfOk result (λ batch. batch ≡ records_in kind bytes.now) }
     ensures good { OnOk result (batch_of kind bytes.now ≡ Ok (records_in kind bytes.now)) }
-    ensures count { OnOk result
-        (record_count (records_in kind bytes.now) ≡ length bytes.now / record_size kind) }
+    ensures count { IfOk result (λ batch.
+        record_count batch ≡ length bytes.now / record_size kind) }
     ensures err { IfErr result (IsBatchRefusal kind turn bytes.now) }
+    ensures place { IfErr result (IsAfter kind turn) }
 {
     match read_batch(alloc, kind, bytes) {
         Ok(batch) => Ok(batch),
         Err(BatchFault::Memory) => Err(FeedFault::Memory),
         Err(BatchFault::Bad { index, fault }) => Err(FeedFault::Bad {
-            at: turn * 1024 + index as u64,
+            at: u64::from(turn) * 1024 + index as u64,
             fault,
         }),
         Err(BatchFault::Length(_)) => unreachable!(),
@@ -88,40 +89,58 @@ fn block_batch(alloc: Global, kind: Kind, bytes: &[u8], turn: u64) -> Result<Bat
     }
 }
 
-/// Posts the records of a block, if there are any.
-pub(crate) fn post_block<S: Sink>(
-    alloc: Global,
-    sink: &mut S,
-    kind: Kind,
-    bytes: &[u8],
-    turn: u64,
-) -> Result<(), FeedFault>
+/// The batch of the bytes of a block.
+fn whole_batch(alloc: Global, kind: Kind, bytes: &[u8], turn: u32) -> Result<Batch, FeedFault>
     requires room { length bytes.now ≤ block_size kind }
     requires early { turn < 1024 }
-    requires space { 0 < S.room sink.old }
-    ensures ok { OnOk result (0 < length bytes.now
-        → block_fault kind (turn * block_size kind + length bytes.now) (turn, bytes.now) ≡ None) }
     ensures whole { OnOk result (length bytes.now % record_size kind ≡ 0) }
-    ensures count { OnOk result (0 < length bytes.now
-        → record_count (records_in kind bytes.now) ≡ length bytes.now / record_size kind) }
-    ensures posts { OnOk result (0 < length bytes.now
-        → Adds S.holds sink.old sink.new (records_in kind bytes.now ∷ [])) }
-    ensures empty { OnOk result (length bytes.now ≡ 0 → Adds S.holds sink.old sink.new []) }
+    ensures good { OnOk result
+        (block_fault kind (turn * block_size kind + length bytes.now) (turn, bytes.now) ≡ None) }
+    ensures value { IfOk result (λ batch. batch ≡ records_in kind bytes.now) }
+    ensures count { IfOk result (λ batch.
+        record_count batch ≡ length bytes.now / record_size kind) }
     ensures err { IfErr result (IsBlockRefusal kind turn bytes.now) }
-    ensures unposted { OnErr result (Adds S.holds sink.old sink.new []) }
-    ensures left { S.room sink.old ≤ S.room sink.new + 1 }
+    ensures place { IfErr result (IsAfter kind turn) }
 {
-    if bytes.is_empty() {
-        return Ok(());
-    }
     let size = record_size(kind);
     if bytes.len() % size != 0 {
         return Err(FeedFault::Torn {
-            records: turn * 1024 + (bytes.len() / size) as u64,
+            records: u64::from(turn) * 1024 + (bytes.len() / size) as u64,
             rest: (bytes.len() % size) as u64,
         });
     }
-    let batch = block_batch(alloc, kind, bytes, turn)?;
-    sink.post(&batch)?;
-    Ok(())
+    block_batch(alloc, kind, bytes, turn)
+}
+
+/// The batch of the input's next block, or none at the end of the input.
+pub(crate) fn next_batch<I: Input>(
+    alloc: Global,
+    kind: Kind,
+    input: &mut I,
+    block: &mut [u8],
+    turn: u32,
+) -> Result<Option<Batch>, FeedFault>
+    requires countable { I.failures input.old < 2 ^ 64 - 1 }
+    requires size { length block.old ≡ block_size kind }
+    requires early { turn < 1024 }
+    ensures failures { OnOk result (I.failures input.new ≡ I.failures input.old) }
+    ensures nature { I.can_fail input.new ≡ I.can_fail input.old }
+    ensures read { IfErr result (λ f. f ≡ fault.Read
+        → (I.failures input.new ≡ I.failures input.old + 1) × (I.can_fail input.old ≡ true)) }
+    ensures unfailed { IfErr result (λ f. f ≢ fault.Read
+        → I.failures input.new ≡ I.failures input.old) }
+    ensures reading { IfErr result IsReadFault }
+    ensures place { IfErr result (IsAfter kind turn) }
+    ensures batch { IfOk result (λ next. IfSome next (IsBatch kind)) }
+    ensures takes { IfOk result (λ next. (rest : List ℕ) → I.to_come input.old ≡ Some rest
+        → Takes kind turn rest (I.to_come input.new) next) }
+    ensures stops { IfErr result (λ f. (rest : List ℕ) → I.to_come input.old ≡ Some rest
+        → TurnStops kind turn rest f) }
+{
+    let filled = fill(input, block)?;
+    if filled == 0 {
+        return Ok(None);
+    }
+    let batch = whole_batch(alloc, kind, &block[..filled], turn)?;
+    Ok(Some(batch))
 }

@@ -1,9 +1,11 @@
 //! Why an input is refused.
 ghost use Rattle.std.specs.Prelude.{◌≡◌};
+ghost use Rattle.tally_desk.specs.Feeds.{refusal_of};
 ghost use Rattle.tally_desk.specs.declared.fault.FeedFault.TheVariants as fault;
 
 use crate::input::InputFault;
 use std::alloc::AllocError;
+use tally_book::PostFault;
 use tally_records::{Memory, RecordFault};
 use thiserror::Error;
 
@@ -24,6 +26,15 @@ pub enum FeedFault {
     /// A record has no meaning; its number in the input counts from 0.
     #[error("record {at}: {fault}")]
     Bad { at: u64, fault: RecordFault },
+    /// The stored login records and those of the next block are more than a book holds.
+    #[error("too many login records")]
+    LoginsFull { stored: u64 },
+    /// The stored process records and those of the next block are more than a book holds.
+    #[error("too many process records")]
+    ProcsFull { stored: u64 },
+    /// The history holds as many calls as it may.
+    #[error("too many calls")]
+    CallsFull,
 }
 
 impl From<AllocError> for FeedFault {
@@ -47,5 +58,18 @@ impl From<InputFault> for FeedFault {
 
     fn from(_error: InputFault) -> FeedFault {
         FeedFault::Read
+    }
+}
+
+impl From<PostFault> for FeedFault {
+    ghost from_gives = { λ refusal f. f ≡ refusal_of refusal };
+
+    fn from(refusal: PostFault) -> FeedFault {
+        match refusal {
+            PostFault::Memory => FeedFault::Memory,
+            PostFault::LoginsFull { stored } => FeedFault::LoginsFull { stored },
+            PostFault::ProcsFull { stored } => FeedFault::ProcsFull { stored },
+            PostFault::CallsFull => FeedFault::CallsFull,
+        }
     }
 }

@@ -12,7 +12,7 @@ use thiserror::Error;
 pub struct InputFault;
 
 /// A source of bytes.
-pub trait Input {
+pub trait Input: Drop {
     // The bytes to come, where the input tells them.
     ghost to_come: { Self → Option (List ℕ) };
 

@@ -52,7 +52,7 @@ fn read_through<R: Read>(reader: &mut R, buf: &mut [u8]) -> Result<usize, InputF
     Err(InputFault)
 }
 
-impl<R: Read> Input for Reading<R> {
+impl<R: Read + Drop> Input for Reading<R> {
     ghost to_come = { λ _. None };
 
     ghost can_fail = { λ _. true };

@@ -3,7 +3,7 @@ ghost use Rattle.std.specs.Prelude.{◌≡◌, ◌<◌, IfOk};
 ghost use Rattle.tally_book.specs.Answers.{IsAskable, HasDays};
 
 use crate::bytes::{login_record, logins, make_record, procs, put};
-use crate::printing::print_copy;
+use crate::printing::{print_receipt, print_served};
 use crate::stopped::Stopped;
 use std::alloc::Global;
 use tally_book::{AskFault, Book, PostFault, Question, Receipt, Served};
@@ -72,8 +72,8 @@ pub(crate) fn hour(alloc: Global) -> Result<Batch, Stopped> {
     Ok(logins(alloc, &bytes)?)
 }
 
-/// One run of make that executed, and two that only forked.
-pub(crate) fn makes(alloc: Global) -> Result<Batch, Stopped> {
+/// One run of make that executed, and two that only forked, as bytes.
+pub(crate) fn make_bytes() -> [u8; 192] {
     let forked = make_record(1, &[60, 0, 0, 0, 60, 0, 200, 0, 3, 0]);
     let mut bytes = [0; 192];
     put(
@@ -83,20 +83,12 @@ pub(crate) fn makes(alloc: Global) -> Result<Batch, Stopped> {
     );
     put(&mut bytes, 64, &forked);
     put(&mut bytes, 128, &forked);
-    Ok(procs(alloc, &bytes)?)
+    bytes
 }
 
-fn print_receipt<R: Print>(rt: &R, receipt: Receipt) -> Result<(), Stopped> {
-    let Receipt {
-        call,
-        before,
-        after,
-    } = receipt;
-    println!(rt;
-        "post {call}: from {} {} to {} {}",
-        before.logins, before.procs, after.logins, after.procs
-    )?;
-    Ok(())
+/// The batch of these runs.
+pub(crate) fn makes(alloc: Global) -> Result<Batch, Stopped> {
+    Ok(procs(alloc, &make_bytes())?)
 }
 
 /// Asks, and prints a copy of the answer.
@@ -111,20 +103,18 @@ pub(crate) fn report<R: Print + AllocGlobal>(
     ensures { book.new.callers ≡ book.old.callers }
 {
     let served = ask(rt.alloc(), book, caller, question)?;
-    println!(rt;
-        "report {}: at {} {}",
-        served.call, served.at.logins, served.at.procs
-    )?;
-    print_copy(rt, &served.answer)
+    print_served(rt, &served)
 }
 
-const TOTAL: Question = Question::Connect {
+/// Connect time in all.
+pub(crate) const TOTAL: Question = Question::Connect {
     by_day: false,
     by_user: false,
     offset: 0,
 };
 
-const COMMANDS: Question = Question::Commands {
+/// The command groups, by processor time.
+pub(crate) const COMMANDS: Question = Question::Commands {
     order: Order::Cpu,
     reverse: false,
     all: false,

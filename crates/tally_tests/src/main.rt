@@ -4,6 +4,8 @@
 
 mod book;
 mod bytes;
+mod desk;
+mod feeds;
 mod printing;
 mod reports;
 mod sessions;
@@ -11,12 +13,15 @@ mod stopped;
 
 use crate::stopped::Stopped;
 use std::process::ExitCode;
+use std::sync::Wait;
 
 /// Runs the scripts, each of which prints what its calls answer.
-fn scripts<R: Print + AllocGlobal>(rt: &R) -> Result<(), Stopped> {
+fn scripts<R: Print + AllocGlobal + Wait>(rt: &R) -> Result<(), Stopped> {
     sessions::script(rt)?;
     book::script(rt)?;
-    reports::script(rt)
+    reports::script(rt)?;
+    desk::script(rt)?;
+    feeds::script(rt)
 }
 
 fn main(rt: HostRuntime) -> ExitCode {

@@ -1,11 +1,11 @@
-//! Answers, copied and printed.
+//! Receipts, and answers that are copied and printed.
 ghost use Rattle.std.specs.Prelude.{◌≡◌, IfOk};
 ghost use Rattle.tally_book.specs.Answers.{HasDays};
 
 use crate::stopped::Stopped;
 use std::alloc::Global;
 use std::io::{self, Write};
-use tally_book::Answer;
+use tally_book::{Answer, Receipt, Served};
 use tally_print::{Kept, PrintFault, print_answer};
 use tally_records::Memory;
 
@@ -33,11 +33,36 @@ fn text(alloc: Global, answer: &Answer) -> Result<Kept, PrintFault>
 }
 
 /// Prints a copy of the answer.
-pub(crate) fn print_copy<R: Print + AllocGlobal>(rt: &R, answer: &Answer) -> Result<(), Stopped>
+fn print_copy<R: Print + AllocGlobal>(rt: &R, answer: &Answer) -> Result<(), Stopped>
     requires { HasDays answer.now }
 {
     let copied = copy(rt.alloc(), answer)?;
     let printed = text(rt.alloc(), &copied)?;
     io::writer(rt).write_all(printed.bytes())?;
     Ok(())
+}
+
+/// Prints what a post answered.
+pub(crate) fn print_receipt<R: Print>(rt: &R, receipt: Receipt) -> Result<(), Stopped> {
+    let Receipt {
+        call,
+        before,
+        after,
+    } = receipt;
+    println!(rt;
+        "post {call}: from {} {} to {} {}",
+        before.logins, before.procs, after.logins, after.procs
+    )?;
+    Ok(())
+}
+
+/// Prints what a report answered, with a copy of the answer.
+pub(crate) fn print_served<R: Print + AllocGlobal>(rt: &R, served: &Served) -> Result<(), Stopped>
+    requires { HasDays served.now.answer }
+{
+    println!(rt;
+        "report {}: at {} {}",
+        served.call, served.at.logins, served.at.procs
+    )?;
+    print_copy(rt, &served.answer)
 }

@@ -1,6 +1,7 @@
 use std::alloc::AllocError;
 use std::io;
 use tally_book::{AskFault, PostFault};
+use tally_desk::{FeedFault, OpenFault};
 use tally_print::PrintFault;
 use tally_records::{BatchFault, Memory};
 use thiserror::Error;
@@ -61,6 +62,24 @@ impl From<AskFault> for Stopped {
         match fault {
             AskFault::Memory => Stopped::Memory,
             _ => Stopped::Refused("report"),
+        }
+    }
+}
+
+impl From<OpenFault> for Stopped {
+    fn from(fault: OpenFault) -> Stopped {
+        match fault {
+            OpenFault::Memory => Stopped::Memory,
+            OpenFault::Callers(_) => Stopped::Refused("open"),
+        }
+    }
+}
+
+impl From<FeedFault> for Stopped {
+    fn from(fault: FeedFault) -> Stopped {
+        match fault {
+            FeedFault::Memory => Stopped::Memory,
+            _ => Stopped::Refused("feed"),
         }
     }
 }

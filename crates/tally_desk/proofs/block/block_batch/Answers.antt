@@ -1,5 +1,4 @@
-use Rattle.std.proofs.Common.{◌∙◌, Ok, ap, sym}
-use Rattle.tally_records.specs.Records.{record_count}
+use Rattle.std.proofs.Common.{◌∙◌, Ok, ap}
 use Rattle.tally_desk.proofs.ReadLemmas.{batch_of-ok, never_length, never_too_many}
 use Rattle.tally_desk.proofs.block.block_batch.Goals as goal
 
@@ -24,4 +23,4 @@ returns-in-Ok-clause-good c =
 pub returns-in-Ok-clause-count : goal.returns-in-Ok-clause-count
 returns-in-Ok-clause-count c =
     let read = batch_of-ok c.args.kind c.args.bytes.now c.in-Ok.batch c.requires.whole c.requires.room c.in-Ok.ensures.exact in
-    ap record_count (sym read.is) ∙ read.count
+    read.count

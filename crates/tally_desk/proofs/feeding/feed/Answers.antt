@@ -1,59 +1,106 @@
-use Rattle.std.proofs.Common.{◌∙◌, ◌≡◌, ◌++◌, ap, arith, drop, length, length-append}
+use Rattle.std.proofs.Common.{◌∙◌, ◌≡◌, ◌++◌, ◌<◌, ap, arith, drop, length, length-append, refl, subst}
 use Rattle.std.proofs.lemmas.List.{length-drop, length-take}
 use Rattle.std.proofs.lemmas.Result.{err_from_is_err_and}
-use Rattle.tally_desk.specs.Blocks.{block_size}
+use Rattle.std.specs.Io.KnownBytes.{IsAtEnd}
+use Rattle.tally_records.specs.Records.{record_count}
+use Rattle.tally_desk.specs.Feeds.{IsFull}
 use Rattle.tally_desk.specs.declared.fault.FeedFault.TheVariants as fault
-use Rattle.tally_desk.proofs.AddLemmas.{adds_none}
-use Rattle.tally_desk.proofs.CountLemmas.{counts_full, counts_short, full_more, joins_adds}
-use Rattle.tally_desk.proofs.FeedLemmas.{fed_none, fed_stops, told_end, told_more, told_stops, told_whole}
+use Rattle.tally_desk.proofs.CountLemmas.{after_all, counts_full, counts_last, full_cut, full_more, full_none, one_more_batch, unplaced}
+use Rattle.tally_desk.proofs.FeedLemmas.{begins, some_batch, takes_end, takes_some, told_end, told_more, told_short, told_stops, told_unposted}
+use Rattle.tally_desk.proofs.KeepLemmas.{keeps_more}
+use Rattle.tally_desk.proofs.RefusalLemmas.{no_refusal, post_refusal}
 use Rattle.tally_desk.proofs.TurnLemmas.{last_turn_stops}
 use Rattle.tally_desk.proofs.feeding.feed.Goals as goal
 
 pub returns-in_err-block-clause-stops : goal.returns-in_err-block-clause-stops
 returns-in_err-block-clause-stops g c =
     let p = err_from_is_err_and c.from_residual.result c.from_residual.ensures.1 in
-    rw (p.1, p.2) (λ bytes told. fed_stops g.S.Sink.holds c.args.kind bytes _ _ 0 bytes fault.Memory (fed_none g.S.Sink.holds c.args.kind bytes _) (omega arith) tt)
+    let pass = c.args.pass.now in
+    rw (p.1, p.2) (λ bytes told. told_stops c.args.kind bytes _ pass pass 0 pass.seen fault.Memory (begins c.args.kind bytes _ pass told) tt)
 
-pub returns-in_err-filled-clause-stops : goal.returns-in_err-filled-clause-stops
-returns-in_err-filled-clause-stops g c =
-    let p = err_from_is_err_and c.from_residual-in_err-filled.result c.from_residual-in_err-filled.ensures.1 in
-    let stopped = c.in_err-filled.ensures in
+pub returns-in_err-batch-clause-stops : goal.returns-in_err-batch-clause-stops
+returns-in_err-batch-clause-stops g c =
+    let p = err_from_is_err_and c.from_residual-in_err-batch.result c.from_residual-in_err-batch.ensures.1 in
+    let pass = c.loop-turn.pass in
     rw (p.1, p.2) (λ bytes told.
     let so_far = c.loop-turn.invariant.told bytes told in
-    told_stops g.S.Sink.holds c.args.kind bytes _ _ _ _ c.loop-turn.turn _ so_far stopped.unposted (stopped.stops so_far.rest so_far.to_come))
+    told_stops c.args.kind bytes _ c.args.pass.now pass c.loop-turn.turn pass.seen _ so_far (c.in_err-batch.ensures.stops so_far.rest so_far.to_come))
 
-pub returns-then-filled-size-clause-counted : goal.returns-then-filled-size-clause-counted
-returns-then-filled-size-clause-counted g c =
-    counts_short _ _ _ (joins_adds g.S.Sink.holds _ _ _) c.args.kind c.loop-turn.turn c.in_ok-filled.filled c.fed_by.result c.loop-turn.invariant.posts c.in_ok-filled.ensures.posts c.fed_by.ensures.records c.fed_by.ensures.batches
+pub returns-in_err-batch-clause-full : goal.returns-in_err-batch-clause-full
+returns-in_err-batch-clause-full g c =
+    let p = err_from_is_err_and c.from_residual-in_err-batch.result c.from_residual-in_err-batch.ensures.1 in
+    rw (p.1, p.2) (no_refusal c.args.kind c.loop-turn.pass.seen _ c.in_err-batch.ensures.reading)
 
-pub returns-then-filled-size-clause-whole : goal.returns-then-filled-size-clause-whole
-returns-then-filled-size-clause-whole g c = λ bytes told.
+pub returns-in_default-clause-counted : goal.returns-in_default-clause-counted
+returns-in_default-clause-counted g c =
+    let fed = c.fed_by.ensures in
+    counts_full c.args.kind _ c.loop-turn.turn c.fed_by.result c.loop-turn.invariant.posts (omega (arith, fed.batches)) (omega (arith, fed.records))
+
+pub returns-in_default-clause-whole : goal.returns-in_default-clause-whole
+returns-in_default-clause-whole g c = λ bytes told.
     let so_far = c.loop-turn.invariant.told bytes told in
-    told_whole g.S.Sink.holds c.args.kind bytes _ _ _ _ _ c.loop-turn.turn c.in_ok-filled.filled so_far (c.in_ok-filled.ensures.takes so_far.rest so_far.to_come)
-    (omega (arith, c.if-filled-size.true, c.block_size-size.ensures))
+    let end = takes_end c.args.kind _ c.loop-turn.turn so_far.rest _ c.in_default.is (c.in_ok-batch.ensures.takes so_far.rest so_far.to_come) in
+    told_end c.args.kind bytes _ c.args.pass.now c.loop-turn.pass c.loop-turn.turn so_far end
+
+pub returns-in_err-post-clause-stops : goal.returns-in_err-post-clause-stops
+returns-in_err-post-clause-stops g c =
+    let p = err_from_is_err_and c.from_residual-in_err-post.result c.from_residual-in_err-post.ensures.1 in
+    let post = c.in_err-post.ensures in
+    rw (p.1, p.2) (λ bytes told.
+    let so_far = c.loop-turn.invariant.told bytes told in
+    let takes = takes_some c.args.kind _ c.loop-turn.turn so_far.rest _ c.in-Some.batch c.in-Some.is (c.in_ok-batch.ensures.takes so_far.rest so_far.to_come) in
+    told_unposted c.args.kind bytes _ c.args.pass.now _ c.loop-turn.pass c.post.new.pass c.loop-turn.turn c.in-Some.batch c.post.new.pass.seen _ so_far takes post.did post.cause)
+
+pub returns-in_err-post-clause-full : goal.returns-in_err-post-clause-full
+returns-in_err-post-clause-full g c =
+    let p = err_from_is_err_and c.from_residual-in_err-post.result c.from_residual-in_err-post.ensures.1 in
+    let post = c.in_err-post.ensures in
+    let batch = some_batch c.args.kind _ c.in-Some.batch c.in-Some.is c.in_ok-batch.ensures.batch in
+    rw (p.1, p.2) (post_refusal c.post.new.pass.seen post.grows.legal c.args.kind c.in-Some.batch _ batch post.cause)
+
+pub returns-then-records-lt-BATCH_LIMIT-clause-counted :
+    goal.returns-then-records-lt-BATCH_LIMIT-clause-counted
+returns-then-records-lt-BATCH_LIMIT-clause-counted g c =
+    let fed = c.fed_by-then-records-lt-BATCH_LIMIT.ensures in
+    let batch = some_batch c.args.kind _ c.in-Some.batch c.in-Some.is c.in_ok-batch.ensures.batch in
+    let some : 0 < c.len-records.result = omega (arith, batch.some, c.len-records.ensures.count) in
+    counts_last c.args.kind c.args.pass.now c.loop-turn.pass c.post.new.pass c.loop-turn.turn c.loop-turn.invariant.posts c.in-Some.batch batch c.in_ok-post.ensures.did
+    c.fed_by-then-records-lt-BATCH_LIMIT.result
+    (omega (arith, fed.records, c.len-records.ensures.count))
+    (one_more_batch c.len-records.result c.loop-turn.turn _ some fed.batches)
+
+pub returns-then-records-lt-BATCH_LIMIT-clause-whole :
+    goal.returns-then-records-lt-BATCH_LIMIT-clause-whole
+returns-then-records-lt-BATCH_LIMIT-clause-whole g c = λ bytes told.
+    let so_far = c.loop-turn.invariant.told bytes told in
+    let takes = takes_some c.args.kind _ c.loop-turn.turn so_far.rest _ c.in-Some.batch c.in-Some.is (c.in_ok-batch.ensures.takes so_far.rest so_far.to_come) in
+    let short : record_count c.in-Some.batch < 1024 = omega (arith, c.len-records.ensures.count, c.if-records-lt-BATCH_LIMIT.true) in
+    told_short c.args.kind bytes _ c.args.pass.now _ c.loop-turn.pass c.post.new.pass c.loop-turn.turn c.in-Some.batch so_far takes c.in_ok-post.ensures.did short
 
 pub loop-turn-preserved : goal.loop-turn-preserved
 loop-turn-preserved g c =
-    let filled = c.in_ok-filled.ensures in
-    let all : c.in_ok-filled.filled ≡ block_size c.args.kind = omega (arith, c.if-filled-size.false, c.block_size-size.ensures, filled.posts.short) in
-    let same : length c.feed_block.new.block ≡ length c.loop-turn.block.items = c.feed_block.auto.block ∙ ap length c.as_mut_slice.ensures.value in
+    let next = c.in_ok-batch.ensures in
+    let batch = some_batch c.args.kind _ c.in-Some.batch c.in-Some.is next.batch in
+    let full : IsFull c.in-Some.batch = omega (arith, batch.few, c.len-records.ensures.count, c.if-records-lt-BATCH_LIMIT.false) in
+    let same : length c.next_batch.new.block ≡ length c.loop-turn.block.items = c.next_batch.auto.block ∙ ap length c.as_mut_slice.ensures.value in
     record {
-      countable = filled.failures ∙ c.loop-turn.invariant.countable;
-      nature = filled.nature ∙ c.loop-turn.invariant.nature;
+      countable = next.failures ∙ c.loop-turn.invariant.countable;
+      nature = next.nature ∙ c.loop-turn.invariant.nature;
       size = omega (
         arith,
         same,
         c.loop-turn.block.ok.0,
         c.loop-turn.invariant.size,
-        length-take c.loop-turn.block.len (c.feed_block.new.block ++ drop (length c.feed_block.new.block) c.loop-turn.block.items),
-        length-append c.feed_block.new.block (drop (length c.feed_block.new.block) c.loop-turn.block.items),
-        length-drop (length c.feed_block.new.block) c.loop-turn.block.items,
+        length-take c.loop-turn.block.len (c.next_batch.new.block ++ drop (length c.next_batch.new.block) c.loop-turn.block.items),
+        length-append c.next_batch.new.block (drop (length c.next_batch.new.block) c.loop-turn.block.items),
+        length-drop (length c.next_batch.new.block) c.loop-turn.block.items,
       );
-      room = omega (arith, filled.left, c.loop-turn.invariant.room);
-      posts = full_more _ _ _ (joins_adds g.S.Sink.holds _ _ _) c.args.kind c.loop-turn.turn c.in_ok-filled.filled c.loop-turn.invariant.posts filled.posts all;
+      keeps = keeps_more c.args.pass.now c.loop-turn.pass c.post.new.pass c.loop-turn.invariant.keeps c.in_ok-post.ensures.grows;
+      posts = full_more c.args.kind c.args.pass.now c.loop-turn.pass c.post.new.pass c.loop-turn.turn c.loop-turn.invariant.posts c.in-Some.batch batch c.in_ok-post.ensures.did full;
       told = λ bytes told.
           let so_far = c.loop-turn.invariant.told bytes told in
-          told_more g.S.Sink.holds c.args.kind bytes _ _ _ _ _ c.loop-turn.turn c.in_ok-filled.filled so_far (filled.takes so_far.rest so_far.to_come) all;
+          let takes = takes_some c.args.kind _ c.loop-turn.turn so_far.rest _ c.in-Some.batch c.in-Some.is (next.takes so_far.rest so_far.to_come) in
+          told_more c.args.kind bytes _ c.args.pass.now _ c.loop-turn.pass c.post.new.pass c.loop-turn.turn c.in-Some.batch so_far takes c.in_ok-post.ensures.did full;
     }
 
 pub returns-in_err-expect_end-clause-stops : goal.returns-in_err-expect_end-clause-stops
@@ -61,15 +108,41 @@ returns-in_err-expect_end-clause-stops g c =
     let p = err_from_is_err_and c.from_residual-in_err-expect_end.result c.from_residual-in_err-expect_end.ensures.1 in
     let stopped = c.in_err-expect_end.ensures in
     let last : c.loop-turn.turn ≡ 1024 = omega arith in
+    let pass = c.loop-turn.pass in
     rw (p.1, p.2) (λ bytes told.
     let so_far = c.loop-turn.invariant.told bytes told in
-    told_stops g.S.Sink.holds c.args.kind bytes _ _ _ _ c.loop-turn.turn _ so_far (adds_none g.S.Sink.holds _)
+    told_stops c.args.kind bytes _ c.args.pass.now pass c.loop-turn.turn pass.seen _ so_far
     (last_turn_stops c.args.kind c.loop-turn.turn so_far.rest _ last stopped.err (λ long. stopped.long long so_far.rest so_far.to_come)))
 
 pub returns-clause-counted : goal.returns-clause-counted
 returns-clause-counted g c =
-    counts_full _ c.loop-turn.turn _ c.loop-turn.invariant.posts (omega arith) (omega arith)
+    counts_full c.args.kind _ c.loop-turn.turn _ c.loop-turn.invariant.posts (omega arith) (omega arith)
 
 pub returns-clause-whole : goal.returns-clause-whole
 returns-clause-whole g c = λ bytes told.
-    told_end g.S.Sink.holds c.args.kind bytes _ _ _ c.loop-turn.turn (c.loop-turn.invariant.told bytes told) c.in_ok-expect_end.ensures.ok
+    let so_far = c.loop-turn.invariant.told bytes told in
+    told_end c.args.kind bytes _ c.args.pass.now c.loop-turn.pass c.loop-turn.turn so_far (subst IsAtEnd so_far.to_come c.in_ok-expect_end.ensures.ok)
+
+pub returns-in_err-block-clause-posts : goal.returns-in_err-block-clause-posts
+returns-in_err-block-clause-posts g c =
+    let p = err_from_is_err_and c.from_residual.result c.from_residual.ensures.1 in
+    let pass = c.args.pass.now in
+    rw (p.1, p.2) (full_cut c.args.kind pass pass pass 0 fault.Memory (full_none c.args.kind pass) (omega arith) refl tt)
+
+pub returns-in_err-batch-clause-posts : goal.returns-in_err-batch-clause-posts
+returns-in_err-batch-clause-posts g c =
+    let p = err_from_is_err_and c.from_residual-in_err-batch.result c.from_residual-in_err-batch.ensures.1 in
+    let pass = c.loop-turn.pass in
+    rw (p.1, p.2) (full_cut c.args.kind c.args.pass.now pass pass c.loop-turn.turn _ c.loop-turn.invariant.posts (omega arith) refl c.in_err-batch.ensures.place)
+
+pub returns-in_err-post-clause-posts : goal.returns-in_err-post-clause-posts
+returns-in_err-post-clause-posts g c =
+    let p = err_from_is_err_and c.from_residual-in_err-post.result c.from_residual-in_err-post.ensures.1 in
+    rw (p.1, p.2) (full_cut c.args.kind c.args.pass.now c.loop-turn.pass c.post.new.pass c.loop-turn.turn _ c.loop-turn.invariant.posts (omega arith) c.in_err-post.ensures.did (unplaced c.args.kind c.loop-turn.turn _))
+
+pub returns-in_err-expect_end-clause-posts : goal.returns-in_err-expect_end-clause-posts
+returns-in_err-expect_end-clause-posts g c =
+    let p = err_from_is_err_and c.from_residual-in_err-expect_end.result c.from_residual-in_err-expect_end.ensures.1 in
+    let pass = c.loop-turn.pass in
+    let last : c.loop-turn.turn ≡ 1024 = omega arith in
+    rw (p.1, p.2) (full_cut c.args.kind c.args.pass.now pass pass c.loop-turn.turn _ c.loop-turn.invariant.posts (omega arith) refl (after_all c.args.kind c.loop-turn.turn _ last c.in_err-expect_end.ensures.err))

@@ -1,0 +1,55 @@
+-- The questions of a report can be asked of the book.
+use Rattle.std.proofs.Common.{◌≡◌, ℕ, ◌+◌, ◌<◌, ◌≤◌, ℤ, Bool, true, false, cond, List, [], ◌∷◌, ◌++◌, Option, Some, None, length, map, filter, refl, sym, ap, ◌∙◌, arith}
+use Rattle.std.proofs.lemmas.List.Elements.{All-append, All-cons, All-nil}
+use Rattle.std.proofs.lemmas.Simd.{map-map}
+use Rattle.std.specs.List.{All, enumerate_from}
+use Rattle.tally_book.specs.declared.question.Answer.{Answer}
+use Rattle.tally_book.specs.declared.question.Question.{Question}
+use Rattle.tally_book.specs.declared.question.Question.TheVariants as questions
+use Rattle.tally_book.specs.Answers.{IsAskable, NamesHostBelow, answer_of}
+use Rattle.tally_print.specs.AnswerText.{answer_text}
+use Rattle.tally_print.specs.Civil.{IsOffset}
+use Rattle.tally_records.specs.declared.batch.Kind.{Kind}
+use Rattle.tally_records.specs.declared.batch.Kind.TheVariants.{Login}
+use Rattle.tally_sessions.specs.declared.entry.Entry.{Entry}
+use Rattle.tally_usage.specs.declared.entry.ProcEntry.{ProcEntry}
+use Rattle.tally_usage.specs.declared.order.Order.TheVariants as order
+use Rattle.tally_cli.specs.declared.job.Job.{Job}
+use Rattle.tally_cli.specs.declared.job.Report.{Report}
+use Rattle.tally_cli.specs.declared.job.Report.TheVariants as report
+use Rattle.tally_cli.specs.Output.{is_wanted, questions_of, report_text, section, sections, stays_asked}
+
+kept_first : {X Y : Type 0} (P : Y → Type 0) (f : X → Y) (x : X) (rest : List X) (b : Bool) → P (f x) → All P (map f rest) → All P (map f (cond b (x ∷ rest) rest))
+kept_first P f x rest true p h = All-cons P (f x) (map f rest) p h
+kept_first P f x rest false p h = h
+
+stays_from : (P : Question → Type 0) (wanted : Option Kind) (limit : Option ℕ) (kinds : List Kind) (from : ℕ) → ((n : ℕ) → n < from + length kinds → P (questions.Last n limit))
+    → All P (map (λ (numbered : ℕ × Kind). questions.Last numbered.0 limit) (filter (λ numbered. is_wanted wanted numbered.1) (enumerate_from from kinds)))
+stays_from P wanted limit [] from h = All-nil P
+stays_from P wanted limit (k ∷ ks) from h =
+    kept_first P (λ (numbered : ℕ × Kind). questions.Last numbered.0 limit) (from, k) (filter (λ numbered. is_wanted wanted numbered.1) (enumerate_from (from + 1) ks)) (is_wanted wanted k)
+    (h from (omega arith)) (stays_from P wanted limit ks (from + 1) (λ n l. h n (omega (arith, l))))
+
+stays_all : (P : Question → Type 0) (wanted : Option Kind) (limit : Option ℕ) (kinds : List Kind) → ((n : ℕ) → n < length kinds → P (questions.Last n limit)) → All P (stays_asked wanted limit kinds)
+stays_all P wanted limit kinds h = stays_from P wanted limit kinds 0 (λ n l. h n (omega (arith, l)))
+
+-- what holds of the stays of each file and of the questions without a host holds of all
+pub all_questions : (P : Question → Type 0) (r : Report) (offset : ℤ) (kinds : List Kind) → ((limit : Option ℕ) (n : ℕ) → n < length kinds → P (questions.Last n limit))
+    → ((by_day by_user : Bool) → P (questions.Connect by_day by_user offset)) → ((by : _) (reverse all : Bool) → P (questions.Commands by reverse all)) → ((by : _) (reverse : Bool) → P (questions.Users by reverse))
+    → All P (questions_of r offset kinds)
+all_questions P (report.Last limit) offset kinds last connect commands users = stays_all P None limit kinds (last limit)
+all_questions P (report.Connect by_day by_user) offset kinds last connect commands users = All-cons P _ [] (connect by_day by_user) (All-nil P)
+all_questions P (report.Commands by reverse all) offset kinds last connect commands users = All-cons P _ [] (commands by reverse all) (All-nil P)
+all_questions P (report.Users by reverse) offset kinds last connect commands users = All-cons P _ [] (users by reverse) (All-nil P)
+all_questions P report.All offset kinds last connect commands users =
+    All-append P (stays_asked (Some Login) None kinds) (questions.Connect false false offset ∷ questions.Commands order.Cpu false false ∷ [])
+    (stays_all P (Some Login) None kinds (last None))
+    (All-cons P (questions.Connect false false offset) (questions.Commands order.Cpu false false ∷ []) (connect false false) (All-cons P (questions.Commands order.Cpu false false) [] (commands order.Cpu false false) (All-nil P)))
+
+-- the text of the answers is that of the report
+pub report_is : (job : Job) (kinds : List Kind) (asked : List Question) (answers : List Answer) (logins : List Entry) (procs : List ProcEntry)
+    → asked ≡ questions_of job.report job.offset kinds → answers ≡ map (λ q. answer_of q logins procs) asked → sections (map (λ a. answer_text a job.offset) answers) ≡ report_text job kinds logins procs
+report_is job kinds asked answers logins procs e f =
+    ap (λ l. sections (map (λ a. answer_text a job.offset) l)) f
+    ∙ ap sections (map-map (λ a. answer_text a job.offset) (λ q. answer_of q logins procs) asked)
+    ∙ ap (λ l. sections (map (section job.offset logins procs) l)) e

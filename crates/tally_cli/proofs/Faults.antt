@@ -1,0 +1,88 @@
+-- What a failure tells of the caller's work.
+use Rattle.std.proofs.Common.{◌≡◌, ℕ, Bool, List, Option, Some, None, true, refl, sym, ap, ◌∙◌, subst}
+use Rattle.std.specs.List.{Contains}
+use Rattle.tally_book.specs.declared.fault.AskFault.{AskFault}
+use Rattle.tally_desk.specs.Passes.{PassState}
+use Rattle.tally_desk.specs.declared.fault.FeedFault.{FeedFault}
+use Rattle.tally_desk.specs.declared.fault.FeedFault.TheVariants as feed
+use Rattle.tally_cli.specs.declared.fault.RunFault.{RunFault}
+use Rattle.tally_cli.specs.declared.fault.RunFault.TheVariants as run
+use Rattle.tally_cli.specs.declared.gather.Cause.TheVariants as cause
+use Rattle.tally_cli.specs.declared.gather.Failure.{Failure}
+use Rattle.tally_cli.specs.declared.sources.Source.{Source}
+use Rattle.tally_cli.specs.declared.task.Outcome.{Outcome}
+use Rattle.tally_cli.specs.declared.task.Outcome.TheVariants as outcome
+use Rattle.tally_cli.specs.Deals.{work_of}
+use Rattle.tally_cli.specs.Failures.{failure_of}
+use Rattle.tally_cli.specs.Runs.{IsFileCause, Told, run_fault}
+use Rattle.tally_cli.specs.Tasks.{FailedToFeed, IsOutcome}
+
+abbrev IsNone : Option Failure → Type 0
+IsNone None = Unit {0}
+IsNone (Some failure) = ⊥
+
+abbrev pick : Failure → Option Failure → Failure
+pick other None = other
+pick other (Some failure) = failure
+
+-- a failure is that of the source's feed, or of an asker where there is no source
+pub record IsFeedFailure {I : Type 0} (to_come : I → Option (List ℕ)) (can_fail : I → Bool) (source : Source I) (old new : PassState) (number : ℕ) (failure : Failure) : Type 0 where
+  pub fault : FeedFault
+  pub is : record { caller = number; cause = cause.Feed fault } ≡ failure
+  pub failed : FailedToFeed (to_come source.input) (can_fail source.input) source.kind old new fault
+
+pub record IsAskFailure (number : ℕ) (failure : Failure) : Type 0 where
+  pub fault : AskFault
+  pub is : record { caller = number; cause = cause.Ask fault } ≡ failure
+
+abbrev pub IsFailureOf : {I : Type 0} → (I → Option (List ℕ)) → (I → Bool) → Option (Source I) → PassState → PassState → ℕ → Failure → Type 0
+IsFailureOf to_come can_fail (Some source) old new number failure = IsFeedFailure to_come can_fail source old new number failure
+IsFailureOf to_come can_fail None old new number failure = IsAskFailure number failure
+
+pub failure_is : {I : Type 0} (to_come : I → Option (List ℕ)) (can_fail : I → Bool) (source : Option (Source I)) (p q : PassState) (o : Outcome) (number : ℕ) (failure : Failure) → IsOutcome to_come can_fail (work_of source) p q o → failure_of number o ≡ Some failure
+    → IsFailureOf to_come can_fail source p q number failure
+failure_is to_come can_fail (Some s) p q outcome.Untried number failure h e = absurd (subst IsNone e tt)
+failure_is to_come can_fail (Some s) p q (outcome.Fed fed) number failure h e = absurd (subst IsNone e tt)
+failure_is to_come can_fail (Some s) p q (outcome.FeedFailed f) number failure h e = record { fault = f; is = ap (pick failure) e; failed = h }
+failure_is to_come can_fail (Some s) p q (outcome.Asked n) number failure h e = absurd h
+failure_is to_come can_fail (Some s) p q (outcome.AskFailed f) number failure h e = absurd h
+failure_is to_come can_fail None p q outcome.Untried number failure h e = absurd (subst IsNone e tt)
+failure_is to_come can_fail None p q (outcome.Fed fed) number failure h e = absurd h
+failure_is to_come can_fail None p q (outcome.FeedFailed f) number failure h e = absurd h
+failure_is to_come can_fail None p q (outcome.Asked n) number failure h e = absurd (subst IsNone e tt)
+failure_is to_come can_fail None p q (outcome.AskFailed f) number failure h e = record { fault = f; is = ap (pick failure) e }
+
+-- the cause of a source's fault
+pub file_cause : (inputs : List Told) (i : Told) (old new : PassState) (can_fail : Bool) (fault : FeedFault) → FailedToFeed (Some i.bytes) can_fail i.kind old new fault → IsFileCause inputs i fault
+file_cause inputs i old new can_fail feed.Memory h = tt
+file_cause inputs i old new can_fail feed.Read h = tt
+file_cause inputs i old new can_fail (feed.Torn records rest) h = (h.stops i.bytes refl).fault_is
+file_cause inputs i old new can_fail feed.TooLong h = (h.stops i.bytes refl).fault_is
+file_cause inputs i old new can_fail (feed.Bad at fault) h = (h.stops i.bytes refl).fault_is
+file_cause inputs i old new can_fail (feed.LoginsFull stored) h = tt
+file_cause inputs i old new can_fail (feed.ProcsFull stored) h = tt
+file_cause inputs i old new can_fail feed.CallsFull h = tt
+
+abbrev host_in : RunFault → ℕ
+host_in (run.File host fault) = host
+host_in fault = 0
+
+abbrev feed_in : RunFault → FeedFault
+feed_in (run.File host fault) = fault
+feed_in fault = feed.Memory
+
+abbrev IsFile : RunFault → Type 0
+IsFile (run.File host fault) = Unit {0}
+IsFile fault = ⊥
+
+-- the fault of a run is a file's where its failure is a feed's
+pub file_is : (number host : ℕ) (fault other : FeedFault) (failure : Failure) → record { caller = number; cause = cause.Feed fault } ≡ failure → run_fault failure ≡ run.File host other → (number ≡ host) × (fault ≡ other)
+file_is number host fault other failure is e = (ap (λ f. host_in (run_fault f)) is ∙ ap host_in e, ap (λ f. feed_in (run_fault f)) is ∙ ap feed_in e)
+
+pub no_asker : (number host : ℕ) (fault : AskFault) (other : FeedFault) (failure : Failure) → record { caller = number; cause = cause.Ask fault } ≡ failure → run_fault failure ≡ run.File host other → ⊥
+no_asker number host fault other failure is e = subst IsFile (sym (ap run_fault is ∙ e)) tt
+
+-- the caller that failed
+pub caller_is : {I : Type 0} (to_come : I → Option (List ℕ)) (can_fail : I → Bool) (source : Option (Source I)) (p q : PassState) (number : ℕ) (failure : Failure) → IsFailureOf to_come can_fail source p q number failure → number ≡ failure.caller
+caller_is to_come can_fail (Some s) p q number failure h = ap (λ (f : Failure). f.caller) h.is
+caller_is to_come can_fail None p q number failure h = ap (λ (f : Failure). f.caller) h.is

@@ -1,0 +1,38 @@
+-- The output of a run is that of its job and files.
+use Rattle.std.proofs.Common.{◌≡◌, ℕ, zero, suc, ◌<◌, ℤ, List, [], ◌∷◌, ◌++◌, Option, Result, Ok, Err, map, refl, sym, ap, ◌∙◌, append-nil, arith}
+use Rattle.std.specs.Prelude.{OnOk}
+use Rattle.tally_book.specs.declared.question.Question.{Question}
+use Rattle.tally_book.specs.Answers.{answer_of}
+use Rattle.tally_print.specs.AnswerText.{answer_text}
+use Rattle.tally_print.specs.Output.{AppendsPrefix}
+use Rattle.tally_records.specs.declared.batch.Kind.{Kind}
+use Rattle.tally_sessions.specs.declared.entry.Entry.{Entry}
+use Rattle.tally_usage.specs.declared.entry.ProcEntry.{ProcEntry}
+use Rattle.tally_cli.specs.declared.job.Job.{Job}
+use Rattle.tally_cli.specs.declared.sources.Source.{Source}
+use Rattle.tally_cli.specs.Output.{login_entries, proc_entries, questions_of, report_text, sections}
+use Rattle.tally_cli.specs.Runs.{Tell, Told, output_told, records_told}
+
+-- the kinds that the sources tell
+pub kinds_told : {I : Type 0} (to_come : I → Option (List ℕ)) (sources : List (Source I)) (inputs : List Told) → Tell to_come sources inputs → map (λ (s : Source I). s.kind) sources ≡ map (λ (i : Told). i.kind) inputs
+kinds_told to_come [] [] h = refl
+kinds_told to_come [] (i ∷ is) h = absurd (omega (arith, h.0))
+kinds_told to_come (s ∷ ss) [] h = absurd (omega (arith, h.0))
+kinds_told to_come (s ∷ ss) (i ∷ is) h = λ j. (h.1 zero s i (omega arith)).kind j ∷ kinds_told to_come ss is (omega (arith, h.0), λ k x y l. h.1 (suc k) x y (omega (arith, l))) j
+
+-- the report of a book whose answers are those of the files
+pub report_same : (job : Job) (inputs : List Told) (kinds : List Kind) (logins : List Entry) (procs : List ProcEntry) → kinds ≡ map (λ (i : Told). i.kind) inputs
+    → ((q : Question) → answer_of q logins procs ≡ answer_of q (login_entries (map records_told inputs)) (proc_entries (map records_told inputs)))
+    → report_text job kinds logins procs ≡ output_told job inputs
+report_same job inputs kinds logins procs kinds_is same =
+    (λ j. sections (map (λ q. answer_text (same q j) job.offset) (questions_of job.report job.offset kinds)))
+    ∙ ap (λ ks. report_text job ks (login_entries (map records_told inputs)) (proc_entries (map records_told inputs))) kinds_is
+
+-- a text that was written whole
+pub whole_prefix : (old new text : List ℕ) → new ≡ old ++ text → AppendsPrefix old new text
+whole_prefix old new text written = record { front = text; rest = []; appended = written; whole = sym (append-nil text) }
+
+-- what holds in any case holds at `Ok`
+pub on_ok_always : {T E P : Type 0} (r : Result T E) → P → OnOk r P
+on_ok_always (Ok value) fact = fact
+on_ok_always (Err fault) fact = tt

@@ -1,0 +1,89 @@
+-- Sections that are asked and printed one by one.
+use Rattle.std.proofs.Common.{◌≡◌, ℕ, zero, suc, ◌+◌, ◌<◌, Bool, true, false, cond, List, [], ◌∷◌, ◌++◌, Option, length, map, filter, take, drop, get_or, refl, sym, ap, ◌∙◌, arith}
+use Rattle.std.proofs.lemmas.List.{append_assoc, append-nil, map-append}
+use Rattle.std.proofs.lemmas.List.Elements.{filter-append}
+use Rattle.std.specs.List.{enumerate_from, flat_map}
+use Rattle.tally_book.specs.declared.question.Question.{Question}
+use Rattle.tally_book.specs.declared.question.Question.TheVariants as questions
+use Rattle.tally_book.specs.Answers.{answer_of}
+use Rattle.tally_print.specs.Output.{AppendsPrefix}
+use Rattle.tally_sessions.specs.declared.entry.Entry.{Entry}
+use Rattle.tally_usage.specs.declared.entry.ProcEntry.{ProcEntry}
+use Rattle.tally_records.specs.declared.batch.Kind.{Kind}
+use Rattle.tally_cli.specs.Output.{is_wanted, sections, stays_asked}
+
+-- a prefix of one text among others
+pub prefix_more : (old mid new done text rest all : List ℕ) → mid ≡ old ++ done → AppendsPrefix mid new text → all ≡ done ++ (text ++ rest) → AppendsPrefix old new all
+prefix_more old mid new done text rest all e p is = record {
+  front = done ++ p.front;
+  rest = p.rest ++ rest;
+  appended = p.appended ∙ ap (λ l. l ++ p.front) e ∙ append_assoc old done p.front;
+  whole = is
+      ∙ ap (λ l. done ++ (l ++ rest)) p.whole
+      ∙ ap (λ l. done ++ l) (append_assoc p.front p.rest rest)
+      ∙ sym (append_assoc done p.front (p.rest ++ rest));
+}
+
+flat_split : {X : Type 0} (f : X → List ℕ) (xs : List X) (i : ℕ) (d : X) → i < length xs → flat_map f xs ≡ flat_map f (take i xs) ++ (f (get_or xs i d) ++ flat_map f (drop (suc i) xs))
+flat_split f [] i d h = absurd (omega (arith, h))
+flat_split f (x ∷ xs) zero d h = refl
+flat_split f (x ∷ xs) (suc i) d h = ap (λ l. f x ++ l) (flat_split f xs i d (omega (arith, h))) ∙ sym (append_assoc (f x) (flat_map f (take i xs)) (f (get_or xs i d) ++ flat_map f (drop (suc i) xs)))
+
+-- the pieces up to one, that one, and those after it
+pub flat_at : {X : Type 0} (f : X → List ℕ) (xs : List X) (i : ℕ) (x : X) → i < length xs → x ≡ get_or xs i x → flat_map f xs ≡ flat_map f (take i xs) ++ (f x ++ flat_map f (drop (suc i) xs))
+flat_at f xs i x h is = flat_split f xs i x h ∙ ap (λ y. flat_map f (take i xs) ++ (f y ++ flat_map f (drop (suc i) xs))) (sym is)
+
+numbered_suc : {X : Type 0} (xs : List X) (n i : ℕ) (d : X) → i < length xs → enumerate_from n (take (suc i) xs) ≡ enumerate_from n (take i xs) ++ (n + i, get_or xs i d) ∷ []
+numbered_suc [] n i d h = absurd (omega (arith, h))
+numbered_suc (x ∷ xs) n zero d h = let e : n ≡ n + 0 = omega arith in ap (λ m. (m, x) ∷ []) e
+numbered_suc (x ∷ xs) n (suc i) d h = let e : (n + 1) + i ≡ n + suc i = omega arith in
+    ap (λ l. (n, x) ∷ l) (numbered_suc xs (n + 1) i d (omega (arith, h)) ∙ ap (λ m. enumerate_from (n + 1) (take i xs) ++ (m, get_or xs i d) ∷ []) e)
+
+numbered_next : {X : Type 0} (xs : List X) (n i : ℕ) (d : X) → i < length xs → enumerate_from n (take (i + 1) xs) ≡ enumerate_from n (take i xs) ++ (n + i, get_or xs i d) ∷ []
+numbered_next xs n i d h = let e : i + 1 ≡ suc i = omega arith in ap (λ m. enumerate_from n (take m xs)) e ∙ numbered_suc xs n i d h
+
+one_or_none : {X Y : Type 0} (f : X → Y) (x : X) (b : Bool) → map f (cond b (x ∷ []) []) ≡ cond b (f x ∷ []) []
+one_or_none f x true = refl
+one_or_none f x false = refl
+
+-- the questions for the files up to one, and that one if it is wanted
+pub stays_next : (wanted : Option Kind) (limit : Option ℕ) (kinds : List Kind) (i : ℕ) (d : Kind) → i < length kinds
+    → stays_asked wanted limit (take (i + 1) kinds) ≡ stays_asked wanted limit (take i kinds) ++ cond (is_wanted wanted (get_or kinds i d)) (questions.Last i limit ∷ []) []
+stays_next wanted limit kinds i d h =
+    let asked : ℕ × Kind → Question = λ numbered. questions.Last numbered.0 limit in
+    let fits : ℕ × Kind → Bool = λ numbered. is_wanted wanted numbered.1 in
+    let first : List (ℕ × Kind) = enumerate_from 0 (take i kinds) in
+    let e : 0 + i ≡ i = omega arith in
+    ap (λ l. map asked (filter fits l)) (numbered_next kinds 0 i d h ∙ ap (λ m. first ++ (m, get_or kinds i d) ∷ []) e)
+    ∙ ap (map asked) (filter-append fits first ((i, get_or kinds i d) ∷ []))
+    ∙ map-append asked (filter fits first) (filter fits ((i, get_or kinds i d) ∷ []))
+    ∙ ap (λ l. map asked (filter fits first) ++ l) (one_or_none asked (i, get_or kinds i d) (is_wanted wanted (get_or kinds i d)))
+
+-- a file that is wanted, and one that is not
+pub stays_more : (wanted : Option Kind) (limit : Option ℕ) (kinds : List Kind) (i : ℕ) (d : Kind) → i < length kinds → is_wanted wanted (get_or kinds i d) ≡ true
+    → stays_asked wanted limit (take (i + 1) kinds) ≡ stays_asked wanted limit (take i kinds) ++ questions.Last i limit ∷ []
+stays_more wanted limit kinds i d h e = stays_next wanted limit kinds i d h ∙ ap (λ b. stays_asked wanted limit (take i kinds) ++ cond b (questions.Last i limit ∷ []) []) e
+
+pub stays_same : (wanted : Option Kind) (limit : Option ℕ) (kinds : List Kind) (i : ℕ) (d : Kind) → i < length kinds → is_wanted wanted (get_or kinds i d) ≡ false
+    → stays_asked wanted limit (take (i + 1) kinds) ≡ stays_asked wanted limit (take i kinds)
+stays_same wanted limit kinds i d h e = stays_next wanted limit kinds i d h ∙ ap (λ b. stays_asked wanted limit (take i kinds) ++ cond b (questions.Last i limit ∷ []) []) e ∙ append-nil (stays_asked wanted limit (take i kinds))
+
+-- answers to the questions up to one, and to that one
+map_suc : {X Y : Type 0} (f : X → Y) (xs : List X) (i : ℕ) (x : X) → i < length xs → map f (take (suc i) xs) ≡ map f (take i xs) ++ f (get_or xs i x) ∷ []
+map_suc f [] i x h = absurd (omega (arith, h))
+map_suc f (y ∷ ys) zero x h = refl
+map_suc f (y ∷ ys) (suc i) x h = ap (λ l. f y ∷ l) (map_suc f ys i x (omega (arith, h)))
+
+pub map_next : {X Y : Type 0} (f : X → Y) (xs : List X) (i : ℕ) (x : X) → i < length xs → map f (take (i + 1) xs) ≡ map f (take i xs) ++ f (get_or xs i x) ∷ []
+map_next f xs i x h = let e : i + 1 ≡ suc i = omega arith in ap (λ m. map f (take m xs)) e ∙ map_suc f xs i x h
+
+pub answer_same : (q : Question) (logins others : List Entry) (procs rest : List ProcEntry) → logins ≡ others → procs ≡ rest → answer_of q logins procs ≡ answer_of q others rest
+answer_same q logins others procs rest e f = λ j. answer_of q (e j) (f j)
+
+flat_of_map : {X : Type 0} (f : X → List ℕ) (xs : List X) → flat_map (λ x. 10 ∷ f x) xs ≡ flat_map (λ t. 10 ∷ t) (map f xs)
+flat_of_map f [] = refl
+flat_of_map f (x ∷ xs) = ap (λ l. (10 ∷ f x) ++ l) (flat_of_map f xs)
+
+-- the sections are the first text and then the others
+pub sections_first : {X : Type 0} (f : X → List ℕ) (all : List X) (x : X) (others : List X) → all ≡ x ∷ others → sections (map f all) ≡ f x ++ flat_map (λ y. 10 ∷ f y) others
+sections_first f all x others e = ap (λ l. sections (map f l)) e ∙ ap (λ l. f x ++ l) (sym (flat_of_map f others))

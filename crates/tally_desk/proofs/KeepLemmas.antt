@@ -1,0 +1,36 @@
+-- Passes that know no less.
+use Rattle.std.proofs.Common.{◌∙◌, refl, arith}
+use Rattle.tally_desk.specs.Feeds.{Keeps}
+use Rattle.tally_desk.specs.Passes.{Grows, PassState}
+use Rattle.tally_desk.proofs.Histories.{follows_self, follows_trans}
+
+pub keeps_same : (p : PassState) → Keeps p p
+keeps_same p = record {
+  desk = refl;
+  number = refl;
+  seen = follows_self p.seen;
+  legal = λ legal. legal;
+  told = omega arith;
+}
+
+pub keeps_trans : (p q r : PassState) → Keeps p q → Keeps q r → Keeps p r
+keeps_trans p q r first next = record {
+  desk = next.desk ∙ first.desk;
+  number = next.number ∙ first.number;
+  seen = follows_trans p.seen q.seen r.seen first.seen next.seen;
+  legal = λ legal. next.legal (first.legal legal);
+  told = omega (arith, first.told, next.told);
+}
+
+keeps_grown : (p q : PassState) → Grows p q → Keeps p q
+keeps_grown p q grown = record {
+  desk = grown.desk;
+  number = grown.number;
+  seen = grown.seen;
+  legal = λ _. grown.legal;
+  told = grown.told;
+}
+
+-- one call more
+pub keeps_more : (p q r : PassState) → Keeps p q → Grows q r → Keeps p r
+keeps_more p q r first next = keeps_trans p q r first (keeps_grown q r next)

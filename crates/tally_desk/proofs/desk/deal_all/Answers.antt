@@ -1,0 +1,51 @@
+use Rattle.std.proofs.Common.{refl, ℕ, ◌≡◌, ◌+◌, ◌-◌, ◌<◌, [], ◌∷◌, ◌++◌, map, List, sym, ap, ◌∙◌, arith, append_assoc}
+use Rattle.std.specs.List.{range_with_len}
+use Rattle.tally_desk.specs.declared.view.Known.{Known}
+use Rattle.tally_desk.specs.Views.{newcomer, newcomers}
+use Rattle.tally_desk.specs.Seats.{standing}
+use Rattle.tally_desk.specs.Passes.{PassState, first_pass, pass_of}
+use Rattle.tally_desk.proofs.Deals.{first_left, newcomer_sound}
+use Rattle.tally_desk.proofs.desk.deal_all.Goals as goal
+
+pub deal-requires-clause-some : goal.deal-requires-clause-some
+deal-requires-clause-some c =
+    let n = c.loop-number.number in
+    let left = c.loop-number.invariant.left in
+    let some : 0 < left.0 = omega (arith, left.1) in
+    (newcomer c.args.callers n, newcomers c.args.callers (n + 1) (left.0 - 1), left.2 ∙ ap (λ ns. standing (map (newcomer c.args.callers) ns)) (first_left n left.0 some))
+
+pub new-requires : goal.new-requires
+new-requires c =
+    let n = c.loop-number.number in
+    let left = c.loop-number.invariant.left in
+    let some : 0 < left.0 = omega (arith, left.1) in
+    let first : Known = newcomer c.args.callers n in
+    let dealt = c.deal.ensures.dealt first (newcomers c.args.callers (n + 1) (left.0 - 1)) (left.2 ∙ ap (λ ns. standing (map (newcomer c.args.callers) ns)) (first_left n left.0 some)) in
+    (first, dealt.1, refl, newcomer_sound c.args.callers n c.requires.few c.loop-number-test.true)
+
+pub loop-number-preserved : goal.loop-number-preserved
+loop-number-preserved c =
+    let n = c.loop-number.number in
+    let id = c.args.lock.now.table.shared.table_id in
+    let left = c.loop-number.invariant.left in
+    let some : 0 < left.0 = omega (arith, left.1) in
+    let first : Known = newcomer c.args.callers n in
+    let others : List PassState = map (first_pass id c.args.callers) (range_with_len (n + 1) (left.0 - 1)) in
+    let more = first_left n left.0 some in
+    let dealt = c.deal.ensures.dealt first (newcomers c.args.callers (n + 1) (left.0 - 1)) (left.2 ∙ ap (λ ns. standing (map (newcomer c.args.callers) ns)) more) in
+    let same : c.deal.result.table_id ≡ id = c.deal.ensures.table.1 ∙ c.loop-number.invariant.table in
+    let pass : c.new.result ≡ pass_of id first = c.new.ensures first dealt.1 ∙ ap (λ x. pass_of x first) same in
+    let before : List PassState = c.loop-number.passes.items in
+    let now = c.push_reserved.ensures.items ∙ ap (λ (p : PassState). before ++ p ∷ []) pass in
+    record {
+      table = c.deal.ensures.table.0 ∙ c.loop-number.invariant.table;
+      dealt = omega (arith, c.push_reserved.ensures.len, c.loop-number.invariant.dealt);
+      room = omega (arith, c.push_reserved.ensures.capacity, c.loop-number.invariant.room);
+      left = (
+        left.0 - 1,
+        omega (arith, left.1),
+        dealt.0,
+        ap (λ (ps : List PassState). ps ++ others) now
+            ∙ (append_assoc before (pass_of id first ∷ []) others ∙ (ap (λ (ns : List ℕ). before ++ map (first_pass id c.args.callers) ns) (sym more) ∙ left.3)),
+      );
+    }

@@ -1,0 +1,17 @@
+use Rattle.std.proofs.Common.{◌≡◌, ℕ, ◌+◌, ◌≤◌, ◌++◌, map, vec_len}
+use Rattle.std.specs.List.{range_with_len}
+use Rattle.std.specs.Vec.{vec_capacity}
+use Rattle.tally_desk.specs.Passes.{first_pass, first_passes}
+use Rattle.tally_desk.specs.Views.{newcomers}
+use Rattle.tally_desk.specs.Seats.{standing}
+use Rattle.tally_desk.proofs.desk.deal_all.Given as goal
+
+-- the passes that are dealt, and those that are left
+abbrev pub invariant-loop-number : goal.invariant-loop-number
+invariant-loop-number l = record {
+  table : l.seat.table_id ≡ l.lock.table.shared.table_id;
+  dealt : vec_len l.passes ≡ l.number;
+  room : l.callers ≤ vec_capacity l.passes;
+  left : (rest : ℕ) × (l.number + rest ≡ l.callers) × (l.seat.me ≡ standing (newcomers l.callers l.number rest))
+      × (l.passes.items ++ map (first_pass l.lock.table.shared.table_id l.callers) (range_with_len l.number rest) ≡ first_passes l.lock.table.shared.table_id l.callers);
+}

@@ -1,0 +1,280 @@
+//! Feeds of inputs in memory, of inputs that give little at a time and of inputs that fail, and
+//! questions that are asked in rounds.
+ghost use Rattle.std.specs.Prelude.{◌≡◌, ◌+◌, ◌-◌, ◌^◌, ◌<◌, IfOk};
+
+use crate::fakes::{Trickle, Turns, twos};
+use crate::{Bytes, Desk, Fed, FeedFault, Input, OpenGate, Pass, Reading, ask_rounds, feed};
+use std::alloc::Global;
+use std::sync::Wait;
+use std::sync::atomic::{AtomicU64, Ordering};
+use std::test::Fail;
+use tally_book::{Answer, Book, Call, Question};
+use tally_records::{Kind, RecordFault};
+
+/// A desk of one caller, and its pass.
+fn opened(alloc: Global) -> Result<(Desk, Pass), Fail>
+    ensures { IfOk result (λ r. r.1.desk ≡ r.0.id) }
+{
+    let (desk, mut passes) = Desk::open(alloc, 1)?;
+    let Some(pass) = passes.pop() else {
+        unreachable!()
+    };
+    Ok((desk, pass))
+}
+
+/// The book of a desk of one caller.
+fn closed(alloc: Global, desk: Desk, pass: Pass) -> Result<Option<Book>, Fail>
+    requires { pass.desk ≡ desk.id }
+{
+    let mut passes = Vec::new(alloc);
+    passes.push(pass)?;
+    Ok(desk.close(passes).ok())
+}
+
+/// Feeds a new desk, and says how many records are stored then.
+fn fed<R: Wait, I: Input>(
+    rt: &R,
+    alloc: Global,
+    kind: Kind,
+    input: &mut I,
+) -> Result<(Result<Fed, FeedFault>, Option<usize>), Fail>
+    requires { I.failures input.old < 2 ^ 64 - 1 }
+{
+    let (desk, mut pass) = opened(alloc)?;
+    let outcome = feed(rt, alloc, &desk, &mut pass, kind, input, &OpenGate);
+    let stored = closed(alloc, desk, pass)?.map(|book| book
+        .logins()
+        .len()
+        .saturating_add(book.procs().len()));
+    Ok((outcome, stored))
+}
+
+fn fed_bytes<R: Wait>(
+    rt: &R,
+    alloc: Global,
+    kind: Kind,
+    bytes: Vec<u8>,
+) -> Result<(Result<Fed, FeedFault>, Option<usize>), Fail> {
+    fed(rt, alloc, kind, &mut Bytes::new(bytes))
+}
+
+fn fed_reader<R: Wait>(
+    rt: &R,
+    alloc: Global,
+    reader: Trickle,
+) -> Result<(Result<Fed, FeedFault>, Option<usize>), Fail> {
+    fed(rt, alloc, Kind::Proc, &mut Reading::new(reader))
+}
+
+#[test]
+fn three_records_are_one_batch(rt: HostRuntime) -> Result<(), Fail> {
+    let (outcome, stored) = fed_bytes(&rt, rt.alloc(), Kind::Proc, twos(rt.alloc(), 192)?)?;
+    let want = Fed {
+        records: 3,
+        batches: 1,
+    };
+    assert!(rt; outcome == Ok(want) && stored == Some(3));
+    Ok(())
+}
+
+#[test]
+fn an_empty_input_posts_nothing(rt: HostRuntime) -> Result<(), Fail> {
+    let (outcome, stored) = fed_bytes(&rt, rt.alloc(), Kind::Login, Vec::new(rt.alloc()))?;
+    let want = Fed {
+        records: 0,
+        batches: 0,
+    };
+    assert!(rt; outcome == Ok(want) && stored == Some(0));
+    Ok(())
+}
+
+#[test]
+fn an_end_inside_a_record_is_torn(rt: HostRuntime) -> Result<(), Fail> {
+    let (outcome, stored) = fed_bytes(
+        &rt,
+        rt.alloc(),
+        Kind::Login,
+        vec![in rt.alloc(); 0u8; 385]?,
+    )?;
+    let want = FeedFault::Torn {
+        records: 1,
+        rest: 1,
+    };
+    assert!(rt; outcome == Err(want) && stored == Some(0));
+    Ok(())
+}
+
+#[test]
+fn a_bad_record_keeps_its_whole_block_out(rt: HostRuntime) -> Result<(), Fail> {
+    let mut bytes = twos(rt.alloc(), 65_792)?;
+    if let Some(version) = bytes.get_mut(65_665) {
+        *version = 0x82;
+    }
+    let (outcome, stored) = fed_bytes(&rt, rt.alloc(), Kind::Proc, bytes)?;
+    let want = FeedFault::Bad {
+        at: 1026,
+        fault: RecordFault::ProcVersion(0x82),
+    };
+    assert!(rt; outcome == Err(want) && stored == Some(1024));
+    Ok(())
+}
+
+#[test]
+fn bytes_may_come_one_at_a_time(rt: HostRuntime) -> Result<(), Fail> {
+    let reader = Trickle {
+        step: 1,
+        left: 192,
+        fails: false,
+        interrupts: 3,
+    };
+    let (outcome, stored) = fed_reader(&rt, rt.alloc(), reader)?;
+    let want = Fed {
+        records: 3,
+        batches: 1,
+    };
+    assert!(rt; outcome == Ok(want) && stored == Some(3));
+    Ok(())
+}
+
+#[test]
+fn a_first_read_that_fails_posts_nothing(rt: HostRuntime) -> Result<(), Fail> {
+    let reader = Trickle {
+        step: 4096,
+        left: 0,
+        fails: true,
+        interrupts: 0,
+    };
+    let (outcome, stored) = fed_reader(&rt, rt.alloc(), reader)?;
+    assert!(rt; outcome == Err(FeedFault::Read) && stored == Some(0));
+    Ok(())
+}
+
+#[test]
+fn a_later_read_that_fails_keeps_the_blocks_before(rt: HostRuntime) -> Result<(), Fail> {
+    let reader = Trickle {
+        step: 4096,
+        left: 65_600,
+        fails: true,
+        interrupts: 0,
+    };
+    let (outcome, stored) = fed_reader(&rt, rt.alloc(), reader)?;
+    assert!(rt; outcome == Err(FeedFault::Read) && stored == Some(1024));
+    Ok(())
+}
+
+#[test]
+fn endless_interrupts_are_a_failed_read(rt: HostRuntime) -> Result<(), Fail> {
+    let reader = Trickle {
+        step: 4096,
+        left: 64,
+        fails: false,
+        interrupts: 10_000,
+    };
+    let (outcome, stored) = fed_reader(&rt, rt.alloc(), reader)?;
+    assert!(rt; outcome == Err(FeedFault::Read) && stored == Some(0));
+    Ok(())
+}
+
+#[test]
+fn a_record_past_the_limit_is_too_long(rt: HostRuntime) -> Result<(), Fail> {
+    let reader = Trickle {
+        step: 65_536,
+        left: 67_108_928,
+        fails: false,
+        interrupts: 0,
+    };
+    let (outcome, stored) = fed_reader(&rt, rt.alloc(), reader)?;
+    assert!(rt; outcome == Err(FeedFault::TooLong) && stored == Some(1_048_576));
+    Ok(())
+}
+
+#[test]
+fn the_gate_is_told_of_each_post(rt: HostRuntime) -> Result<(), Fail> {
+    let alloc = rt.alloc();
+    let (desk, mut pass) = opened(alloc)?;
+    let gate = Turns {
+        digits: AtomicU64::new(0),
+    };
+    let mut input = Bytes::new(twos(alloc, 131_136)?);
+    let outcome = feed(&rt, alloc, &desk, &mut pass, Kind::Proc, &mut input, &gate);
+    let want = Fed {
+        records: 2049,
+        batches: 3,
+    };
+    assert!(rt; outcome == Ok(want));
+    assert_eq!(rt; gate.digits.load(Ordering::SeqCst), 123);
+    Ok(())
+}
+
+const TOTAL: Question = Question::Connect {
+    by_day: false,
+    by_user: false,
+    offset: 0,
+};
+
+/// Whether it is a report of no connect time.
+fn is_report_of_none(call: &Call) -> bool {
+    match call {
+        Call::Asked {
+            answer: Answer::Connect { total, .. },
+            ..
+        } => *total == 0,
+        _ => false,
+    }
+}
+
+#[test]
+fn each_round_asks_again(rt: HostRuntime) -> Result<(), Fail> {
+    let alloc = rt.alloc();
+    let (desk, mut pass) = opened(alloc)?;
+    let gate = Turns {
+        digits: AtomicU64::new(0),
+    };
+    let outcome = ask_rounds(&rt, alloc, &desk, &mut pass, &[TOTAL], 3, &gate);
+    assert!(rt; outcome == Ok(3));
+    assert_eq!(rt; gate.digits.load(Ordering::SeqCst), 123);
+    let Some(book) = closed(alloc, desk, pass)? else {
+        assert!(rt; false);
+        return Ok(());
+    };
+    let reports = book
+        .calls()
+        .iter()
+        .filter(|call| is_report_of_none(call))
+        .count();
+    assert_eq!(rt; (book.calls().len(), reports), (3, 3));
+    Ok(())
+}
+
+#[test]
+fn nothing_is_asked_without_questions_or_rounds(rt: HostRuntime) -> Result<(), Fail> {
+    let alloc = rt.alloc();
+    let (desk, mut pass) = opened(alloc)?;
+    let idle = ask_rounds(&rt, alloc, &desk, &mut pass, &[], 5, &OpenGate);
+    let brief = ask_rounds(&rt, alloc, &desk, &mut pass, &[TOTAL], 0, &OpenGate);
+    assert!(rt; idle == Ok(0) && brief == Ok(0));
+    assert_eq!(rt; desk.stored(&mut pass), 0);
+    Ok(())
+}
+
+#[test]
+fn a_full_history_refuses_a_feed(rt: HostRuntime) -> Result<(), Fail> {
+    let alloc = rt.alloc();
+    let (desk, mut pass) = opened(alloc)?;
+    let answered = ask_rounds(&rt, alloc, &desk, &mut pass, &[TOTAL], 65_536, &OpenGate);
+    assert!(rt; answered == Ok(65_536));
+    let mut input = Bytes::new(twos(alloc, 192)?);
+    let outcome = feed(
+        &rt,
+        alloc,
+        &desk,
+        &mut pass,
+        Kind::Proc,
+        &mut input,
+        &OpenGate,
+    );
+    assert!(rt; outcome == Err(FeedFault::CallsFull));
+    let calls = closed(alloc, desk, pass)?.map(|book| book.calls().len());
+    assert!(rt; calls == Some(65_536));
+    Ok(())
+}

@@ -1,0 +1,148 @@
+//! The worked script on a desk of two callers, whose passes one thread uses.
+ghost use Rattle.std.specs.Prelude.{◌≡◌, IfOk};
+ghost use Rattle.tally_book.specs.Answers.{HasDays, IsAskable};
+
+use crate::book::{COMMANDS, TOTAL, hour, makes};
+use crate::printing::{print_receipt, print_served};
+use crate::stopped::Stopped;
+use std::alloc::Global;
+use std::sync::Wait;
+use tally_book::{AskFault, Book, PostFault, Question, Receipt, Served};
+use tally_desk::{Desk, OpenFault, Pass};
+use tally_records::Batch;
+
+/// A desk of two callers and their passes, opened again where memory was refused.
+pub(crate) fn open(alloc: Global) -> Result<(Desk, Pass, Pass), Stopped>
+    ensures first { IfOk result (λ r. r.1.desk ≡ r.0.id) }
+    ensures second { IfOk result (λ r. r.2.desk ≡ r.0.id) }
+{
+    let opened = match Desk::open(alloc, 2) {
+        Err(OpenFault::Memory) => Desk::open(alloc, 2),
+        opened => opened,
+    };
+    let (desk, mut passes) = opened?;
+    let second = passes.pop().ok_or(Stopped::Refused("open"))?;
+    let first = passes.pop().ok_or(Stopped::Refused("open"))?;
+    Ok((desk, first, second))
+}
+
+/// The book of a desk of two callers, for whose passes room is made again where memory was refused.
+pub(crate) fn close(alloc: Global, desk: Desk, first: Pass, second: Pass) -> Result<Book, Stopped>
+    requires first { first.desk ≡ desk.id }
+    requires second { second.desk ≡ desk.id }
+{
+    let room = match Vec::with_capacity(alloc, 2) {
+        Err(_) => Vec::with_capacity(alloc, 2),
+        made => made,
+    };
+    let mut passes = room?;
+    passes.push_reserved(first);
+    passes.push_reserved(second);
+    desk.close(passes).map_err(|_| Stopped::Refused("close"))
+}
+
+/// Posts, and posts again where memory was refused.
+pub(crate) fn post<R: Wait>(
+    rt: &R,
+    desk: &Desk,
+    pass: &mut Pass,
+    batch: &Batch,
+) -> Result<Receipt, Stopped>
+    requires { pass.old.desk ≡ desk.now.id }
+    ensures { pass.new.desk ≡ pass.old.desk }
+{
+    let before = desk.stored(pass);
+    match desk.post(rt, pass, batch) {
+        Err(PostFault::Memory) => {}
+        posted => return Ok(posted?),
+    }
+    if desk.stored(pass) != before {
+        return Err(Stopped::Changed("the desk"));
+    }
+    Ok(desk.post(rt, pass, batch)?)
+}
+
+/// Asks, and asks again where memory was refused.
+fn ask<R: Wait>(
+    rt: &R,
+    alloc: Global,
+    desk: &Desk,
+    pass: &mut Pass,
+    question: &Question,
+) -> Result<Served, Stopped>
+    requires desk { pass.old.desk ≡ desk.now.id }
+    requires askable { IsAskable question.now }
+    ensures desk { pass.new.desk ≡ pass.old.desk }
+    ensures days { IfOk result (λ served. HasDays served.answer) }
+{
+    let before = desk.stored(pass);
+    match desk.ask(rt, alloc, pass, question) {
+        Err(AskFault::Memory) => {}
+        asked => return Ok(asked?),
+    }
+    if desk.stored(pass) != before {
+        return Err(Stopped::Changed("the desk"));
+    }
+    Ok(desk.ask(rt, alloc, pass, question)?)
+}
+
+/// A host that no caller has is refused, and is no call.
+fn ask_of_nobody<R: Print + AllocGlobal + Wait>(
+    rt: &R,
+    desk: &Desk,
+    pass: &mut Pass,
+) -> Result<(), Stopped>
+    requires { pass.old.desk ≡ desk.now.id }
+    ensures { pass.new.desk ≡ pass.old.desk }
+{
+    let question = Question::Last {
+        host: 2,
+        limit: None,
+    };
+    match desk.ask(rt, rt.alloc(), pass, &question) {
+        Err(AskFault::NoSuchHost(host)) => {
+            println!(rt; "no host {host}, {} calls", desk.stored(pass))?;
+            Ok(())
+        }
+        _ => Err(Stopped::Changed("a refusal")),
+    }
+}
+
+/// Prints how many calls were answered.
+fn print_stored<R: Print>(rt: &R, desk: &Desk, pass: &mut Pass) -> Result<(), Stopped>
+    requires { pass.old.desk ≡ desk.now.id }
+    ensures { pass.new.desk ≡ pass.old.desk }
+{
+    println!(rt; "stored {}", desk.stored(pass))?;
+    Ok(())
+}
+
+/// Prints what a closed book holds.
+fn print_book<R: Print>(rt: &R, book: Book) -> Result<(), Stopped> {
+    let (logins, procs, calls) = book.into_parts();
+    println!(rt;
+        "desk: {} {} in {} calls",
+        logins.len(),
+        procs.len(),
+        calls.len()
+    )?;
+    Ok(())
+}
+
+/// Prints what each call of the script answers, and how many calls a pass is told of between them.
+pub(crate) fn script<R: Print + AllocGlobal + Wait>(rt: &R) -> Result<(), Stopped> {
+    let alloc = rt.alloc();
+    let hour = hour(alloc)?;
+    let makes = makes(alloc)?;
+    let (desk, mut first, mut second) = open(alloc)?;
+    print_receipt(rt, post(rt, &desk, &mut first, &hour)?)?;
+    print_stored(rt, &desk, &mut second)?;
+    print_served(rt, &ask(rt, alloc, &desk, &mut second, &TOTAL)?)?;
+    ask_of_nobody(rt, &desk, &mut second)?;
+    print_receipt(rt, post(rt, &desk, &mut second, &makes)?)?;
+    print_stored(rt, &desk, &mut first)?;
+    print_served(rt, &ask(rt, alloc, &desk, &mut first, &COMMANDS)?)?;
+    print_stored(rt, &desk, &mut first)?;
+    print_stored(rt, &desk, &mut second)?;
+    print_book(rt, close(alloc, desk, first, second)?)
+}

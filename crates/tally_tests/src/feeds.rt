@@ -1,0 +1,80 @@
+//! An input that is fed to a desk, and a question that is asked of it in rounds.
+ghost use Rattle.std.specs.Prelude.{◌≡◌};
+
+use crate::book::{TOTAL, hour, make_bytes};
+use crate::desk::{close, open, post};
+use crate::stopped::Stopped;
+use std::alloc::{AllocError, Global};
+use std::sync::Wait;
+use tally_book::{Answer, AskFault, Book, Call};
+use tally_desk::{Bytes, Desk, Fed, FeedFault, OpenGate, Pass, ask_rounds, feed};
+use tally_records::Kind;
+
+/// The process records of three runs of make, made again where memory was refused.
+fn make_input(alloc: Global) -> Result<Bytes, AllocError> {
+    let bytes = match Vec::from_array(alloc, make_bytes()) {
+        Err(_) => Vec::from_array(alloc, make_bytes()),
+        made => made,
+    };
+    Ok(Bytes::new(bytes?))
+}
+
+/// Feeds the process records, and feeds them again where memory was refused.
+fn feed_makes<R: Wait>(rt: &R, alloc: Global, desk: &Desk, pass: &mut Pass) -> Result<Fed, Stopped>
+    requires { pass.old.desk ≡ desk.now.id }
+    ensures { pass.new.desk ≡ pass.old.desk }
+{
+    let before = desk.stored(pass);
+    let mut input = make_input(alloc)?;
+    match feed(rt, alloc, desk, pass, Kind::Proc, &mut input, &OpenGate) {
+        Err(FeedFault::Memory) => {}
+        fed => return Ok(fed?),
+    }
+    if desk.stored(pass) != before {
+        return Err(Stopped::Changed("the desk"));
+    }
+    let mut again = make_input(alloc)?;
+    Ok(feed(rt, alloc, desk, pass, Kind::Proc, &mut again, &OpenGate)?)
+}
+
+/// Asks for the connect time three times, and three times again where memory was refused.
+fn ask_thrice<R: Wait>(rt: &R, alloc: Global, desk: &Desk, pass: &mut Pass) -> Result<u64, Stopped>
+    requires { pass.old.desk ≡ desk.now.id }
+    ensures { pass.new.desk ≡ pass.old.desk }
+{
+    match ask_rounds(rt, alloc, desk, pass, &[TOTAL], 3, &OpenGate) {
+        Err(AskFault::Memory) => {}
+        asked => return Ok(asked?),
+    }
+    Ok(ask_rounds(rt, alloc, desk, pass, &[TOTAL], 3, &OpenGate)?)
+}
+
+/// Prints the totals of the last three calls, where these are reports on connect time.
+fn print_last_totals<R: Print>(rt: &R, book: &Book) -> Result<(), Stopped> {
+    for call in book.calls().iter().rev().take(3) {
+        match call {
+            Call::Asked {
+                answer: Answer::Connect { total, .. },
+                ..
+            } => { println!(rt; "asked: {total} seconds")? }
+            _ => return Err(Stopped::Refused("report")),
+        }
+    }
+    Ok(())
+}
+
+/// Prints what was fed, how many questions were answered and what was answered. A refused round
+/// leaves those before it, so the number of calls is not printed.
+pub(crate) fn script<R: Print + AllocGlobal + Wait>(rt: &R) -> Result<(), Stopped> {
+    let alloc = rt.alloc();
+    let hour = hour(alloc)?;
+    let (desk, mut first, mut second) = open(alloc)?;
+    post(rt, &desk, &mut first, &hour)?;
+    let Fed { records, batches } = feed_makes(rt, alloc, &desk, &mut second)?;
+    println!(rt; "fed: {records} records in {batches} batches")?;
+    println!(rt; "stored {}", desk.stored(&mut first))?;
+    let asked = ask_thrice(rt, alloc, &desk, &mut first)?;
+    println!(rt; "asked: {asked} answers")?;
+    let book = close(alloc, desk, first, second)?;
+    print_last_totals(rt, &book)
+}
