@@ -1,5 +1,5 @@
 -- The questions of a report can be asked of the book.
-use Rattle.std.proofs.Common.{◌≡◌, ℕ, ◌+◌, ◌<◌, ◌≤◌, ℤ, Bool, true, false, cond, List, [], ◌∷◌, ◌++◌, Option, Some, None, length, map, filter, refl, sym, ap, ◌∙◌, arith}
+use Rattle.std.proofs.Common.{◌≡◌, ℕ, ◌+◌, ◌<◌, ◌≤◌, ℤ, Bool, true, false, cond, List, [], ◌∷◌, ◌++◌, Option, Some, None, length, map, filter, refl, sym, ap, ◌∙◌, arith, length-append}
 use Rattle.std.proofs.lemmas.List.Elements.{All-append, All-cons, All-nil}
 use Rattle.std.proofs.lemmas.Simd.{map-map}
 use Rattle.std.specs.List.{All, enumerate_from}
@@ -45,6 +45,25 @@ all_questions P report.All offset kinds last connect commands users =
     All-append P (stays_asked (Some Login) None kinds) (questions.Connect false false offset ∷ questions.Commands order.Cpu false false ∷ [])
     (stays_all P (Some Login) None kinds (last None))
     (All-cons P (questions.Connect false false offset) (questions.Commands order.Cpu false false ∷ []) (connect false false) (All-cons P (questions.Commands order.Cpu false false) [] (commands order.Cpu false false) (All-nil P)))
+
+kept_count : {X Y : Type 0} (f : X → Y) (x : X) (rest : List X) (b : Bool) (n : ℕ) → length (map f rest) ≤ n → length (map f (cond b (x ∷ rest) rest)) ≤ n + 1
+kept_count f x rest true n h = omega (arith, h)
+kept_count f x rest false n h = omega (arith, h)
+
+stays_count : (wanted : Option Kind) (limit : Option ℕ) (kinds : List Kind) (from : ℕ)
+    → length (map (λ (numbered : ℕ × Kind). questions.Last numbered.0 limit) (filter (λ numbered. is_wanted wanted numbered.1) (enumerate_from from kinds))) ≤ length kinds
+stays_count wanted limit [] from = omega arith
+stays_count wanted limit (k ∷ ks) from =
+    omega (arith, kept_count (λ (numbered : ℕ × Kind). questions.Last numbered.0 limit) (from, k) (filter (λ numbered. is_wanted wanted numbered.1) (enumerate_from (from + 1) ks)) (is_wanted wanted k) (length ks) (stays_count wanted limit ks (from + 1)))
+
+-- there are few questions
+pub question_count : (r : Report) (offset : ℤ) (kinds : List Kind) → length (questions_of r offset kinds) ≤ length kinds + 2
+question_count (report.Last limit) offset kinds = omega (arith, stays_count None limit kinds 0)
+question_count (report.Connect by_day by_user) offset kinds = omega arith
+question_count (report.Commands by reverse all) offset kinds = omega arith
+question_count (report.Users by reverse) offset kinds = omega arith
+question_count report.All offset kinds =
+    omega (arith, stays_count (Some Login) None kinds 0, length-append (stays_asked (Some Login) None kinds) (questions.Connect false false offset ∷ questions.Commands order.Cpu false false ∷ []))
 
 -- the text of the answers is that of the report
 pub report_is : (job : Job) (kinds : List Kind) (asked : List Question) (answers : List Answer) (logins : List Entry) (procs : List ProcEntry)

@@ -3,6 +3,7 @@ use Rattle.std.proofs.Common.{◌≡◌, ℕ, Bool, List, Option, Some, None, tr
 use Rattle.std.specs.List.{Contains}
 use Rattle.tally_book.specs.declared.fault.AskFault.{AskFault}
 use Rattle.tally_desk.specs.Passes.{PassState}
+use Rattle.tally_desk.specs.Rounds.{AskStops}
 use Rattle.tally_desk.specs.declared.fault.FeedFault.{FeedFault}
 use Rattle.tally_desk.specs.declared.fault.FeedFault.TheVariants as feed
 use Rattle.tally_cli.specs.declared.fault.RunFault.{RunFault}
@@ -15,7 +16,7 @@ use Rattle.tally_cli.specs.declared.task.Outcome.TheVariants as outcome
 use Rattle.tally_cli.specs.Deals.{work_of}
 use Rattle.tally_cli.specs.Failures.{failure_of}
 use Rattle.tally_cli.specs.Runs.{IsFileCause, Told, run_fault}
-use Rattle.tally_cli.specs.Tasks.{FailedToFeed, IsOutcome}
+use Rattle.tally_cli.specs.Tasks.{FailedToFeed, IsOutcome, asker_questions}
 
 abbrev IsNone : Option Failure → Type 0
 IsNone None = Unit {0}
@@ -31,13 +32,14 @@ pub record IsFeedFailure {I : Type 0} (to_come : I → Option (List ℕ)) (can_f
   pub is : record { caller = number; cause = cause.Feed fault } ≡ failure
   pub failed : FailedToFeed (to_come source.input) (can_fail source.input) source.kind old new fault
 
-pub record IsAskFailure (number : ℕ) (failure : Failure) : Type 0 where
+pub record IsAskFailure (old new : PassState) (number : ℕ) (failure : Failure) : Type 0 where
   pub fault : AskFault
   pub is : record { caller = number; cause = cause.Ask fault } ≡ failure
+  pub stops : AskStops asker_questions old new fault
 
 abbrev pub IsFailureOf : {I : Type 0} → (I → Option (List ℕ)) → (I → Bool) → Option (Source I) → PassState → PassState → ℕ → Failure → Type 0
 IsFailureOf to_come can_fail (Some source) old new number failure = IsFeedFailure to_come can_fail source old new number failure
-IsFailureOf to_come can_fail None old new number failure = IsAskFailure number failure
+IsFailureOf to_come can_fail None old new number failure = IsAskFailure old new number failure
 
 pub failure_is : {I : Type 0} (to_come : I → Option (List ℕ)) (can_fail : I → Bool) (source : Option (Source I)) (p q : PassState) (o : Outcome) (number : ℕ) (failure : Failure) → IsOutcome to_come can_fail (work_of source) p q o → failure_of number o ≡ Some failure
     → IsFailureOf to_come can_fail source p q number failure
@@ -50,7 +52,7 @@ failure_is to_come can_fail None p q outcome.Untried number failure h e = absurd
 failure_is to_come can_fail None p q (outcome.Fed fed) number failure h e = absurd h
 failure_is to_come can_fail None p q (outcome.FeedFailed f) number failure h e = absurd h
 failure_is to_come can_fail None p q (outcome.Asked n) number failure h e = absurd (subst IsNone e tt)
-failure_is to_come can_fail None p q (outcome.AskFailed f) number failure h e = record { fault = f; is = ap (pick failure) e }
+failure_is to_come can_fail None p q (outcome.AskFailed f) number failure h e = record { fault = f; is = ap (pick failure) e; stops = h }
 
 -- the cause of a source's fault
 pub file_cause : (inputs : List Told) (i : Told) (old new : PassState) (can_fail : Bool) (fault : FeedFault) → FailedToFeed (Some i.bytes) can_fail i.kind old new fault → IsFileCause inputs i fault

@@ -4,7 +4,7 @@ use Rattle.std.proofs.lemmas.Bool.{cases_lt}
 use Rattle.std.proofs.lemmas.List.{length-map, get_or_default}
 use Rattle.std.proofs.lemmas.Option.{slice_get_within, get_or_from_slice_get}
 use Rattle.std.proofs.Math.ListN.{get_or-map}
-use Rattle.std.proofs.lemmas.List.Elements.{All-contains, All-head, All-tail, All-from_get_or}
+use Rattle.std.proofs.lemmas.List.Elements.{All-contains, All-from_get_or, All-head, All-tail, All-weaker}
 use Rattle.std.specs.Prelude.{IfSome, slice_get}
 use Rattle.std.specs.List.{All, Contains, flat_map}
 use Rattle.tally_book.specs.declared.history.Call.{Call}
@@ -16,7 +16,7 @@ use Rattle.tally_book.specs.Deeds.{Ask as AskDeed, Deed, EntriesArePosts, SameOf
 use Rattle.tally_desk.specs.Blocks.{feed_fault}
 use Rattle.tally_desk.specs.Batches.{records_in}
 use Rattle.tally_desk.specs.Feeds.{good_batches, post_of}
-use Rattle.tally_desk.specs.Passes.{HasDone, PassState, deeds}
+use Rattle.tally_desk.specs.Passes.{HasDone, PassState, Stands, deeds}
 use Rattle.tally_records.specs.Records.{Records, logins_in, procs_in}
 use Rattle.tally_records.specs.declared.batch.Kind.{Kind}
 use Rattle.tally_records.specs.declared.batch.Kind.TheVariants.{Login}
@@ -35,10 +35,12 @@ use Rattle.tally_cli.specs.declared.task.Outcome.TheVariants as outcome
 use Rattle.tally_cli.specs.Deals.{AreCarriedOut, CameOf, task_of, work_of}
 use Rattle.tally_cli.specs.Failures.{IsOfOne, failure_of}
 use Rattle.tally_cli.specs.Output.{login_entries, proc_entries}
-use Rattle.tally_cli.specs.Runs.{AreWorkedThrough, IsFileCause, IsGood, IsReadCause, Tell, Told, records_told, run_fault}
+use Rattle.tally_cli.specs.Runs.{AreWorkedThrough, IsAllowed, IsFileCause, IsGood, IsReadCause, Tell, Told, records_told, run_fault}
 use Rattle.tally_cli.specs.Tasks.{FailedToFeed, IsDone, IsOutcome, asker_questions}
 use Rattle.tally_cli.proofs.Numbered.{of_file, of_no_file}
 use Rattle.tally_cli.proofs.Outcomes.{IsBefore, done_before}
+use Rattle.tally_cli.proofs.Calls.{AreFew, outcome_few}
+use Rattle.tally_cli.proofs.Limits.{ask_allowed, feed_allowed, few_calls, few_seen}
 use Rattle.tally_cli.proofs.Faults.{IsAskFailure, IsFailureOf, IsFeedFailure, caller_is, failure_is, file_cause, file_is, no_asker}
 
 abbrev login_of_parts : ℕ → LoginRecord → Entry
@@ -237,6 +239,7 @@ module _ {I : Type 0} (to_come : I → Option (List ℕ)) (can_fail : I → Bool
     pub old : PassState
     pub new : PassState
     pub failure_is : IsFailureOf to_come can_fail (slice_get sources host) old new host f
+    pub stands : Stands b new
 
   pub failed : (f : Failure) → failure ≡ Some f → Failed f
   failed f e =
@@ -259,6 +262,7 @@ module _ {I : Type 0} (to_come : I → Option (List ℕ)) (can_fail : I → Bool
         old = p;
         new = t.pass;
         failure_is = own;
+        stands = All-contains (λ (x : Task I). Stands b x.pass) worked.tasks t worked.stand least.1;
       }
 
   -- what the failure tells of the sources
@@ -281,7 +285,7 @@ module _ {I : Type 0} (to_come : I → Option (List ℕ)) (can_fail : I → Bool
         own = λ x. subst (λ y. IsFileCause inputs y fed.fault) (get_or_default inputs own.host no_input x in_inputs) (file_cause inputs i own.old own.new (can_fail found.0.input) fed.fault told);
       }))
       (λ (never : (slice_get sources own.host ≡ None) × (length sources ≤ own.host)).
-      let ask : IsAskFailure own.host f = subst (λ o. IsFailureOf to_come can_fail o own.old own.new own.host f) never.0 own.failure_is in
+      let ask : IsAskFailure own.old own.new own.host f = subst (λ o. IsFailureOf to_come can_fail o own.old own.new own.host f) never.0 own.failure_is in
       subst (λ (x : Failure). IsReadCause inputs (run_fault x)) ask.is
       (All-from_get_or IsGood inputs no_input (λ k l.
       let m : k < length sources = omega (arith, l, tell.0) in
@@ -299,6 +303,30 @@ module _ {I : Type 0} (to_come : I → Option (List ℕ)) (can_fail : I → Bool
       let at : get_or sources host s ≡ found.0 = ap (λ n. get_or sources n s) (sym same.0) ∙ get_or_from_slice_get sources own.host found.0 s found.1 in
       ap (λ (x : Source I). can_fail x.input) at ∙ failure_of_feed.failed.read same.1)
       (λ (never : (slice_get sources own.host ≡ None) × (length sources ≤ own.host)).
-      let ask : IsAskFailure own.host f = subst (λ o. IsFailureOf to_come can_fail o own.old own.new own.host f) never.0 own.failure_is in
+      let ask : IsAskFailure own.old own.new own.host f = subst (λ o. IsFailureOf to_come can_fail o own.old own.new own.host f) never.0 own.failure_is in
       absurd (no_asker own.host host ask.fault feed.Read f ask.is told))
+      (source_or_none sources own.host)
+
+  -- the calls are few
+  pub few : length b.calls ≤ 4224
+  few = few_calls b legal posts
+      (All-weaker (IsCall b.callers b.logins b.procs) (λ c. caller_of c < b.callers) (λ c h. caller_in b.callers b.logins b.procs c h) b.calls legal.sound)
+      (λ host l.
+      let m = did host l in
+      let near : host < length passes = omega (arith, all, l) in
+      subst AreFew (sym m.done) (outcome_few to_come can_fail (slice_get sources host) (get_or passes host d) m.task.pass m.task.outcome (first host near).1 m.outcome_is))
+
+  -- no call was refused for the number of calls
+  pub allowed : (f : Failure) → failure ≡ Some f → (n : ℕ) → IsAllowed n (run_fault f)
+  allowed f e n =
+      let own = failed f e in
+      let seen = few_seen b own.new few own.stands in
+      ⊎_elim
+      (λ (found : (s : Source I) × (slice_get sources own.host ≡ Some s)).
+      let fed : IsFeedFailure to_come can_fail found.0 own.old own.new own.host f = subst (λ o. IsFailureOf to_come can_fail o own.old own.new own.host f) found.1 own.failure_is in
+      subst (λ (x : Failure). IsAllowed n (run_fault x)) fed.is (feed_allowed n own.host found.0.kind own.new.seen fed.fault fed.failed.full seen))
+      (λ (never : (slice_get sources own.host ≡ None) × (length sources ≤ own.host)).
+      let ask : IsAskFailure own.old own.new own.host f = subst (λ o. IsFailureOf to_come can_fail o own.old own.new own.host f) never.0 own.failure_is in
+      let callers : 0 < own.new.seen.callers = omega (arith, own.stands.seen.callers, legal.some_callers) in
+      subst (λ (x : Failure). IsAllowed n (run_fault x)) ask.is (ask_allowed own.old own.new ask.fault ask.stops seen callers))
       (source_or_none sources own.host)

@@ -1,12 +1,15 @@
 pub mod Asked
+pub mod Calls
 pub mod Carried
 pub mod CommandLemmas
+pub mod Counting
 pub mod Dealt
 pub mod Each
 pub mod Faults
 pub mod FileLemmas
 pub mod Final
 pub mod FirstPasses
+pub mod Limits
 pub mod LineLemmas
 pub mod Numbered
 pub mod Outcomes

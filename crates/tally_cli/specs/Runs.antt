@@ -117,9 +117,11 @@ fault_from_cause caller (cause.Ask fault) = Asker caller fault
 abbrev pub run_fault : Failure → RunFault
 run_fault failure = fault_from_cause failure.caller failure.cause
 
--- a number of callers is refused only where it is none or above 128
+-- a number of callers is refused only where it is none or above 128, no file for the number of calls, and an asker for want of memory alone
 abbrev pub IsAllowed : ℕ → RunFault → Type 0
 IsAllowed callers (Callers count) = IsOpenRefusal callers (Callers count)
+IsAllowed callers (Asker caller fault) = fault ≡ ask.Memory
+IsAllowed callers (File host feed.CallsFull) = ⊥
 IsAllowed callers fault = ⊤
 
 -- no source is at fault, and no asker

@@ -121,6 +121,7 @@ fn feed_all<R: Threads + Wait + Sync, I: Input + Send, G: Gate + Sync>(
     ensures callers { IfOk result (λ b. b.callers ≡ length sources.items + job.now.askers) }
     ensures few { OnOk result (length sources.items + job.now.askers ≤ 128) }
     ensures some { OnOk result (0 < length sources.items + job.now.askers) }
+    ensures calls { IfOk result (λ b. length b.calls ≤ 4224) }
     ensures cause { IfErr result (λ f. (inputs : List Told) → Tell I.to_come sources.items inputs → IsReadCause inputs f) }
     ensures allowed { IfErr result (IsAllowed (length sources.items + job.now.askers)) }
     ensures unprinted { IfErr result IsUnprinted }
@@ -156,6 +157,7 @@ fn report<O: Output>(
     requires hosts { length kinds.now ≤ book.callers }
     requires few { book.callers ≤ 128 }
     requires some { 0 < book.callers }
+    requires calls { length book.calls ≤ 4224 }
     requires failures { O.failures out.old < 2 ^ 64 - 1 }
     ensures prefix { IsTrue (O.tells out.old) → AppendsPrefix (O.written out.old) (O.written out.new)
         (report_text job.now kinds.now book.logins book.procs) }

@@ -112,7 +112,7 @@ pub(crate) fn questions_of(
     }
 }
 
-/// The answers to the questions.
+/// The answers to the questions, of a book that can take as many calls more.
 pub(crate) fn answers_to(
     alloc: Global,
     mut book: Book,
@@ -121,6 +121,7 @@ pub(crate) fn answers_to(
     requires caller { 0 < book.callers }
     requires askable { All IsAskable questions.now }
     requires hosts { All (NamesHostBelow book.callers) questions.now }
+    requires room { length book.calls + length questions.now ≤ 65536 }
     ensures value { IfOk result (λ answers. answers.items
         ≡ map (λ q. answer_of q book.logins book.procs) questions.now) }
     ensures days { IfOk result (λ answers. All HasDays answers.items) }
@@ -129,8 +130,8 @@ pub(crate) fn answers_to(
     for index in 0..questions.len() {
         match book.ask(alloc, 0, &questions[index]) {
             Ok(served) => answers.push_reserved(served.answer),
-            Err(AskFault::Memory | AskFault::CallsFull) => return Err(Memory),
-            Err(AskFault::NoSuchHost(_)) => unreachable!(),
+            Err(AskFault::Memory) => return Err(Memory),
+            Err(_) => unreachable!(),
         }
     }
     Ok(answers)

@@ -8,8 +8,8 @@ use std::alloc::Global;
 use std::sync::Wait;
 use std::sync::atomic::{AtomicU64, Ordering};
 use std::test::Fail;
-use tally_book::{Answer, Book, Call, Question};
-use tally_records::{Kind, RecordFault};
+use tally_book::{Answer, Book, Call, PostFault, Question};
+use tally_records::{Batch, Kind, RecordFault};
 
 /// A desk of one caller, and its pass.
 fn opened(alloc: Global) -> Result<(Desk, Pass), Fail>
@@ -257,12 +257,31 @@ fn nothing_is_asked_without_questions_or_rounds(rt: HostRuntime) -> Result<(), F
     Ok(())
 }
 
+/// Posts the batch again and again, and says why it was refused at last.
+fn post_until_refused<R: Wait>(
+    rt: &R,
+    desk: &Desk,
+    pass: &mut Pass,
+    batch: &Batch,
+) -> Option<PostFault>
+    requires { pass.old.desk ≡ desk.now.id }
+    ensures { pass.new.desk ≡ desk.now.id }
+{
+    for _ in 0..70_000 {
+        if let Err(fault) = desk.post(rt, pass, batch) {
+            return Some(fault);
+        }
+    }
+    None
+}
+
 #[test]
 fn a_full_history_refuses_a_feed(rt: HostRuntime) -> Result<(), Fail> {
     let alloc = rt.alloc();
     let (desk, mut pass) = opened(alloc)?;
-    let answered = ask_rounds(&rt, alloc, &desk, &mut pass, &[TOTAL], 65_536, &OpenGate);
-    assert!(rt; answered == Ok(65_536));
+    let empty = Batch::procs(alloc, &[])?;
+    let refused = post_until_refused(&rt, &desk, &mut pass, &empty);
+    assert!(rt; refused == Some(PostFault::CallsFull));
     let mut input = Bytes::new(twos(alloc, 192)?);
     let outcome = feed(
         &rt,

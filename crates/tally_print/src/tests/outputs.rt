@@ -4,6 +4,7 @@ ghost use Rattle.std.specs.Prelude.{◌≡◌, true};
 use super::{boot, login};
 use crate::{Output, OutputFault, PrintFault, Writing, print_last};
 use std::alloc::Global;
+use std::io::{self, ErrorKind, Write};
 use std::process::Abort;
 use std::test::Fail;
 use tally_sessions::{End, Stay};
@@ -103,6 +104,27 @@ fn an_output_of_one_byte_at_a_time_takes_all(rt: HostRuntime) {
 fn a_write_fails_in_mid_line(rt: HostRuntime) {
     let printed = print_narrow(&rt, rt.alloc(), &boots(), 1000, 100);
     assert_eq!(rt; printed, Err(PrintFault::Write));
+}
+
+/// A writer that takes all and fails where it is to be flushed.
+#[derive(Drop)]
+struct Unflushed;
+
+impl Write for Unflushed {
+    fn write(&mut self, bytes: &[u8]) -> io::Result<usize> {
+        Ok(bytes.len())
+    }
+
+    fn flush(&mut self) -> io::Result<()> {
+        Err(io::Error::from(ErrorKind::Other))
+    }
+}
+
+#[test]
+fn the_writer_is_flushed_at_the_end(rt: HostRuntime) {
+    let mut out = Writing::new(Unflushed);
+    assert!(rt; out.put(b"total") == Ok(5));
+    assert!(rt; out.finish() == Err(OutputFault));
 }
 
 #[test]

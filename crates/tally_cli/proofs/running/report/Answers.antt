@@ -1,4 +1,4 @@
-use Rattle.std.proofs.Common.{◌≡◌, ◌∙◌, ◌++◌, FitsSigned, ap, arith, map, rules, subst, sym, w32}
+use Rattle.std.proofs.Common.{◌≡◌, ◌∙◌, ◌++◌, FitsSigned, ap, arith, length, map, rules, subst, sym, w32}
 use Rattle.std.proofs.lemmas.Int.{to_z-of_z}
 use Rattle.std.proofs.lemmas.Result.{on_ok_weaker}
 use Rattle.std.specs.List.{All}
@@ -6,7 +6,7 @@ use Rattle.tally_book.specs.Answers.{IsAskable, NamesHostBelow}
 use Rattle.tally_print.specs.AnswerText.{answer_text}
 use Rattle.tally_print.specs.Output.{AppendsPrefix}
 use Rattle.tally_cli.specs.Output.{sections}
-use Rattle.tally_cli.proofs.Asked.{all_questions, report_is}
+use Rattle.tally_cli.proofs.Asked.{all_questions, question_count, report_is}
 use Rattle.tally_cli.proofs.running.report.Goals as goal
 
 pub answers_to-requires-clause-askable : goal.answers_to-requires-clause-askable
@@ -22,6 +22,11 @@ answers_to-requires-clause-hosts g c =
     let callers = c.args.book.callers in
     subst (All (NamesHostBelow callers)) (sym (c.as_slice.ensures.value ∙ c.in_ok-questions.ensures))
     (all_questions (NamesHostBelow callers) job.report job.offset c.args.kinds.now (λ limit n l. omega (arith, l, c.requires.hosts)) (λ by_day by_user. tt) (λ by reverse all. tt) (λ by reverse. tt))
+
+pub answers_to-requires-clause-room : goal.answers_to-requires-clause-room
+answers_to-requires-clause-room g c =
+    let job = c.args.job.now in
+    omega (arith, ap length (c.as_slice.ensures.value ∙ c.in_ok-questions.ensures), question_count job.report job.offset c.args.kinds.now, c.requires.calls, c.requires.hosts, c.requires.few)
 
 pub returns-clause-prefix : goal.returns-clause-prefix
 returns-clause-prefix g c = λ tells.

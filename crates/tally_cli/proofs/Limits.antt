@@ -1,0 +1,111 @@
+-- A run has few calls, so that no call is refused for their number.
+use Rattle.std.proofs.Common.{◌≡◌, ℕ, ◌+◌, ◌*◌, ◌<◌, ◌≤◌, ◌⊎◌, Bool, List, [], ◌∷◌, ◌++◌, Option, Some, None, false, length, pos, map, get_or, sym, refl, ap, ◌∙◌, subst, arith, length-append, ⊎_elim}
+use Rattle.std.proofs.lemmas.List.{get_or_at, length-map}
+use Rattle.std.proofs.lemmas.List.Elements.{All-cons, All-nil}
+use Rattle.std.specs.Prelude.{slice_get}
+use mathlib.Core.List.{IsPrefix}
+use Rattle.std.specs.List.{All, flat_map}
+use Rattle.tally_book.specs.declared.fault.AskFault.{AskFault}
+use Rattle.tally_book.specs.declared.fault.AskFault.TheVariants as ask
+use Rattle.tally_book.specs.declared.history.Call.{Call}
+use Rattle.tally_book.specs.declared.question.Question.{Question}
+use Rattle.tally_book.specs.declared.question.Question.TheVariants as questions
+use Rattle.tally_book.specs.Refusals.{IsAskRefusal}
+use Rattle.tally_book.specs.Answers.{NamesHost}
+use Rattle.tally_book.specs.Books.{IsCall, IsLegal, caller_of, calls_of}
+use Rattle.tally_book.specs.Contents.{Contents}
+use Rattle.tally_book.specs.Deeds.{EntriesArePosts, deed, deeds_of, logins_added, procs_added}
+use Rattle.tally_desk.specs.Feeds.{IsFeedRefusal}
+use Rattle.tally_desk.specs.Passes.{PassState, Stands, deeds}
+use Rattle.tally_desk.specs.Rounds.{AskStops}
+use Rattle.tally_desk.specs.declared.fault.FeedFault.{FeedFault}
+use Rattle.tally_desk.specs.declared.fault.FeedFault.TheVariants as feed
+use Rattle.tally_records.specs.declared.batch.Kind.{Kind}
+use Rattle.tally_usage.specs.declared.order.Order.TheVariants as order
+use Rattle.tally_cli.specs.declared.fault.RunFault.TheVariants as run
+use Rattle.tally_cli.specs.Runs.{IsAllowed}
+use Rattle.tally_cli.specs.Tasks.{asker_questions}
+use Rattle.tally_desk.specs.Totals.{below}
+use Rattle.tally_sessions.specs.declared.entry.Entry.{Entry}
+use Rattle.tally_sessions.specs.Hosts.{of_host}
+use Rattle.tally_usage.specs.declared.entry.ProcEntry.{ProcEntry}
+use Rattle.tally_cli.proofs.Calls.{AreFew}
+use Rattle.tally_cli.proofs.Counting.{few_together, of_key, shares, shares_at_most}
+
+-- deeds of each caller are few
+pub few_calls : (b : Contents) → IsLegal b → EntriesArePosts b → All (λ c. caller_of c < b.callers) b.calls → ((host : ℕ) → host < b.callers → AreFew (deeds_of host b)) → length b.calls ≤ 4224
+few_calls b legal posts callers few =
+    let calls : ℕ → ℕ = of_key caller_of b.calls in
+    let logins : ℕ → ℕ = of_key (λ (e : Entry). e.host) b.logins in
+    let procs : ℕ → ℕ = of_key (λ (e : ProcEntry). e.host) b.procs in
+    let each : (h : ℕ) → h < b.callers → 1024 * calls h ≤ logins h + procs h + 17408 =
+    λ h l. omega (
+      arith,
+      few h l,
+      length-map (calls_of h b.calls) (deed b.logins b.procs),
+      sym (ap length (posts.logins h)) ∙ length-map _ (λ (e : Entry). e.item),
+      sym (ap length (posts.procs h)) ∙ length-map _ (λ (e : ProcEntry). e.item),
+    ) in
+    omega (
+      arith,
+      few_together calls logins procs b.callers each,
+      shares caller_of b.calls b.callers callers,
+      shares_at_most (λ (e : Entry). e.host) b.logins b.callers,
+      shares_at_most (λ (e : ProcEntry). e.host) b.procs b.callers,
+      legal.few_callers,
+      legal.few_logins,
+      legal.few_procs,
+    )
+
+prefix_length : {A : Type 0} (xs ys : List A) → IsPrefix xs ys → length xs ≤ length ys
+prefix_length xs ys h = omega (arith, length-append xs h.0, ap length h.1)
+
+-- what a pass has seen of the book has no more calls
+pub few_seen : (b : Contents) (p : PassState) → length b.calls ≤ 4224 → Stands b p → length p.seen.calls ≤ 4224
+few_seen b p few stands = omega (arith, few, prefix_length p.seen.calls b.calls stands.seen.calls)
+
+pub feed_allowed : (n host : ℕ) (kind : Kind) (seen : Contents) (fault : FeedFault) → IsFeedRefusal kind seen fault → length seen.calls ≤ 4224 → IsAllowed n (run.File host fault)
+feed_allowed n host kind seen feed.Memory h few = tt
+feed_allowed n host kind seen feed.Read h few = tt
+feed_allowed n host kind seen (feed.Torn records rest) h few = tt
+feed_allowed n host kind seen feed.TooLong h few = tt
+feed_allowed n host kind seen (feed.Bad at fault) h few = tt
+feed_allowed n host kind seen (feed.LoginsFull stored) h few = tt
+feed_allowed n host kind seen (feed.ProcsFull stored) h few = tt
+feed_allowed n host kind seen feed.CallsFull h few = let full = h.cause.1 in omega (arith, full, few)
+
+-- askers ask of the first host alone
+abbrev NamesFirst : Question → Type 0
+NamesFirst question = (host : ℕ) → NamesHost question host → host ≡ 0
+
+abbrev asked_round : List Question → List Question
+asked_round rest = questions.Last 0 (Some 10) ∷ questions.Connect false false (pos 0) ∷ questions.Commands order.Cpu false false ∷ questions.Users order.Cpu false ∷ rest
+
+first_round : (rest : List Question) → All NamesFirst rest → All NamesFirst (asked_round rest)
+first_round rest h =
+    let users : List Question = questions.Users order.Cpu false ∷ rest in
+    let commands : List Question = questions.Commands order.Cpu false false ∷ users in
+    let connect : List Question = questions.Connect false false (pos 0) ∷ commands in
+    All-cons NamesFirst (questions.Last 0 (Some 10)) connect (λ host is. sym is)
+    (All-cons NamesFirst (questions.Connect false false (pos 0)) commands (λ host never. absurd never)
+    (All-cons NamesFirst (questions.Commands order.Cpu false false) users (λ host never. absurd never)
+    (All-cons NamesFirst (questions.Users order.Cpu false) rest (λ host never. absurd never) h)))
+
+all_first : All NamesFirst asker_questions
+all_first =
+    let one : List Question = asked_round [] in
+    let two : List Question = asked_round one in
+    let three : List Question = asked_round two in
+    first_round three (first_round two (first_round one (first_round [] (All-nil NamesFirst))))
+
+refusal_is : (callers calls : ℕ) (question : Question) (fault : AskFault) → NamesFirst question → IsAskRefusal callers calls question fault → calls ≤ 4224 → 0 < callers → fault ≡ ask.Memory
+refusal_is callers calls question ask.Memory first h few some_callers = refl
+refusal_is callers calls question ask.CallsFull first h few some_callers = absurd (omega (arith, h, few))
+refusal_is callers calls question (ask.NoSuchHost host) first h few some_callers = absurd (omega (arith, h.1, first host h.2, some_callers))
+
+pub ask_allowed : (old new : PassState) (fault : AskFault) → AskStops asker_questions old new fault → length new.seen.calls ≤ 4224 → 0 < new.seen.callers → fault ≡ ask.Memory
+ask_allowed old new fault stops few some_callers =
+    let near : length stops.done < length (stops.done ++ stops.next ∷ stops.left) = omega (arith, length-append stops.done (stops.next ∷ stops.left)) in
+    let all : All NamesFirst (stops.done ++ stops.next ∷ stops.left) = subst (All NamesFirst) stops.order all_first in
+    let next : NamesFirst stops.next = subst NamesFirst (get_or_at stops.done stops.next stops.left stops.next (length stops.done) refl) (all (length stops.done) stops.next near) in
+    refusal_is new.seen.callers (length new.seen.calls) stops.next fault next stops.cause few some_callers
