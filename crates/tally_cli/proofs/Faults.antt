@@ -1,5 +1,5 @@
 -- What a failure tells of the caller's work.
-use Rattle.std.proofs.Common.{◌≡◌, ℕ, Bool, List, Option, Some, None, true, refl, sym, ap, ◌∙◌, subst}
+use Rattle.std.proofs.Common.{◌≡◌, ℕ, ◌<◌, Bool, List, Option, Some, None, true, refl, sym, ap, ◌∙◌, subst}
 use Rattle.std.specs.List.{Contains}
 use Rattle.tally_book.specs.declared.fault.AskFault.{AskFault}
 use Rattle.tally_desk.specs.Passes.{PassState}
@@ -15,7 +15,7 @@ use Rattle.tally_cli.specs.declared.task.Outcome.{Outcome}
 use Rattle.tally_cli.specs.declared.task.Outcome.TheVariants as outcome
 use Rattle.tally_cli.specs.Deals.{work_of}
 use Rattle.tally_cli.specs.Failures.{failure_of}
-use Rattle.tally_cli.specs.Runs.{IsFileCause, Told, run_fault}
+use Rattle.tally_cli.specs.Runs.{IsFileCause, Told, good_logins, good_procs, run_fault}
 use Rattle.tally_cli.specs.Tasks.{FailedToFeed, IsOutcome, asker_questions}
 
 abbrev IsNone : Option Failure → Type 0
@@ -54,16 +54,17 @@ failure_is to_come can_fail None p q (outcome.FeedFailed f) number failure h e =
 failure_is to_come can_fail None p q (outcome.Asked n) number failure h e = absurd (subst IsNone e tt)
 failure_is to_come can_fail None p q (outcome.AskFailed f) number failure h e = record { fault = f; is = ap (pick failure) e; stops = h }
 
--- the cause of a source's fault
-pub file_cause : (inputs : List Told) (i : Told) (old new : PassState) (can_fail : Bool) (fault : FeedFault) → FailedToFeed (Some i.bytes) can_fail i.kind old new fault → IsFileCause inputs i fault
-file_cause inputs i old new can_fail feed.Memory h = tt
-file_cause inputs i old new can_fail feed.Read h = tt
-file_cause inputs i old new can_fail (feed.Torn records rest) h = (h.stops i.bytes refl).fault_is
-file_cause inputs i old new can_fail feed.TooLong h = (h.stops i.bytes refl).fault_is
-file_cause inputs i old new can_fail (feed.Bad at fault) h = (h.stops i.bytes refl).fault_is
-file_cause inputs i old new can_fail (feed.LoginsFull stored) h = tt
-file_cause inputs i old new can_fail (feed.ProcsFull stored) h = tt
-file_cause inputs i old new can_fail feed.CallsFull h = tt
+-- the cause of a source's fault, where a full list has its own
+pub file_cause : (inputs : List Told) (i : Told) (old new : PassState) (can_fail : Bool) (fault : FeedFault) → FailedToFeed (Some i.bytes) can_fail i.kind old new fault
+    → ((stored : _) → fault ≡ feed.LoginsFull stored → 1048576 < good_logins inputs) → ((stored : _) → fault ≡ feed.ProcsFull stored → 1048576 < good_procs inputs) → (fault ≡ feed.CallsFull → ⊥) → IsFileCause inputs i fault
+file_cause inputs i old new can_fail feed.Memory h logins procs calls = tt
+file_cause inputs i old new can_fail feed.Read h logins procs calls = tt
+file_cause inputs i old new can_fail (feed.Torn records rest) h logins procs calls = (h.stops i.bytes refl).fault_is
+file_cause inputs i old new can_fail feed.TooLong h logins procs calls = (h.stops i.bytes refl).fault_is
+file_cause inputs i old new can_fail (feed.Bad at fault) h logins procs calls = (h.stops i.bytes refl).fault_is
+file_cause inputs i old new can_fail (feed.LoginsFull stored) h logins procs calls = logins stored refl
+file_cause inputs i old new can_fail (feed.ProcsFull stored) h logins procs calls = procs stored refl
+file_cause inputs i old new can_fail feed.CallsFull h logins procs calls = calls refl
 
 abbrev host_in : RunFault → ℕ
 host_in (run.File host fault) = host

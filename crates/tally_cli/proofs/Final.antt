@@ -6,7 +6,7 @@ use Rattle.std.proofs.lemmas.Option.{slice_get_within, get_or_from_slice_get}
 use Rattle.std.proofs.Math.ListN.{get_or-map}
 use Rattle.std.proofs.lemmas.List.Elements.{All-contains, All-from_get_or, All-head, All-tail, All-weaker}
 use Rattle.std.specs.Prelude.{IfSome, slice_get}
-use Rattle.std.specs.List.{All, Contains, flat_map}
+use Rattle.std.specs.List.{All, Contains, filter, flat_map, sum_by}
 use Rattle.tally_book.specs.declared.history.Call.{Call}
 use Rattle.tally_book.specs.declared.history.Call.TheVariants.{Posted, Asked}
 use Rattle.tally_book.specs.declared.question.Question.{Question}
@@ -15,7 +15,7 @@ use Rattle.tally_book.specs.Books.{IsCall, IsLegal, calls_of, caller_of}
 use Rattle.tally_book.specs.Deeds.{Ask as AskDeed, Deed, EntriesArePosts, SameOfEachHost, deed, deeds_of, logins_added, procs_added, procs_of_host}
 use Rattle.tally_desk.specs.Blocks.{feed_fault}
 use Rattle.tally_desk.specs.Batches.{records_in}
-use Rattle.tally_desk.specs.Feeds.{good_batches, post_of}
+use Rattle.tally_desk.specs.Feeds.{Posts, Stops, good_batches, post_of}
 use Rattle.tally_desk.specs.Passes.{HasDone, PassState, Stands, deeds}
 use Rattle.tally_records.specs.Records.{Records, logins_in, procs_in}
 use Rattle.tally_records.specs.declared.batch.Kind.{Kind}
@@ -40,7 +40,9 @@ use Rattle.tally_cli.specs.Tasks.{FailedToFeed, IsDone, IsOutcome, asker_questio
 use Rattle.tally_cli.proofs.Numbered.{of_file, of_no_file}
 use Rattle.tally_cli.proofs.Outcomes.{IsBefore, done_before}
 use Rattle.tally_cli.proofs.Calls.{AreFew, outcome_few}
-use Rattle.tally_cli.proofs.Limits.{ask_allowed, feed_allowed, few_calls, few_seen}
+use Rattle.tally_cli.proofs.Limits.{ask_allowed, feed_allowed, few_calls, few_seen, not_full, prefix_length}
+use Rattle.tally_cli.proofs.Counting.{of_key, shares}
+use Rattle.tally_cli.proofs.Shares.{all_below, asker_much, below_list, below_more, file_much, refused_much}
 use Rattle.tally_cli.proofs.Faults.{IsAskFailure, IsFailureOf, IsFeedFailure, caller_is, failure_is, file_cause, file_is, no_asker}
 
 abbrev login_of_parts : ℕ → LoginRecord → Entry
@@ -231,6 +233,49 @@ module _ {I : Type 0} (to_come : I → Option (List ℕ)) (can_fail : I → Bool
     same_procs = λ host. (host_records inputs tell before host).1;
   }
 
+  -- the calls are few
+  pub few : length b.calls ≤ 4224
+  few = few_calls b legal posts
+      (All-weaker (IsCall b.callers b.logins b.procs) (λ c. caller_of c < b.callers) (λ c h. caller_in b.callers b.logins b.procs c h) b.calls legal.sound)
+      (λ host l.
+      let m = did host l in
+      let near : host < length passes = omega (arith, all, l) in
+      subst AreFew (sym m.done) (outcome_few to_come can_fail (slice_get sources host) (get_or passes host d) m.task.pass m.task.outcome (first host near).1 m.outcome_is))
+
+  -- what all inputs hold together, where one has so much more than was posted
+  too_many : {E R : Type 0} (owner : E → ℕ) (item : E → R) (added : Deed → List R) (size : Records → ℕ) → ((x : Records) → length (added (post_of x)) ≡ size x) → ((q : Question) → length (added (AskDeed q)) ≡ 0)
+      → (es : List E) → ((h : ℕ) → map item (filter (λ x. eqb (owner x) h) es) ≡ flat_map added (deeds_of h b)) → (inputs : List Told) → Tell to_come sources inputs → (host more : ℕ) → host < length sources
+      → length (flat_map added (deeds_of host b)) + more ≤ sum_by size (good_batches (get_or inputs host no_input).kind (get_or inputs host no_input).bytes)
+      → length es + more ≤ sum_by (λ i. sum_by size (good_batches i.kind i.bytes)) inputs
+  too_many owner item added size posted asked es own_is inputs tell host more near here =
+      let held : Told → ℕ = λ i. sum_by size (good_batches i.kind i.bytes) in
+      let used : ℕ → ℕ = of_key owner es in
+      let cap : ℕ → ℕ = λ h. get_or (map held inputs) h 0 in
+      let used_is : (h : ℕ) → used h ≡ length (flat_map added (deeds_of h b)) = λ h. sym (length-map (filter (λ x. eqb (owner x) h) es) item) ∙ ap length (own_is h) in
+      let cap_is : (h : ℕ) → h < length inputs → cap h ≡ held (get_or inputs h no_input) = λ h l. get_or_default (map held inputs) h 0 (held no_input) (omega (arith, l, length-map inputs held)) ∙ get_or-map held inputs h no_input in
+      let each : (h : ℕ) → h < b.callers → used h ≤ cap h = λ h l.
+      let m = did h l in
+      let inside : h < length passes = omega (arith, all, l) in
+      let start = (first h inside).1 in
+      let mine : used h ≡ length (flat_map added (deeds m.task.pass)) = used_is h ∙ ap (λ ds. length (flat_map added ds)) m.done in
+      ⊎_elim
+      (λ (found : (s : Source I) × (slice_get sources h ≡ Some s)).
+      let t = told_at inputs h found.0 tell found.1 in
+      let i : Told = get_or inputs h no_input in
+      let few_enough : length (flat_map added (deeds m.task.pass)) ≤ sum_by size (good_batches found.0.kind i.bytes) =
+      file_much added size posted asked to_come can_fail found.0 i.bytes (get_or passes h d) m.task.pass m.task.outcome t.1 start (subst (λ o. IsOutcome to_come can_fail (work_of o) (get_or passes h d) m.task.pass m.task.outcome) found.1 m.outcome_is) in
+      omega (arith, mine, few_enough, ap (λ kind. sum_by size (good_batches kind i.bytes)) t.0, cap_is h (omega (arith, slice_get_within sources h found.0 found.1, tell.0))))
+      (λ (never : (slice_get sources h ≡ None) × (length sources ≤ h)).
+      omega (arith, mine, asker_much added size posted asked to_come can_fail (get_or passes h d) m.task.pass m.task.outcome start (subst (λ o. IsOutcome to_come can_fail (work_of o) (get_or passes h d) m.task.pass m.task.outcome) never.0 m.outcome_is)))
+      (source_or_none sources h) in
+      let none_past : (h : ℕ) → b.callers ≤ h → used h ≡ 0 = λ h l. used_is h ∙ ap (λ cs. length (flat_map added (map (deed b.logins b.procs) cs))) (no_calls b.callers h b.logins b.procs b.calls l legal.sound) in
+      omega (
+        arith,
+        shares owner es b.callers (all_below owner es b.callers none_past),
+        below_list held inputs b.callers (omega (arith, tell.0, enough, all)),
+        below_more used cap host more b.callers (omega (arith, near, enough, all)) (omega (arith, used_is host, here, cap_is host (omega (arith, near, tell.0)))) each,
+      )
+
   -- whose failure was told
   pub record Failed (f : Failure) : Type 0 where
     pub host : ℕ
@@ -240,6 +285,8 @@ module _ {I : Type 0} (to_come : I → Option (List ℕ)) (can_fail : I → Bool
     pub new : PassState
     pub failure_is : IsFailureOf to_come can_fail (slice_get sources host) old new host f
     pub stands : Stands b new
+    pub fresh : deeds old ≡ []
+    pub done : deeds_of host b ≡ deeds new
 
   pub failed : (f : Failure) → failure ≡ Some f → Failed f
   failed f e =
@@ -263,6 +310,8 @@ module _ {I : Type 0} (to_come : I → Option (List ℕ)) (can_fail : I → Bool
         new = t.pass;
         failure_is = own;
         stands = All-contains (λ (x : Task I). Stands b x.pass) worked.tasks t worked.stand least.1;
+        fresh = ap deeds (get_or_default passes host from.1.1 d near) ∙ (first host near).1;
+        done = ap (λ n. deeds_of n b) (sym number) ∙ All-contains (λ (x : Task I). HasDone b x.pass) worked.tasks t worked.did least.1;
       }
 
   -- what the failure tells of the sources
@@ -282,7 +331,18 @@ module _ {I : Type 0} (to_come : I → Option (List ℕ)) (can_fail : I → Bool
       (record {
         near = in_inputs;
         earlier = λ k x m. subst IsGood (get_or_default inputs k no_input x (omega (arith, m, in_inputs))) (good_before inputs tell k (omega (arith, m, l)) (own.before k m));
-        own = λ x. subst (λ y. IsFileCause inputs y fed.fault) (get_or_default inputs own.host no_input x in_inputs) (file_cause inputs i own.old own.new (can_fail found.0.input) fed.fault told);
+        own = λ x. subst (λ y. IsFileCause inputs y fed.fault) (get_or_default inputs own.host no_input x in_inputs) (file_cause inputs i own.old own.new (can_fail found.0.input) fed.fault told
+            (λ stored is.
+            let at = subst (Stops i.kind i.bytes (Posts own.old own.new) own.new.seen) is (told.stops i.bytes refl) in
+            let room = too_many (λ (x : Entry). x.host) (λ (x : Entry). x.item) logins_added (λ x. length (logins_in x)) (λ x. refl) (λ q. refl) b.logins posts.logins inputs tell own.host (length (logins_in (records_in i.kind at.next))) l
+            (omega (arith, ap (λ ds. length (flat_map logins_added ds)) own.done, refused_much logins_added (λ x. length (logins_in x)) (λ x. refl) (λ q. refl) i.kind i.bytes own.old own.new at.next at.left own.fresh at.cut)) in
+            omega (arith, at.cause.1, prefix_length own.new.seen.logins b.logins own.stands.seen.logins, room))
+            (λ stored is.
+            let at = subst (Stops i.kind i.bytes (Posts own.old own.new) own.new.seen) is (told.stops i.bytes refl) in
+            let room = too_many (λ (x : ProcEntry). x.host) (λ (x : ProcEntry). x.item) procs_added (λ x. length (procs_in x)) (λ x. refl) (λ q. refl) b.procs posts.procs inputs tell own.host (length (procs_in (records_in i.kind at.next))) l
+            (omega (arith, ap (λ ds. length (flat_map procs_added ds)) own.done, refused_much procs_added (λ x. length (procs_in x)) (λ x. refl) (λ q. refl) i.kind i.bytes own.old own.new at.next at.left own.fresh at.cut)) in
+            omega (arith, at.cause.1, prefix_length own.new.seen.procs b.procs own.stands.seen.procs, room))
+            (not_full i.kind own.new.seen fed.fault told.full (few_seen b own.new few own.stands)));
       }))
       (λ (never : (slice_get sources own.host ≡ None) × (length sources ≤ own.host)).
       let ask : IsAskFailure own.old own.new own.host f = subst (λ o. IsFailureOf to_come can_fail o own.old own.new own.host f) never.0 own.failure_is in
@@ -306,15 +366,6 @@ module _ {I : Type 0} (to_come : I → Option (List ℕ)) (can_fail : I → Bool
       let ask : IsAskFailure own.old own.new own.host f = subst (λ o. IsFailureOf to_come can_fail o own.old own.new own.host f) never.0 own.failure_is in
       absurd (no_asker own.host host ask.fault feed.Read f ask.is told))
       (source_or_none sources own.host)
-
-  -- the calls are few
-  pub few : length b.calls ≤ 4224
-  few = few_calls b legal posts
-      (All-weaker (IsCall b.callers b.logins b.procs) (λ c. caller_of c < b.callers) (λ c h. caller_in b.callers b.logins b.procs c h) b.calls legal.sound)
-      (λ host l.
-      let m = did host l in
-      let near : host < length passes = omega (arith, all, l) in
-      subst AreFew (sym m.done) (outcome_few to_come can_fail (slice_get sources host) (get_or passes host d) m.task.pass m.task.outcome (first host near).1 m.outcome_is))
 
   -- no call was refused for the number of calls
   pub allowed : (f : Failure) → failure ≡ Some f → (n : ℕ) → IsAllowed n (run_fault f)

@@ -14,5 +14,6 @@ pub mod LineLemmas
 pub mod Numbered
 pub mod Outcomes
 pub mod Reported
+pub mod Shares
 pub mod Taken
 pub mod Texts

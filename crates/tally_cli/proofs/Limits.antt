@@ -57,7 +57,7 @@ few_calls b legal posts callers few =
       legal.few_procs,
     )
 
-prefix_length : {A : Type 0} (xs ys : List A) → IsPrefix xs ys → length xs ≤ length ys
+pub prefix_length : {A : Type 0} (xs ys : List A) → IsPrefix xs ys → length xs ≤ length ys
 prefix_length xs ys h = omega (arith, length-append xs h.0, ap length h.1)
 
 -- what a pass has seen of the book has no more calls
@@ -73,6 +73,10 @@ feed_allowed n host kind seen (feed.Bad at fault) h few = tt
 feed_allowed n host kind seen (feed.LoginsFull stored) h few = tt
 feed_allowed n host kind seen (feed.ProcsFull stored) h few = tt
 feed_allowed n host kind seen feed.CallsFull h few = let full = h.cause.1 in omega (arith, full, few)
+
+-- no feed was refused for the number of calls
+pub not_full : (kind : Kind) (seen : Contents) (fault : FeedFault) → IsFeedRefusal kind seen fault → length seen.calls ≤ 4224 → fault ≡ feed.CallsFull → ⊥
+not_full kind seen fault h few e = let full = (subst (IsFeedRefusal kind seen) e h).cause.1 in omega (arith, full, few)
 
 -- askers ask of the first host alone
 abbrev NamesFirst : Question → Type 0

@@ -58,13 +58,21 @@ records_told input = records_in input.kind input.bytes
 abbrev pub output_told : Job → List Told → List ℕ
 output_told job inputs = output job (map (λ i. i.kind) inputs) (map records_told inputs)
 
--- why a source is at fault: a fault of its own is its first
+-- how many login records the good blocks of the inputs hold
+abbrev pub good_logins : List Told → ℕ
+good_logins inputs = sum_by (λ i. sum_by (λ b. length (logins_in b)) (good_batches i.kind i.bytes)) inputs
+
+-- how many process records the good blocks of the inputs hold
+abbrev pub good_procs : List Told → ℕ
+good_procs inputs = sum_by (λ i. sum_by (λ b. length (procs_in b)) (good_batches i.kind i.bytes)) inputs
+
+-- why a source is at fault: a fault of its own is its first, a full list comes of all good blocks together
 abbrev pub IsFileCause : List Told → Told → FeedFault → Type 0
 IsFileCause inputs input feed.Memory = ⊤
 IsFileCause inputs input feed.Read = ⊤
-IsFileCause inputs input (feed.LoginsFull stored) = ⊤
-IsFileCause inputs input (feed.ProcsFull stored) = ⊤
-IsFileCause inputs input feed.CallsFull = ⊤
+IsFileCause inputs input (feed.LoginsFull stored) = 1048576 < good_logins inputs
+IsFileCause inputs input (feed.ProcsFull stored) = 1048576 < good_procs inputs
+IsFileCause inputs input feed.CallsFull = ⊥
 IsFileCause inputs input fault = fault_of input ≡ Some fault
 
 -- the source with this number is the first at fault
