@@ -25,3 +25,5 @@ pub use crate::sources::Source;
 mod line_tests;
 #[cfg(test)]
 mod run_tests;
+#[cfg(test)]
+mod together_tests;

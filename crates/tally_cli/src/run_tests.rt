@@ -1,4 +1,5 @@
 //! What runs over small files write.
+ghost use Rattle.tally_cli.specs.Jobs.{IsRunnable};
 
 use crate::{Job, Report, RunFault, Source, run};
 use std::alloc::{AllocError, Global};
@@ -15,7 +16,9 @@ const TOTAL: Report = Report::Connect {
     by_user: false,
 };
 
-const fn plain(report: Report) -> Job {
+fn plain(report: Report) -> Job
+    ensures { IsRunnable result }
+{
     Job {
         report,
         feeders: 4,
@@ -25,7 +28,7 @@ const fn plain(report: Report) -> Job {
 }
 
 // Writes a text into bytes.
-fn put_at(bytes: &mut [u8], at: usize, text: &[u8]) {
+pub(crate) fn put_at(bytes: &mut [u8], at: usize, text: &[u8]) {
     for (index, byte) in text.iter().enumerate() {
         if let Some(place) = bytes.get_mut(at.saturating_add(index)) {
             *place = *byte;
