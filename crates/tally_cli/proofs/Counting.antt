@@ -5,7 +5,7 @@ use Rattle.std.proofs.lemmas.List.Elements.{All-head, All-tail}
 use Rattle.std.specs.List.{All, filter}
 use Rattle.tally_desk.specs.Totals.{below}
 
-below_nothing : (n : ℕ) → below (λ h. 0) n ≡ 0
+pub below_nothing : (n : ℕ) → below (λ h. 0) n ≡ 0
 below_nothing zero = refl
 below_nothing (suc n) = omega (arith, below_nothing n)
 

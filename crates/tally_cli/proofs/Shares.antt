@@ -20,7 +20,7 @@ use Rattle.tally_cli.specs.declared.task.Outcome.{Outcome}
 use Rattle.tally_cli.specs.declared.task.Outcome.TheVariants as outcome
 use Rattle.tally_cli.specs.Deals.{work_of}
 use Rattle.tally_cli.specs.Tasks.{FailedToFeed, IsOutcome, asker_questions}
-use Rattle.tally_cli.proofs.Counting.{of_key}
+use Rattle.tally_cli.proofs.Counting.{below_nothing, of_key}
 
 below_least : (f g : ℕ → ℕ) (n : ℕ) → ((h : ℕ) → h < n → f h ≤ g h) → below f n ≤ below g n
 below_least f g zero each = omega arith
@@ -42,13 +42,9 @@ below_shift : (f : ℕ → ℕ) (n : ℕ) → below f (suc n) ≡ f 0 + below (�
 below_shift f zero = omega arith
 below_shift f (suc n) = omega (arith, below_shift f n)
 
-below_zero : (n : ℕ) → below (λ h. 0) n ≡ 0
-below_zero zero = refl
-below_zero (suc n) = omega (arith, below_zero n)
-
 -- the terms of a sum, by their places
 pub below_list : {X : Type 0} (g : X → ℕ) (xs : List X) (n : ℕ) → length xs ≤ n → below (λ h. get_or (map g xs) h 0) n ≡ sum_by g xs
-below_list g [] n h = below_zero n
+below_list g [] n h = below_nothing n
 below_list g (x ∷ xs) zero h = absurd (omega (arith, h))
 below_list g (x ∷ xs) (suc n) h = omega (arith, below_shift (λ k. get_or (map g (x ∷ xs)) k 0) n, below_list g xs n (omega (arith, h)), sum_by-cons g x xs)
 
