@@ -1,5 +1,8 @@
 //! Fault lines on standard error, and the statuses. Where standard error fails, the status still
 //! tells.
+ghost use Rattle.std.specs.Prelude.{ℕ, length};
+ghost use Rattle.tally_cli.specs.Runs.{IsNamed};
+
 use std::process::ExitCode;
 use tally_book::AskFault;
 use tally_cli::{FileArg, RunFault};
@@ -31,7 +34,9 @@ pub(crate) fn usage<R: Eprint>(rt: &R, text: &str) -> ExitCode {
 }
 
 /// Tells why a run over these files gave no whole output.
-pub(crate) fn run_fault<R: Eprint>(rt: &R, files: &[FileArg], found: RunFault) -> ExitCode {
+pub(crate) fn run_fault<R: Eprint>(rt: &R, files: &[FileArg], found: RunFault) -> ExitCode
+    requires { (callers : ℕ) × IsNamed (length files.now) callers found }
+{
     match found {
         RunFault::Memory => fault(rt, FAULT, "out of memory"),
         RunFault::Write => fault(rt, FAULT, "write failed"),
@@ -40,11 +45,7 @@ pub(crate) fn run_fault<R: Eprint>(rt: &R, files: &[FileArg], found: RunFault) -
             ExitCode::from(FAULT)
         }
         RunFault::File { host, fault } => {
-            let path = match files.get(host as usize) {
-                Some(file) => file.path.as_str(),
-                None => "",
-            };
-            feed_fault(rt, path, fault)
+            feed_fault(rt, files[host as usize].path.as_str(), fault)
         }
         RunFault::Asker { caller: _, fault } => ask_fault(rt, fault),
     }

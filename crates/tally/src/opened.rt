@@ -1,5 +1,5 @@
 //! The files of the command line, opened.
-ghost use Rattle.std.specs.Prelude.{IfOk};
+ghost use Rattle.std.specs.Prelude.{◌≡◌, IfOk, length};
 ghost use Rattle.std.specs.List.{All};
 ghost use Rattle.tally_cli.specs.Deals.{IsReadable};
 
@@ -66,10 +66,12 @@ pub(crate) fn open_all<'a, R: Files + Input>(
 ) -> Result<Sources<R::File, R::Reader>, OpenFault<'a>>
 where
     R::File: Drop,
-    ensures { IfOk result (λ sources. All (IsReadable (λ failures. failures)) sources.items) }
+    ensures count { IfOk result (λ sources. length sources.items ≡ length files.now) }
+    ensures readable { IfOk result (λ sources. All (IsReadable (λ failures. failures)) sources.items) }
 {
     let mut sources = Vec::new(alloc);
-    for file in files {
+    for at in 0..files.len() {
+        let file = &files[at];
         let path = file.path.as_str();
         let Some(opened) = open(rt, path) else {
             return Err(OpenFault::NotOpened(path));

@@ -1,5 +1,5 @@
 -- What is known when a run ends.
-use Rattle.std.specs.Prelude.{◌≡◌, ◌⊎◌, ◌<◌, ℕ, Bool, List, Option, None, Some, Result, Ok, Err, ⊤, length, map, min, slice_index_or, sum_by}
+use Rattle.std.specs.Prelude.{◌≡◌, ◌⊎◌, ◌<◌, ◌≤◌, ℕ, Bool, List, Option, None, Some, Result, Ok, Err, ⊤, length, map, min, slice_index_or, sum_by}
 use Rattle.std.specs.List.{All}
 use Rattle.tally_book.specs.Contents.{Contents}
 use Rattle.tally_book.specs.Deeds.{SameOfEachHost}
@@ -131,6 +131,12 @@ IsAllowed callers (Callers count) = IsOpenRefusal callers (Callers count)
 IsAllowed callers (Asker caller fault) = fault ≡ ask.Memory
 IsAllowed callers (File host feed.CallsFull) = ⊥
 IsAllowed callers fault = ⊤
+
+-- a fault is one of so many files, or of an asker behind them among so many callers
+abbrev pub IsNamed : ℕ → ℕ → RunFault → Type 0
+IsNamed files callers (File host fault) = host < files
+IsNamed files callers (Asker caller fault) = (files ≤ caller) × (caller < callers)
+IsNamed files callers fault = ⊤
 
 -- no source is at fault, and no asker
 abbrev pub IsPrintFault : RunFault → Type 0

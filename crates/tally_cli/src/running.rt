@@ -8,7 +8,7 @@ ghost use Rattle.tally_print.specs.Output.{AppendsPrefix};
 ghost use Rattle.tally_cli.specs.Deals.{IsReadable};
 ghost use Rattle.tally_cli.specs.Output.{report_text};
 ghost use Rattle.tally_cli.specs.Jobs.{IsRunnable};
-ghost use Rattle.tally_cli.specs.Runs.{AreRead, AreWorkedThrough, IsAllowed, IsCause, IsGood, IsOpenRefusal, IsPrintFault, IsReadCause, IsUnprinted};
+ghost use Rattle.tally_cli.specs.Runs.{AreRead, AreWorkedThrough, IsAllowed, IsCause, IsGood, IsNamed, IsOpenRefusal, IsPrintFault, IsReadCause, IsUnprinted};
 ghost use Rattle.tally_cli.specs.Runs.{Tell, Told, Unwritten, failed_writes, output_told, run_fault};
 
 use crate::deal::deal_out;
@@ -124,6 +124,7 @@ fn feed_all<R: Threads + Wait + Sync, I: Input + Send, G: Gate + Sync>(
     ensures calls { IfOk result (λ b. length b.calls ≤ 4224) }
     ensures cause { IfErr result (λ f. (inputs : List Told) → Tell I.to_come sources.items inputs → IsReadCause inputs f) }
     ensures allowed { IfErr result (IsAllowed (length sources.items + job.now.askers)) }
+    ensures named { IfErr result (IsNamed (length sources.items) (length sources.items + job.now.askers)) }
     ensures unprinted { IfErr result IsUnprinted }
     ensures read { IfErr result (λ f. (host : ℕ) → f ≡ RunFault.File host feed_fault_of.Read
         → (s : Source _) → I.can_fail (slice_index_or sources.items host s).input ≡ true) }
@@ -205,6 +206,8 @@ pub fn run<R: Threads + Wait + Sync, I: Input + Send, G: Gate + Sync, O: Output>
     ensures written { OnOk result ((inputs : List Told) → Tell I.to_come sources.items inputs
         → IsTrue (O.tells out.old) → O.written out.new
         ≡ O.written out.old ++ output_told job.now inputs) }
+    ensures few { OnOk result (length sources.items + job.now.askers ≤ 128) }
+    ensures some { OnOk result (0 < length sources.items + job.now.askers) }
     ensures prefix { (inputs : List Told) → Tell I.to_come sources.items inputs
         → IsTrue (O.tells out.old) → AppendsPrefix (O.written out.old) (O.written out.new)
         (output_told job.now inputs) }
@@ -213,6 +216,7 @@ pub fn run<R: Threads + Wait + Sync, I: Input + Send, G: Gate + Sync, O: Output>
     ensures unwritten { IfErr result (Unwritten
         (IsTrue (O.tells out.old) → O.written out.new ≡ O.written out.old)) }
     ensures allowed { IfErr result (IsAllowed (length sources.items + job.now.askers)) }
+    ensures named { IfErr result (IsNamed (length sources.items) (length sources.items + job.now.askers)) }
     ensures read { IfErr result (λ f. (host : ℕ) → f ≡ RunFault.File host feed_fault_of.Read
         → (s : Source _) → I.can_fail (slice_index_or sources.items host s).input ≡ true) }
     ensures counts { O.failures out.new ≡ O.failures out.old + failed_writes result }
