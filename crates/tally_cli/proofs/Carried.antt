@@ -8,8 +8,7 @@ use Rattle.tally_desk.specs.Passes.{PassState}
 use Rattle.tally_cli.specs.declared.sources.Source.{Source}
 use Rattle.tally_cli.specs.declared.task.Task.{Task}
 use Rattle.tally_cli.specs.Deals.{AreCarriedOut, AreDealt, CameOf, IsIn, IsTaskOf}
-use Rattle.tally_cli.specs.Failures.{AreTaken}
-use Rattle.tally_cli.specs.Tasks.{EachWorks, HasFailed, IsExplained, Works}
+use Rattle.tally_cli.specs.Tasks.{EachWorks, IsExplained, Works}
 use Rattle.tally_cli.proofs.Dealt.{at_map}
 
 pub all_unmap : {V A : Type 0} (P : A → Type 0) (f : V → A) (vs : List V) → All P (map f vs) → All (λ v. P (f v)) vs

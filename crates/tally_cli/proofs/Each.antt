@@ -2,7 +2,7 @@
 use Rattle.std.proofs.Common.{◌≡◌, ◌≢◌, ℕ, ◌+◌, ◌<◌, ◌≤◌, Bool, List, Option, length, set, get_or, sym, ap, ◌∙◌, subst, arith, ⊎_elim}
 use Rattle.std.proofs.lemmas.Bool.{cases_eq, cases_lt}
 use Rattle.std.proofs.lemmas.List.{length-set, get_or-set_same, get_or-set_other, get_or_default}
-use Rattle.std.specs.List.{All, Contains}
+use Rattle.std.specs.List.{All}
 use Rattle.tally_cli.specs.declared.task.Task.{Task}
 use Rattle.tally_cli.specs.declared.task.Outcome.{Outcome}
 use Rattle.tally_cli.specs.Tasks.{EachWorks, HasFailed, IsDone, IsExplained, IsUntried, Works}

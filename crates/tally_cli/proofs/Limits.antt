@@ -1,22 +1,20 @@
 -- A run has few calls, so that no call is refused for their number.
-use Rattle.std.proofs.Common.{◌≡◌, ℕ, ◌+◌, ◌*◌, ◌<◌, ◌≤◌, ◌⊎◌, Bool, List, [], ◌∷◌, ◌++◌, Option, Some, None, false, length, pos, map, get_or, sym, refl, ap, ◌∙◌, subst, arith, length-append, ⊎_elim}
+use Rattle.std.proofs.Common.{◌≡◌, ℕ, ◌+◌, ◌*◌, ◌<◌, ◌≤◌, List, [], ◌∷◌, ◌++◌, Some, false, length, pos, sym, refl, ap, ◌∙◌, subst, arith, length-append}
 use Rattle.std.proofs.lemmas.List.{get_or_at, length-map}
 use Rattle.std.proofs.lemmas.List.Elements.{All-cons, All-nil}
-use Rattle.std.specs.Prelude.{slice_get}
 use mathlib.Core.List.{IsPrefix}
-use Rattle.std.specs.List.{All, flat_map}
+use Rattle.std.specs.List.{All}
 use Rattle.tally_book.specs.declared.fault.AskFault.{AskFault}
 use Rattle.tally_book.specs.declared.fault.AskFault.TheVariants as ask
-use Rattle.tally_book.specs.declared.history.Call.{Call}
 use Rattle.tally_book.specs.declared.question.Question.{Question}
 use Rattle.tally_book.specs.declared.question.Question.TheVariants as questions
 use Rattle.tally_book.specs.Refusals.{IsAskRefusal}
 use Rattle.tally_book.specs.Answers.{NamesHost}
-use Rattle.tally_book.specs.Books.{IsCall, IsLegal, caller_of, calls_of}
+use Rattle.tally_book.specs.Books.{IsLegal, caller_of, calls_of}
 use Rattle.tally_book.specs.Contents.{Contents}
-use Rattle.tally_book.specs.Deeds.{EntriesArePosts, deed, deeds_of, logins_added, procs_added}
+use Rattle.tally_book.specs.Deeds.{EntriesArePosts, deed, deeds_of}
 use Rattle.tally_desk.specs.Feeds.{IsFeedRefusal}
-use Rattle.tally_desk.specs.Passes.{PassState, Stands, deeds}
+use Rattle.tally_desk.specs.Passes.{PassState, Stands}
 use Rattle.tally_desk.specs.Rounds.{AskStops}
 use Rattle.tally_desk.specs.declared.fault.FeedFault.{FeedFault}
 use Rattle.tally_desk.specs.declared.fault.FeedFault.TheVariants as feed
@@ -25,9 +23,7 @@ use Rattle.tally_usage.specs.declared.order.Order.TheVariants as order
 use Rattle.tally_cli.specs.declared.fault.RunFault.TheVariants as run
 use Rattle.tally_cli.specs.Runs.{IsAllowed}
 use Rattle.tally_cli.specs.Tasks.{asker_questions}
-use Rattle.tally_desk.specs.Totals.{below}
 use Rattle.tally_sessions.specs.declared.entry.Entry.{Entry}
-use Rattle.tally_sessions.specs.Hosts.{of_host}
 use Rattle.tally_usage.specs.declared.entry.ProcEntry.{ProcEntry}
 use Rattle.tally_cli.proofs.Calls.{AreFew}
 use Rattle.tally_cli.proofs.Counting.{few_together, of_key, shares, shares_at_most}

@@ -1,5 +1,5 @@
 -- What is known of a task by the failure that was told.
-use Rattle.std.proofs.Common.{◌≡◌, ℕ, ◌<◌, ◌≤◌, Bool, List, [], Option, Some, None, arith, refl}
+use Rattle.std.proofs.Common.{ℕ, ◌<◌, List, Option, Some, None, arith, refl}
 use Rattle.std.proofs.lemmas.List.Elements.{All-contains}
 use Rattle.std.specs.List.{All, Contains}
 use Rattle.tally_cli.specs.declared.gather.Failure.{Failure}

@@ -8,7 +8,7 @@ use Rattle.tally_book.specs.declared.question.Question.{Question}
 use Rattle.tally_book.specs.Deeds.{Ask as AskDeed, Deed}
 use Rattle.tally_desk.specs.Batches.{records_in}
 use Rattle.tally_desk.specs.Blocks.{good_blocks}
-use Rattle.tally_desk.specs.Feeds.{IsCut, IsFullAt, good_batches, post_of}
+use Rattle.tally_desk.specs.Feeds.{IsCut, good_batches, post_of}
 use Rattle.tally_desk.specs.Passes.{PassState, deeds}
 use Rattle.tally_desk.specs.Totals.{below}
 use Rattle.tally_desk.specs.declared.fault.FeedFault.{FeedFault}

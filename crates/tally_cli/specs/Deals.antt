@@ -2,7 +2,7 @@
 use Rattle.std.specs.Prelude.{◌≡◌, ◌<◌, ◌-◌, ◌^◌, ℕ, Bool, List, [], Option, Some, None, length, slice_get, slice_index_or}
 use Rattle.std.specs.List.{All, Contains}
 use Rattle.tally_desk.specs.Passes.{PassState}
-use Rattle.tally_cli.specs.Tasks.{IsExplained, Works}
+use Rattle.tally_cli.specs.Tasks.{Works}
 use Rattle.tally_cli.specs.declared.sources.Source.{Source}
 use Rattle.tally_cli.specs.declared.task.Task.{Task}
 use Rattle.tally_cli.specs.declared.task.Work.{Work}

@@ -13,8 +13,10 @@ use crate::rule::{Count, Deal, Draw, Gather, Leave, Look, Order, Tell};
 use crate::view::View;
 use atomic_table::{Refused, Table};
 use std::alloc::Global;
+use std::hint;
 use std::sync::Wait;
-use std::thread;
+use std::thread::Parker;
+use std::time::Duration;
 use tally_book::{AskFault, Book, PostFault, Question, Receipt, Served};
 use tally_records::{Batch, Memory};
 
@@ -27,6 +29,11 @@ const CALLS: usize = 0;
 const TICKET: usize = 1;
 
 const SERVING: usize = 2;
+
+// How often a caller that waits looks for its turn before it sleeps, and for how many microseconds.
+const LOOKS: u32 = 100;
+
+const NAP: u64 = 20;
 
 // The slot of the book.
 const BOOK: usize = 0;
@@ -107,6 +114,23 @@ impl TicketLock {
         self.table.shared.load::<Look>(seat, SERVING) == ticket
     }
 
+    /// Looks for a short while whether it is the turn of the ticket, and then takes
+    /// the book.
+    fn turn_comes(&self, seat: &mut Seat, ticket: u64) -> bool
+        requires table { seat.old.table_id ≡ self.now.table.shared.table_id }
+        requires waits { (k : Known) × (drawn : ℕ) × (ticket ≡ drawn % 2 ^ 64) × (seat.old.me ≡ waiting k drawn) }
+        ensures table { seat.new.table_id ≡ seat.old.table_id }
+        ensures turn { (k : Known) (drawn : ℕ) → ticket ≡ drawn % 2 ^ 64 → seat.old.me ≡ waiting k drawn → MatchBool result ((book : Contents) × (seat.new.me ≡ turn k drawn book book) × IsLegal book × Fits book k) (seat.new.me ≡ seat.old.me) }
+    {
+        for _ in 0..LOOKS {
+            if self.is_turn(seat, ticket) {
+                return true;
+            }
+            hint::spin_loop();
+        }
+        false
+    }
+
     /// Waits until it is the seat's turn. The book is then out with it.
     pub fn enter<R: Wait>(&self, rt: &R, seat: &mut Seat)
         requires table { seat.old.table_id ≡ self.now.table.shared.table_id }
@@ -115,11 +139,12 @@ impl TicketLock {
         ensures turn { (k : Known) → seat.old.me ≡ idle k → (ticket : ℕ) × (book : Contents) × (seat.new.me ≡ turn k ticket book book) × IsLegal book × Fits book k }
     {
         let ticket = self.draw(seat);
+        let nap = Parker::new();
         for _ in rt.forever() {
-            if self.is_turn(seat, ticket) {
+            if self.turn_comes(seat, ticket) {
                 return;
             }
-            thread::yield_now();
+            nap.park_timeout(rt, Duration::from_micros(NAP));
         }
         unreachable!()
     }

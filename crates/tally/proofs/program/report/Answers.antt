@@ -1,4 +1,4 @@
-use Rattle.std.proofs.Common.{◌≡◌, ℕ, ◌+◌, length, subst}
+use Rattle.std.proofs.Common.{ℕ, ◌+◌, length, subst}
 use Rattle.tally_cli.specs.Runs.{IsNamed}
 use Rattle.tally.proofs.program.report.Goals as goal
 

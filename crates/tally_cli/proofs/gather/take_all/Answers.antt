@@ -1,5 +1,5 @@
-use Rattle.std.proofs.Common.{◌≡◌, ◌∙◌, ◌++◌, [], arith, rules, sym, append-nil}
-use Rattle.tally_cli.proofs.Taken.{flat_more, none_taken, sum_more}
+use Rattle.std.proofs.Common.{◌∙◌, ◌++◌, arith}
+use Rattle.tally_cli.proofs.Taken.{flat_more, sum_more}
 use Rattle.tally_cli.proofs.gather.take_all.Goals as goal
 
 pub loop-tasks-preserved : goal.loop-tasks-preserved

@@ -1,4 +1,4 @@
-use Rattle.std.proofs.Common.{◌≡◌, ◌∙◌, ◌++◌, ◌∷◌, ap, rules, subst, sym}
+use Rattle.std.proofs.Common.{◌∙◌, ◌++◌, ◌∷◌, ap, rules, subst, sym}
 use Rattle.tally_cli.specs.Failures.{AreTaken, failure_of}
 use Rattle.tally_cli.proofs.Taken.{order_more, taken_more}
 use Rattle.tally_cli.proofs.gather.take_list.Goals as goal

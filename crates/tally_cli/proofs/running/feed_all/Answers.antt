@@ -1,6 +1,6 @@
-use Rattle.std.proofs.Common.{◌≡◌, ◌∙◌, ◌+◌, ◌<◌, ◌≤◌, ℕ, ap, arith, length, subst, sym}
+use Rattle.std.proofs.Common.{◌∙◌, ℕ, ap, arith, subst, sym}
 use Rattle.tally_desk.specs.Passes.{PassState, first_pass}
-use Rattle.tally_cli.proofs.Ended.{Ended, ended_of, few, good_all, same_hosts}
+use Rattle.tally_cli.proofs.Ended.{ended_of, few, good_all, same_hosts}
 use Rattle.tally_cli.proofs.Failing.{allowed, can_fail_at, cause_is, named}
 use Rattle.tally_cli.proofs.FirstPasses.{first_at, first_count}
 use Rattle.tally_cli.proofs.Outcomes.{IsBefore}

@@ -1,4 +1,4 @@
-use Rattle.std.proofs.Common.{◌≡◌, ◌∙◌, ◌++◌, ap, map, subst, sym}
+use Rattle.std.proofs.Common.{◌∙◌, ◌++◌, ap, map, subst, sym}
 use Rattle.std.specs.Prelude.{IsTrue}
 use Rattle.tally_print.specs.Output.{AppendsPrefix}
 use Rattle.tally_cli.specs.declared.sources.Source.{Source}

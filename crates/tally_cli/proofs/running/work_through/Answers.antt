@@ -1,6 +1,6 @@
-use Rattle.std.proofs.Common.{◌≡◌, ◌∙◌, ◌≤◌, List, ap, arith, length, map, refl, sym}
+use Rattle.std.proofs.Common.{arith}
 use Rattle.std.proofs.lemmas.List.Elements.{All-contains, All-weaker}
-use Rattle.std.specs.List.{All, Contains, flat_map, sum_by}
+use Rattle.std.specs.List.{Contains, flat_map}
 use Rattle.tally_desk.specs.Passes.{HasDone, PassState, Stands}
 use Rattle.tally_cli.specs.declared.task.Task.{Task}
 use Rattle.tally_cli.specs.Tasks.{AreReady}

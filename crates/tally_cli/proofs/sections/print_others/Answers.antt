@@ -1,4 +1,4 @@
-use Rattle.std.proofs.Common.{◌≡◌, ◌+◌, ◌<◌, ◌++◌, ◌∷◌, FitsSigned, IsTrue, length, rules, subst, sym, w32}
+use Rattle.std.proofs.Common.{◌<◌, ◌∷◌, FitsSigned, IsTrue, length, rules, subst, sym, w32}
 use Rattle.std.proofs.lemmas.Int.{to_z-of_z}
 use Rattle.tally_print.specs.AnswerText.{answer_text}
 use Rattle.tally_cli.proofs.Texts.{flat_at, prefix_more}

@@ -1,4 +1,4 @@
-use Rattle.std.proofs.Common.{◌≡◌, ◌∙◌, ◌++◌, ◌∷◌, [], FitsSigned, IsTrue, ap, append-nil, subst, sym, w32}
+use Rattle.std.proofs.Common.{◌∙◌, ◌++◌, ◌∷◌, [], FitsSigned, IsTrue, ap, append-nil, subst, sym, w32}
 use Rattle.std.proofs.lemmas.Int.{to_z-of_z}
 use Rattle.std.proofs.lemmas.List.{append_assoc}
 use Rattle.std.proofs.lemmas.Result.{on_ok_weaker}
