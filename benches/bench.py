@@ -62,13 +62,13 @@ def main():
     if not os.path.exists(small):
         with open(wtmp, 'rb') as big, open(small, 'wb') as out:
             out.write(big.read(384 * 10))
-    quarters = [os.path.join(data, 'wtmp.%d' % i) for i in range(4)]
-    if not all(os.path.exists(q) for q in quarters):
-        quarter = os.path.getsize(wtmp) // 384 // 4 * 384
+    parts = [os.path.join(data, 'wtmp.eighth%d' % i) for i in range(8)]
+    if not all(os.path.exists(part) for part in parts):
+        size = os.path.getsize(wtmp) // 384 // 8 * 384
         with open(wtmp, 'rb') as big:
-            for q in quarters:
-                with open(q, 'wb') as out:
-                    out.write(big.read(quarter))
+            for part in parts:
+                with open(part, 'wb') as out:
+                    out.write(big.read(size))
     lines = [('ac 10 records', small, ['ac', '-f', small]), ('ac', wtmp, ['ac', '-f', wtmp]), ('ac -d', wtmp, ['ac', '-d', '-y', '-f', wtmp]),
              ('ac -p', wtmp, ['ac', '-p', '-f', wtmp]), ('ac -d -p', wtmp, ['ac', '-d', '-p', '-y', '-f', wtmp]),
              ('last', wtmp, ['last', '--time-format=iso', '-f', wtmp]),
@@ -101,11 +101,11 @@ def main():
         results.append((name, runs, agrees))
         show(name, runs, agrees, markdown, first=len(results) == 1)
     if binary and not only:
-        print('\ntally ac on the four quarters of wtmp, as four hosts:')
-        for n in ('1', '2', '4'):
+        print('\ntally ac on the eight parts of wtmp, as eight hosts:')
+        for n in ('1', '2', '4', '8'):
             got = []
             for _ in range(rounds):
-                said = subprocess.run([measure, '/dev/null', binary, 'ac', '--feeders', n] + quarters,
+                said = subprocess.run([measure, '/dev/null', binary, 'ac', '--feeders', n] + parts,
                                       stdout=subprocess.PIPE, check=True).stdout.split()
                 got.append((float(said[0]), float(said[1]) + float(said[2]), int(said[3]) / 1024, int(said[4])))
             print('--feeders %s: least %.3f, median %.3f, processor %.3f, %.0f MB, status %d' % (

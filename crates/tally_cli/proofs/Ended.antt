@@ -73,8 +73,8 @@ ended_of id callers passes new same enough legal posts worked =
       all = count ∙ sym same;
       enough = omega (arith, count, enough);
       first = λ k l.
-      let is = first_at passes (first_pass id callers) callers k (first_pass id 0 0) new (omega (arith, l, count)) in
-      (ap (λ (p : PassState). p.number) is, ap deeds is);
+          let is = first_at passes (first_pass id callers) callers k (first_pass id 0 0) new (omega (arith, l, count)) in
+          (ap (λ (p : PassState). p.number) is, ap deeds is);
       posts = posts;
       worked = worked;
     }

@@ -39,7 +39,7 @@ returns-in-None-clause-whole g c = λ inputs tell.
     let book = c.in_ok-book.ensures in
     let ended = ended_of c.in_ok-desk.desk.id _ c.in_ok-desk.passes.items opened.1 (book.callers ∙ opened.0) (omega (arith, c.len.ensures, c.args.sources.ok.0)) book.legal (c.entries_are_posts.ensures c.in_ok-book.book book.legal) book.worked in
     let before : (k : ℕ) → IsBefore k c.in_ok-book.failure = λ k. subst (IsBefore k) (sym c.in-None.is) tt in
-    record { good = good_all ended inputs tell before; same = same_hosts ended inputs tell before; }
+    record { good = good_all ended inputs tell before; same = same_hosts ended inputs tell before }
 
 pub returns-in-None-clause-calls : goal.returns-in-None-clause-calls
 returns-in-None-clause-calls g c =
