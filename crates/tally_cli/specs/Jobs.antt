@@ -1,6 +1,6 @@
 -- What a run asks of its job.
 use Rattle.std.specs.Prelude.{◌≤◌}
-use Rattle.tally_print.specs.Civil.{IsOffset}
+use Rattle.tally_sessions.specs.Days.{IsOffset}
 use Rattle.tally_cli.specs.declared.job.Job.{Job}
 
 -- a job that can be run

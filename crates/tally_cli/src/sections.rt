@@ -3,7 +3,7 @@ ghost use Rattle.std.specs.Prelude.{◌≡◌, ◌+◌, ◌-◌, ◌^◌, ◌<�
 ghost use Rattle.std.specs.List.{All, flat_map};
 ghost use Rattle.tally_book.specs.Answers.{HasDays, IsAskable, NamesHostBelow, answer_of};
 ghost use Rattle.tally_print.specs.AnswerText.{answer_text};
-ghost use Rattle.tally_print.specs.Civil.{IsOffset};
+ghost use Rattle.tally_sessions.specs.Days.{IsOffset};
 ghost use Rattle.tally_print.specs.Output.{AppendsPrefix};
 ghost use Rattle.tally_cli.specs.Output.{is_wanted, questions_of, sections, stays_asked};
 ghost use Rattle.tally_cli.specs.Runs.{IsPrintFault, failed_writes};

@@ -1,7 +1,7 @@
 ghost use Rattle.std.specs.Prelude.{◌≡◌, ◌+◌, ◌-◌, ◌^◌, ◌<◌, ◌++◌, IsTrue, OnOk};
 ghost use Rattle.tally_book.specs.Answers.{HasDays};
 ghost use Rattle.tally_print.specs.AnswerText.{answer_text};
-ghost use Rattle.tally_print.specs.Civil.{IsOffset};
+ghost use Rattle.tally_sessions.specs.Days.{IsOffset};
 ghost use Rattle.tally_print.specs.Output.{AppendsPrefix, failed_calls};
 
 use crate::{Output, PrintFault, print_commands, print_connect, print_last, print_users};

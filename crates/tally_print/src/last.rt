@@ -1,5 +1,5 @@
 ghost use Rattle.std.specs.Prelude.{◌≡◌, ◌+◌, ◌-◌, ◌^◌, ◌<◌, ◌++◌, IsTrue, OnOk, codes, if◌then◌else◌};
-ghost use Rattle.tally_print.specs.Civil.{IsOffset};
+ghost use Rattle.tally_sessions.specs.Days.{IsOffset};
 ghost use Rattle.tally_print.specs.Output.{AppendsPrefix, failed_calls};
 ghost use Rattle.tally_print.specs.Text.{left, moment, span};
 ghost use Rattle.tally_print.specs.LastText.{user_column, line_column, ending, beginning, stay_line, last_text};

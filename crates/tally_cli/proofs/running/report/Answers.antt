@@ -14,7 +14,7 @@ answers_to-requires-clause-askable g c =
     let job = c.args.job.now in
     let offset = c.requires.runnable.offset in
     subst (All IsAskable) (sym (c.as_slice.ensures.value ∙ c.in_ok-questions.ensures))
-    (all_questions IsAskable job.report job.offset c.args.kinds.now (λ limit n l. tt) (λ by_day by_user. record { low = offset.0; high = offset.1 }) (λ by reverse all. tt) (λ by reverse. tt))
+    (all_questions IsAskable job.report job.offset c.args.kinds.now (λ limit n l. tt) (λ by_day by_user. offset) (λ by reverse all. tt) (λ by reverse. tt))
 
 pub answers_to-requires-clause-hosts : goal.answers_to-requires-clause-hosts
 answers_to-requires-clause-hosts g c =
