@@ -1,5 +1,6 @@
 ghost use Rattle.std.specs.Prelude.{◌≡◌, ◌+◌, ◌-◌, ◌^◌, ◌<◌, ◌++◌, All, IfSome, IsTrue, OnOk};
-ghost use Rattle.tally_print.specs.Civil.{IsReportDay};
+ghost use Rattle.tally_book.specs.Answers.{HasDay};
+ghost use Rattle.tally_sessions.specs.Days.{IsDay};
 ghost use Rattle.tally_print.specs.Output.{AppendsPrefix, failed_calls};
 ghost use Rattle.tally_print.specs.Text.{left};
 ghost use Rattle.tally_print.specs.ConnectText.{day_column, user_column, connect_line, connect_text};
@@ -13,7 +14,7 @@ use tally_book::ConnectRow;
 use tally_records::Name;
 
 fn push_day(line: &mut Vec<u8>, day: Option<i32>) -> Result<(), AllocError>
-    requires { IfSome day IsReportDay }
+    requires { IfSome day IsDay }
     ensures { OnOk result (line.new.items ≡ line.old.items ++ day_column day) }
 {
     if let Some(day) = day {
@@ -34,7 +35,7 @@ fn push_user(line: &mut Vec<u8>, user: &Option<Name>) -> Result<(), AllocError>
 
 #[tactic(auto, unfolding(crate::specs::ConnectText::connect_line))]
 fn push_row(line: &mut Vec<u8>, row: &ConnectRow) -> Result<(), AllocError>
-    requires { IfSome row.now.day IsReportDay }
+    requires { HasDay row.now }
     ensures { OnOk result (line.new.items ≡ line.old.items ++ connect_line row.now) }
 {
     push_day(line, row.day)?;
@@ -54,7 +55,7 @@ pub fn print_connect<O: Output>(
     out: &mut O,
 ) -> Result<(), PrintFault>
     requires failures { O.failures out.old < 2 ^ 64 - 1 }
-    requires days { All (λ row. IfSome row.day IsReportDay) rows.now }
+    requires days { All HasDay rows.now }
     ensures prefix { IsTrue (O.tells out.old)
         → AppendsPrefix (O.written out.old) (O.written out.new) (connect_text rows.now total) }
     ensures ok { OnOk result (IsTrue (O.tells out.old)

@@ -1,6 +1,6 @@
 //! The lines of ac(1).
 ghost use Rattle.std.specs.Prelude.{◌≡◌, ◌≤◌, All, IfSome, None, length};
-ghost use Rattle.tally_print.specs.Civil.{IsReportDay};
+ghost use Rattle.tally_book.specs.Answers.{HasDay};
 
 use super::{is_printed, name};
 use crate::{Kept, print_connect};
@@ -11,7 +11,7 @@ use tally_book::ConnectRow;
 /// Asserts that the rows and the total print this text.
 /// Where a growth is refused, the second try prints it.
 fn expect_connect(rt: &impl Abort, alloc: Global, rows: &[ConnectRow], total: u64, text: &[u8])
-    requires { All (λ row. IfSome row.day IsReportDay) rows.now }
+    requires { All HasDay rows.now }
 {
     for _ in 0..2 {
         let mut out = Kept::new(alloc);
