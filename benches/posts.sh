@@ -13,7 +13,7 @@ mkdir -p "$crate/src" "$crate/proofs/post_share"
 cp "$top/benches/posts/main.rt.in" "$crate/src/main.rt"
 cp "$top/benches/posts/post_share.antt.in" "$crate/proofs/post_share/Invariants.antt"
 echo 'tally_posts: tally_records tally_book tally_desk' >> "$copy/tally/crates.txt"
-(cd "$crate" && rt run -- 0 > "$copy/log") || { tail -n 20 "$copy/log"; exit 1; }
+(cd "$crate" && rt run -- 0 > "$copy/log" 2>&1) || { tail -n 20 "$copy/log"; exit 1; }
 for threads in 0 1 2 4 8; do
     for _ in $(seq "$rounds"); do
         start=$(date +%s%N)
@@ -21,5 +21,5 @@ for threads in 0 1 2 4 8; do
         end=$(date +%s%N)
         echo $((end - start))
     done | sort -n | head -n 1 | awk -v threads="$threads" '{
-        printf "%s: %.3f s, %d posts a second\n", threads ? threads " threads on a desk" : "a bare book", $1 / 1e9, 1024e9 / $1 }'
+        printf "%s: %.3f s, %d posts a second\n", threads == 0 ? "a bare book" : threads == 1 ? "a desk, 1 thread" : "a desk, " threads " threads", $1 / 1e9, 1024e9 / $1 }'
 done
