@@ -52,18 +52,18 @@ fn ending_of(start: &LoginRecord, moved: i64, by: &LoginRecord, event: Event) ->
     }
 }
 
-/// The end of a pending stay as it stands, where the clock moved so far since its start and this is the last time.
-pub(crate) fn still(start: &LoginRecord, moved: i64, last: i32) -> Ending
+/// The end of a pending stay as it stands at a time, where the clock moved so far since its start.
+pub(crate) fn still(start: &LoginRecord, moved: i64, time: i32) -> Ending
     requires low { neg_ℤ (pos (2 ^ 62)) ≤ℤ moved }
     requires high { moved ≤ℤ pos (2 ^ 62) }
-    ensures { result ≡ spec.still_of start.now moved last }
+    ensures { result ≡ spec.still_of start.now moved time }
 {
     let begin = begin_of(start.time, moved);
     Ending {
         begin,
         end: End::Still,
-        end_time: last,
-        length: seconds_between(begin, last) as u32,
+        end_time: time,
+        length: seconds_between(begin, time) as u32,
     }
 }
 

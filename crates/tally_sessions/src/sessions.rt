@@ -142,42 +142,50 @@ impl Sessions {
         self.tracks[host as usize].first
     }
 
-    /// The stays of a host, that of the latest record first, and no more than the limit.
-    pub fn stays(&self, alloc: Global, host: u32, limit: Option<u32>) -> Result<List<Stay>, Memory>
+    /// The stays of a host, that of the latest record first, and no more than the limit. A stay that
+    /// nothing has ended counts up to a moment, in seconds since 1970, or else to the host's last record.
+    pub fn stays(
+        &self,
+        alloc: Global,
+        host: u32,
+        limit: Option<u32>,
+        until: Option<i32>,
+    ) -> Result<List<Stay>, Memory>
         requires { host < self.now.hosts }
-        ensures value { IfOk result (λ found. found ≡ latest_stays host limit self.now.entries) }
+        ensures value { IfOk result (λ found. found ≡ latest_stays host limit self.now.entries until) }
         ensures lengths { IfOk result (All (λ s. s.length < 2 ^ 32)) }
     {
         let entries = self.entries();
         let track = &self.tracks[host as usize];
         match limit {
-            Some(limit) => track.latest(alloc, host, entries, limit as usize),
-            None => track.latest(alloc, host, entries, entries.len()),
+            Some(limit) => track.latest(alloc, host, entries, limit as usize, until),
+            None => track.latest(alloc, host, entries, entries.len(), until),
         }
     }
 
-    /// The seconds of all sessions of all hosts.
-    pub fn total(&self) -> u64
-        ensures value { result ≡ total_of self.now.entries }
+    /// The seconds of all sessions of all hosts. Those that nothing has ended count up to a moment,
+    /// in seconds since 1970, or else to their host's last record.
+    pub fn total(&self, until: Option<i32>) -> u64
+        ensures value { result ≡ total_of self.now.entries until }
         ensures fits { result < 2 ^ 52 }
     {
         let entries = self.entries();
         let mut total = 0;
         for host in 0..HOST_LIMIT {
-            total += self.tracks[host as usize].seconds(host, entries, None);
+            total += self.tracks[host as usize].seconds(host, entries, None, until);
         }
         total
     }
 
-    /// The seconds of a user's sessions on all hosts.
-    pub fn connect(&self, user: &Name) -> u64
-        ensures value { result ≡ connect_of user.now self.now.entries }
+    /// The seconds of a user's sessions on all hosts, counted as in the total.
+    pub fn connect(&self, user: &Name, until: Option<i32>) -> u64
+        ensures value { result ≡ connect_of user.now self.now.entries until }
         ensures fits { result < 2 ^ 52 }
     {
         let entries = self.entries();
         let mut total = 0;
         for host in 0..HOST_LIMIT {
-            total += self.tracks[host as usize].seconds(host, entries, Some(*user));
+            total += self.tracks[host as usize].seconds(host, entries, Some(*user), until);
         }
         total
     }
