@@ -17,6 +17,7 @@ pub mod HostCounts
 pub mod StaysNow
 pub mod WorkedRows
 pub mod DaysLemmas
+pub mod StayDays
 pub mod SessionLists
 pub mod SumLemmas
 pub mod DayWalk
