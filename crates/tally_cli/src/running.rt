@@ -11,7 +11,7 @@ ghost use Rattle.tally_cli.specs.Jobs.{IsRunnable};
 ghost use Rattle.tally_cli.specs.Runs.{AreRead, AreWorkedThrough, IsAllowed, IsCause, IsGood, IsNamed, IsOpenRefusal, IsPrintFault, IsReadCause, IsUnprinted};
 ghost use Rattle.tally_cli.specs.Runs.{Tell, Told, Unwritten, failed_writes, output_told, run_fault};
 
-use crate::deal::deal_out;
+use crate::deal::{busy_feeders, deal_out};
 use crate::fault::RunFault;
 use crate::gather::{Cause, Failure, take_all};
 use crate::job::Job;
@@ -106,6 +106,7 @@ fn work_through<R: Threads + Wait + Sync, I: Input + Send, G: Gate + Sync>(
     ensures worked { IfOk result (λ r. AreWorkedThrough I.to_come I.can_fail sources.items passes.items r.0 r.1) }
 {
     let mut back = Vec::with_capacity(alloc, passes.len())?;
+    let feeders = busy_feeders(feeders, sources.len());
     let lists = deal_out(alloc, &desk, passes, sources, feeders)?;
     let lists = carry_out_lists(rt, alloc, &desk, lists, gate)?;
     let failure = take_all(lists, &mut back);
