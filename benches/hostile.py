@@ -9,6 +9,7 @@ file takes more than RATIO times what the ordinary one takes, 2 milliseconds lef
 of a row with twice as many rows. The last line counts.
 """
 import os
+import resource
 import struct
 import subprocess
 import sys
@@ -95,8 +96,8 @@ CASES = [
     ('colliding lines and users', ['ac'], pairs(colliding), pairs(plain)),
     ('colliding users by user', ['ac', '-p'], pairs(colliding), pairs(plain)),
     ('colliding commands', ['sa', '-a'], commands(colliding), commands(plain)),
-    ('sessions over all days', ['ac', '-d'], sessions(LEAST, MOST), sessions(0, 86400 * 49713)),
-    ('sessions over all days, by user', ['ac', '-d', '-p'], sessions(LEAST, MOST), sessions(0, 86400 * 49713)),
+    ('sessions over all days', ['ac', '-d'], sessions(LEAST, MOST), sessions(0, 86400 * 24800)),
+    ('sessions over all days, by user', ['ac', '-d', '-p'], sessions(LEAST, MOST), sessions(0, 86400 * 24800)),
     ('sessions over all days, beside one day', ['ac', '-d', '-p'], sessions(LEAST, MOST), sessions(0, 3600)),
     ('boots behind many lines', ['ac'], open_lines(boot), open_lines(message)),
     ('clock changes in many sessions', ['ac'], open_lines(clock), open_lines(message)),
@@ -107,10 +108,10 @@ def seconds(binary, words, path):
     """The least processor seconds of three runs, and how many bytes were written."""
     least = None
     for _ in range(3):
-        before = os.times()
+        before = resource.getrusage(resource.RUSAGE_CHILDREN)
         done = subprocess.run([binary] + words + ['--feeders', '1', path], stdout=subprocess.PIPE, check=True)
-        after = os.times()
-        spent = after.children_user + after.children_system - before.children_user - before.children_system
+        after = resource.getrusage(resource.RUSAGE_CHILDREN)
+        spent = after.ru_utime + after.ru_stime - before.ru_utime - before.ru_stime
         least = spent if least is None else min(least, spent)
     return least, done.stdout.count(b'\n')
 
