@@ -96,9 +96,8 @@ CASES = [
     ('colliding lines and users', ['ac'], pairs(colliding), pairs(plain)),
     ('colliding users by user', ['ac', '-p'], pairs(colliding), pairs(plain)),
     ('colliding commands', ['sa', '-a'], commands(colliding), commands(plain)),
-    ('sessions over all days', ['ac', '-d'], sessions(LEAST, MOST), sessions(0, 86400 * 24800)),
-    ('sessions over all days, by user', ['ac', '-d', '-p'], sessions(LEAST, MOST), sessions(0, 86400 * 24800)),
-    ('sessions over all days, beside one day', ['ac', '-d', '-p'], sessions(LEAST, MOST), sessions(0, 3600)),
+    ('sessions over all days', ['ac', '-d'], sessions(LEAST, MOST), sessions(0, 3600)),
+    ('sessions over all days, by user', ['ac', '-d', '-p'], sessions(LEAST, MOST), sessions(0, 3600)),
     ('boots behind many lines', ['ac'], open_lines(boot), open_lines(message)),
     ('clock changes in many sessions', ['ac'], open_lines(clock), open_lines(message)),
 ]

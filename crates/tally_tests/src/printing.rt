@@ -24,11 +24,11 @@ fn text(alloc: Global, answer: &Answer) -> Result<Kept, PrintFault>
     requires { HasDays answer.now }
 {
     let mut first = Kept::new(alloc);
-    if print_answer(alloc, answer, 0, &mut first).is_ok() {
+    if print_answer(alloc, answer, 0, &mut first, None).is_ok() {
         return Ok(first);
     }
     let mut second = Kept::new(alloc);
-    print_answer(alloc, answer, 0, &mut second)?;
+    print_answer(alloc, answer, 0, &mut second, None)?;
     Ok(second)
 }
 

@@ -34,8 +34,8 @@ fn seen_of(sessions: &Sessions) -> Seen
 {
     Seen {
         entries: sessions.entries().len(),
-        total: sessions.total(),
-        of_ann: sessions.connect(&name("ann")),
+        total: sessions.total(None),
+        of_ann: sessions.connect(&name("ann"), None),
         first: sessions.first(1),
     }
 }
@@ -73,29 +73,29 @@ fn add(sessions: &mut Sessions, host: u32, batch: &Batch) -> Result<(), Stopped>
 fn stays(alloc: Global, sessions: &Sessions) -> Result<List<Stay>, Memory>
     requires { sessions.now.hosts ≡ 2 }
 {
-    match sessions.stays(alloc, 1, None) {
-        Err(_) => sessions.stays(alloc, 1, None),
+    match sessions.stays(alloc, 1, None, None) {
+        Err(_) => sessions.stays(alloc, 1, None, None),
         answered => answered,
     }
 }
 
 fn by_user(alloc: Global, sessions: &Sessions) -> Result<List<UserTime>, Memory> {
-    match sessions.connect_by_user(alloc) {
-        Err(_) => sessions.connect_by_user(alloc),
+    match sessions.connect_by_user(alloc, None) {
+        Err(_) => sessions.connect_by_user(alloc, None),
         answered => answered,
     }
 }
 
 fn by_day(alloc: Global, sessions: &Sessions) -> Result<List<DayTime>, Memory> {
-    match sessions.connect_by_day(alloc, 0) {
-        Err(_) => sessions.connect_by_day(alloc, 0),
+    match sessions.connect_by_day(alloc, 0, None) {
+        Err(_) => sessions.connect_by_day(alloc, 0, None),
         answered => answered,
     }
 }
 
 fn by_both(alloc: Global, sessions: &Sessions) -> Result<List<DayUserTime>, Memory> {
-    match sessions.connect_by_day_user(alloc, 0) {
-        Err(_) => sessions.connect_by_day_user(alloc, 0),
+    match sessions.connect_by_day_user(alloc, 0, None) {
+        Err(_) => sessions.connect_by_day_user(alloc, 0, None),
         answered => answered,
     }
 }

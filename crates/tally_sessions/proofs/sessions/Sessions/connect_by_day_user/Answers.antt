@@ -11,7 +11,7 @@ pub returns-clause-value : goal.returns-clause-value
 returns-clause-value c =
     let es : List Entry = c.args.self.now.entries in
     let offset = to_z-of_z w32 c.args.offset (search rules) in
-    let sessions : c.deref.result.now ≡ sessions_of es = c.deref.ensures.value ∙ c.in_ok-sessions.ensures.value in
+    let sessions : c.deref.result.now ≡ sessions_of es c.args.until = c.deref.ensures.value ∙ c.in_ok-sessions.ensures.value in
     c.from_vec.ensures ∙ c.in_ok-day_user_rows.ensures.rows ∙ (λ i. session_rows (offset i) (sessions i))
 
 pub returns-clause-days : goal.returns-clause-days
