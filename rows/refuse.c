@@ -1,6 +1,6 @@
 /* Loaded before the C library, makes one call of a kind fail: the Nth, by the environment.
    REFUSE=KIND:N, where KIND is memory (malloc and realloc), read, write, interrupt (the Nth read and
-   the Nth write answer EINTR), short (every read and write moves one byte; N counts for nothing).
+   the Nth write answer EINTR), random (getentropy and getrandom), short (every read and write moves one byte; N counts for nothing).
    Where a call was refused, the file REFUSED is made. Reads and writes of standard error are left alone. */
 #define _GNU_SOURCE
 #include <dlfcn.h>
@@ -11,7 +11,7 @@
 #include <unistd.h>
 
 static const char *kind = "";
-static long at, memory, reads, writes;
+static long at, memory, reads, writes, randoms;
 
 __attribute__((constructor)) static void begin(void) {
     char *given = getenv("REFUSE");
@@ -21,7 +21,7 @@ __attribute__((constructor)) static void begin(void) {
         kind = given;
         at = strtol(colon + 1, NULL, 10);
     }
-    memory = reads = writes = 0;
+    memory = reads = writes = randoms = 0;
 }
 
 static void mark(void) {
@@ -62,6 +62,24 @@ ssize_t read(int fd, void *to, size_t size) {
     if (refused("interrupt", reads))
         return errno = EINTR, -1;
     return real(fd, to, size && !strcmp(kind, "short") ? 1 : size);
+}
+
+int getentropy(void *to, size_t size) {
+    static int (*real)(void *, size_t);
+    if (!real)
+        real = (int (*)(void *, size_t))dlsym(RTLD_NEXT, "getentropy");
+    if (refused("random", ++randoms))
+        return errno = EIO, -1;
+    return real(to, size);
+}
+
+ssize_t getrandom(void *to, size_t size, unsigned flags) {
+    static ssize_t (*real)(void *, size_t, unsigned);
+    if (!real)
+        real = (ssize_t (*)(void *, size_t, unsigned))dlsym(RTLD_NEXT, "getrandom");
+    if (refused("random", ++randoms))
+        return errno = EIO, -1;
+    return real(to, size, flags);
 }
 
 ssize_t write(int fd, const void *from, size_t size) {

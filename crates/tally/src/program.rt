@@ -4,8 +4,10 @@ ghost use Rattle.tally_cli.specs.Jobs.{IsRunnable};
 use crate::faults::{FAULT, REFUSED, fault, file_fault, run_fault, usage};
 use crate::opened::{OpenFault, open_all};
 use crate::words::{WordsFault, words};
+use std::hash::RandomState;
 use std::io;
 use std::process::ExitCode;
+use std::random::RandomSource;
 use std::rt::{Env, Files};
 use std::sync::Wait;
 use std::thread::Threads;
@@ -16,7 +18,7 @@ use tally_print::Writing;
 /// Runs the program, and says how it went.
 pub(crate) fn tally<R>(rt: &R) -> ExitCode
 where
-    R: Env + Files + Input + Print + Eprint + AllocGlobal + Threads + Wait + Sync,
+    R: Env + Files + Input + Print + Eprint + AllocGlobal + RandomSource + Threads + Wait + Sync,
     R::File: Drop + Send,
     R::Reader: Send,
 {
@@ -51,11 +53,15 @@ fn no_prefix<R: Eprint + AllocGlobal>(rt: &R, words: &[String], index: usize) ->
 /// Opens all files, and then reads them and prints the report.
 fn report<R>(rt: &R, job: &Job, files: &[FileArg]) -> ExitCode
 where
-    R: Files + Input + Print + Eprint + AllocGlobal + Threads + Wait + Sync,
+    R: Files + Input + Print + Eprint + AllocGlobal + RandomSource + Threads + Wait + Sync,
     R::File: Drop + Send,
     R::Reader: Send,
     requires { IsRunnable job.now }
 {
+    let keys = match RandomState::new(rt) {
+        Ok(keys) => keys,
+        Err(_) => return fault(rt, FAULT, "no random bytes"),
+    };
     let sources = match open_all(rt, rt.alloc(), files) {
         Ok(sources) => sources,
         Err(OpenFault::Memory) => return fault(rt, FAULT, "out of memory"),
@@ -64,7 +70,7 @@ where
         }
     };
     let mut out = Writing::new(io::writer(rt));
-    match run(rt, rt.alloc(), job, sources, &OpenGate, &mut out) {
+    match run(rt, rt.alloc(), keys, job, sources, &OpenGate, &mut out) {
         Ok(()) => ExitCode::SUCCESS,
         Err(found) => run_fault(rt, files, found),
     }

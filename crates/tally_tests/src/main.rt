@@ -12,16 +12,19 @@ mod sessions;
 mod stopped;
 
 use crate::stopped::Stopped;
+use std::hash::RandomState;
 use std::process::ExitCode;
+use std::random::RandomSource;
 use std::sync::Wait;
 
 /// Runs the scripts, each of which prints what its calls answer.
-fn scripts<R: Print + AllocGlobal + Wait>(rt: &R) -> Result<(), Stopped> {
-    sessions::script(rt)?;
-    book::script(rt)?;
-    reports::script(rt)?;
-    desk::script(rt)?;
-    feeds::script(rt)
+fn scripts<R: Print + AllocGlobal + RandomSource + Wait>(rt: &R) -> Result<(), Stopped> {
+    let keys = RandomState::new(rt).map_err(|_| Stopped::Refused("random bytes"))?;
+    sessions::script(rt, keys)?;
+    book::script(rt, keys)?;
+    reports::script(rt, keys)?;
+    desk::script(rt, keys)?;
+    feeds::script(rt, keys)
 }
 
 fn main(rt: HostRuntime) -> ExitCode {

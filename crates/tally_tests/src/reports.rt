@@ -2,6 +2,7 @@
 
 use crate::book::{hour, makes, new_book, post, report};
 use crate::stopped::Stopped;
+use std::hash::RandomState;
 use tally_book::Question;
 use tally_usage::Order;
 
@@ -44,8 +45,8 @@ const UIDS: Question = Question::Users {
 };
 
 /// Prints each report.
-pub(crate) fn script<R: Print + AllocGlobal>(rt: &R) -> Result<(), Stopped> {
-    let mut book = new_book(rt.alloc())?;
+pub(crate) fn script<R: Print + AllocGlobal>(rt: &R, keys: RandomState) -> Result<(), Stopped> {
+    let mut book = new_book(rt.alloc(), keys)?;
     let hour = hour(rt.alloc())?;
     let makes = makes(rt.alloc())?;
     post(&mut book, 0, &hour)?;

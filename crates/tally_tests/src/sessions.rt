@@ -5,6 +5,7 @@ ghost use Rattle.tally_records.specs.Records.{IsLogins};
 use crate::bytes::{login_record, logins, put};
 use crate::stopped::Stopped;
 use std::alloc::Global;
+use std::hash::RandomState;
 use tally_records::{Batch, BatchFault, List, Memory, Name};
 use tally_sessions::{DayTime, DayUserTime, Sessions, Stay, UserTime};
 
@@ -39,11 +40,11 @@ fn seen_of(sessions: &Sessions) -> Seen
     }
 }
 
-fn new_sessions(alloc: Global) -> Result<Sessions, Memory>
+fn new_sessions(alloc: Global, keys: RandomState) -> Result<Sessions, Memory>
     ensures { IfOk result (λ s. s.hosts ≡ 2) }
 {
-    match Sessions::new(alloc, 2) {
-        Err(_) => Sessions::new(alloc, 2),
+    match Sessions::new(alloc, keys, 2) {
+        Err(_) => Sessions::new(alloc, keys, 2),
         made => made,
     }
 }
@@ -154,8 +155,8 @@ fn print_both<R: Print>(rt: &R, times: &[DayUserTime]) -> Result<(), Stopped> {
 }
 
 /// Prints what the sessions answer once both batches are added.
-pub(crate) fn script<R: Print + AllocGlobal>(rt: &R) -> Result<(), Stopped> {
-    let mut sessions = new_sessions(rt.alloc())?;
+pub(crate) fn script<R: Print + AllocGlobal>(rt: &R, keys: RandomState) -> Result<(), Stopped> {
+    let mut sessions = new_sessions(rt.alloc(), keys)?;
     let hour = hour(rt.alloc())?;
     let three = three(rt.alloc())?;
     add(&mut sessions, 0, &hour)?;
