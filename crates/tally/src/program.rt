@@ -2,9 +2,10 @@
 ghost use Rattle.tally_cli.specs.Jobs.{IsRunnable};
 
 use crate::faults::{FAULT, REFUSED, fault, file_fault, run_fault, usage};
-use crate::opened::{OpenFault, open_all};
+use crate::opened::{OpenFault, ROOT, hold_closed_streams, open_all};
 use crate::words::{WordsFault, words};
 use std::io;
+use std::os::fd::AsRawFd;
 use std::process::ExitCode;
 use std::rt::{Env, Files};
 use std::sync::Wait;
@@ -17,7 +18,7 @@ use tally_print::Writing;
 pub(crate) fn tally<R>(rt: &R) -> ExitCode
 where
     R: Env + Files + Input + Print + Eprint + AllocGlobal + Threads + Wait + Sync,
-    R::File: Drop + Send,
+    R::File: AsRawFd + Drop + Send,
     R::Reader: Send,
 {
     let words = match words(rt) {
@@ -26,7 +27,7 @@ where
         Err(WordsFault::NoText) => return fault(rt, REFUSED, "a word is no UTF-8 text"),
     };
     match job_of(rt.alloc(), words.as_slice()) {
-        Ok(Line::Run { job, files }) => report(rt, &job, files.as_slice()),
+        Ok(Line::Run { job, files }) => hold_and_report(rt, &job, files.as_slice()),
         Ok(Line::Help { text }) => help(rt, text.as_str()),
         Err(LineFault::Memory) => fault(rt, FAULT, "out of memory"),
         Err(LineFault::Usage { text }) => usage(rt, text.as_str()),
@@ -67,5 +68,19 @@ where
     match run(rt, rt.alloc(), job, sources, &OpenGate, &mut out) {
         Ok(()) => ExitCode::SUCCESS,
         Err(found) => run_fault(rt, files, found),
+    }
+}
+
+/// Reports with the closed standard streams held, so that no file takes the place of one.
+fn hold_and_report<R>(rt: &R, job: &Job, files: &[FileArg]) -> ExitCode
+where
+    R: Files + Input + Print + Eprint + AllocGlobal + Threads + Wait + Sync,
+    R::File: AsRawFd + Drop + Send,
+    R::Reader: Send,
+    requires { IsRunnable job.now }
+{
+    match hold_closed_streams(rt) {
+        Ok(_held) => report(rt, job, files),
+        Err(_) => file_fault(rt, FAULT, ROOT, "cannot be opened"),
     }
 }
