@@ -6,6 +6,7 @@
    read-signal, write-signal   the Nth read or write answers EINTR, and so do those after it, TIMES in all
    write-less, write-one       the Nth write takes one byte less than it is given, or one byte
    short        every read and write moves one byte
+   read-last, write-last       so it is, and the Nth read or write fails by EIO
    Where a call was refused, the file REFUSED is made. Reads and writes of standard error are left alone.
    A program may ask for all growths to be refused, from a growth of FROM bytes to one of TO bytes, which
    are refused themselves; the file ASKED is made then. */
@@ -88,7 +89,7 @@ ssize_t read(int fd, void *to, size_t size) {
     if (!real)
         real = (ssize_t (*)(int, void *, size_t))dlsym(RTLD_NEXT, "read");
     ++reads;
-    if (refused("read", reads))
+    if (refused("read", reads) || refused("read-last", reads))
         return errno = EIO, -1;
     if (refused("read-again", reads))
         return errno = EAGAIN, -1;
@@ -98,7 +99,7 @@ ssize_t read(int fd, void *to, size_t size) {
         return errno = EINTR, -1;
     if (refused("read-end", reads))
         return 0;
-    return real(fd, to, size && is("short") ? 1 : size);
+    return real(fd, to, size && (is("short") || is("read-last")) ? 1 : size);
 }
 
 ssize_t write(int fd, const void *from, size_t size) {
@@ -108,13 +109,13 @@ ssize_t write(int fd, const void *from, size_t size) {
     if (fd == 2)
         return real(fd, from, size);
     ++writes;
-    if (refused("write", writes))
+    if (refused("write", writes) || refused("write-last", writes))
         return errno = EIO, -1;
     if (refused("write-signal", writes))
         return errno = EINTR, -1;
     if (size > 1 && refused("write-less", writes))
         return real(fd, from, size - 1);
-    if (size > 1 && (is("short") || refused("write-one", writes)))
+    if (size > 1 && (is("short") || is("write-last") || refused("write-one", writes)))
         return real(fd, from, 1);
     return real(fd, from, size);
 }
