@@ -1,27 +1,42 @@
 //! Scripts over the calls of the crates that memory can be refused to. A refused call leaves things as
 //! they were and is begun again once, so that what is printed is the same with and without a refusal.
+//! Calls that take no memory are made while each growth is refused.
 #![tactic(auto)]
 
 mod book;
 mod bytes;
 mod desk;
 mod feeds;
+mod held;
 mod printing;
+mod quiet;
 mod reports;
+mod runs;
+mod session_answers;
 mod sessions;
 mod stopped;
+mod summary;
+mod watched;
+mod window;
+mod words;
 
 use crate::stopped::Stopped;
 use std::process::ExitCode;
 use std::sync::Wait;
+use std::thread::Threads;
 
 /// Runs the scripts, each of which prints what its calls answer.
-fn scripts<R: Print + AllocGlobal + Wait>(rt: &R) -> Result<(), Stopped> {
+fn scripts<R: Print + AllocGlobal + Threads + Wait + Sync>(rt: &R) -> Result<(), Stopped> {
     sessions::script(rt)?;
+    summary::script(rt)?;
     book::script(rt)?;
     reports::script(rt)?;
+    reports::nights(rt)?;
     desk::script(rt)?;
-    feeds::script(rt)
+    feeds::script(rt)?;
+    quiet::script(rt)?;
+    runs::script(rt)?;
+    words::script(rt)
 }
 
 fn main(rt: HostRuntime) -> ExitCode {
