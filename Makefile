@@ -1,5 +1,5 @@
 # The worked rows that `make test` runs are those whose needs are all listed here.
-ROWS = ac,ac -d,ac -p,all,askers,clock,feeders,files,full-device,last,last -n,offset,sa,sa -a,sa -m,sa -n,sa -r,before-version3,before-until
+ROWS = ac,ac -d,ac -p,all,askers,clock,feeders,files,full-device,last,last -n,offset,sa,sa -a,sa -m,sa -n,sa -r,until,version3
 PREFIX ?= /usr/local
 PROGRAM = crates/tally/out/tally
 

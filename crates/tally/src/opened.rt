@@ -112,7 +112,7 @@ pub(crate) fn open_all<'a, R: Files + Input>(
 where
     R::File: Drop,
     ensures count { IfOk result (λ sources. length sources.items ≡ length files.now) }
-    ensures readable { IfOk result (λ sources. All (IsReadable (λ failures. failures)) sources.items) }
+    ensures readable { IfOk result (λ sources. All (IsReadable (λ input. input.failures)) sources.items) }
 {
     let mut sources = Vec::new(alloc);
     for at in 0..files.len() {

@@ -1,5 +1,5 @@
 -- An answer depends on each host's own records alone.
-use Rattle.std.proofs.Common.{Bool, false, refl, ap, filter, ℤ, ◌≡◌, ℕ, List, [], map, reverse, sym, true}
+use Rattle.std.proofs.Common.{Bool, false, refl, ap, filter, Option, ℤ, ◌≡◌, ℕ, List, [], map, reverse, sym, true}
 use Rattle.std.specs.Prelude.{nat_lt, sum, slice_get, option_map}
 use Rattle.std.specs.List.{flat_map}
 use Rattle.std.specs.List.Sorted.{IsPermutation}
@@ -24,33 +24,34 @@ use Rattle.tally_book.specs.Deeds.{SameOfEachHost}
 use Rattle.tally_book.proofs.Permuted.{same_items}
 
 -- the same sessions
-same_sessions : (logins others : List Entry) → ((host : ℕ) → of_host host logins ≡ of_host host others) → sessions_of logins ≡ sessions_of others
-same_sessions logins others same = λ i. flat_map (λ host. sessions_among (stays_from host [] (same host i))) every_host
+same_sessions : (logins others : List Entry) → ((host : ℕ) → of_host host logins ≡ of_host host others) → (until : Option ℤ) → sessions_of logins until ≡ sessions_of others until
+same_sessions logins others same until = λ i. flat_map (λ host. sessions_among (stays_from host [] (same host i) until)) every_host
 
-same_connect : (logins others : List Entry) → ((host : ℕ) → of_host host logins ≡ of_host host others) → (user : List ℕ) → connect_of user logins ≡ connect_of user others
-same_connect logins others same user = λ i. sum (map (λ host. user_seconds user (stays_from host [] (same host i))) every_host)
+same_connect : (logins others : List Entry) → ((host : ℕ) → of_host host logins ≡ of_host host others) → (until : Option ℤ) (user : List ℕ) → connect_of user logins until ≡ connect_of user others until
+same_connect logins others same until user = λ i. sum (map (λ host. user_seconds user (stays_from host [] (same host i) until)) every_host)
 
-same_users : (logins others : List Entry) → ((host : ℕ) → of_host host logins ≡ of_host host others) → user_times logins ≡ user_times others
-same_users logins others same =
-    λ i. in_order user_time_cmp (filter (λ row. nat_lt 0 row.seconds) (map (λ s. record { user = s.user; seconds = same_connect logins others same s.user i }) (same_sessions logins others same i)))
+same_users : (logins others : List Entry) → ((host : ℕ) → of_host host logins ≡ of_host host others) → (until : Option ℤ) → user_times logins until ≡ user_times others until
+same_users logins others same until =
+    λ i. in_order user_time_cmp (filter (λ row. nat_lt 0 row.seconds) (map (λ s. record { user = s.user; seconds = same_connect logins others same until s.user i }) (same_sessions logins others same until i)))
 
-same_rows : (logins others : List Entry) → ((host : ℕ) → of_host host logins ≡ of_host host others) → (by_day by_user : Bool) (offset : ℤ) → connect_rows by_day by_user offset logins ≡ connect_rows by_day by_user offset others
-same_rows logins others same false false offset = refl
-same_rows logins others same false true offset = ap (map row_of_user) (same_users logins others same)
-same_rows logins others same true false offset =
-    let sessions = same_sessions logins others same in
+same_rows : (logins others : List Entry) → ((host : ℕ) → of_host host logins ≡ of_host host others) → (until : Option ℤ) (by_day by_user : Bool) (offset : ℤ)
+    → connect_rows by_day by_user offset logins until ≡ connect_rows by_day by_user offset others until
+same_rows logins others same until false false offset = refl
+same_rows logins others same until false true offset = ap (map row_of_user) (same_users logins others same until)
+same_rows logins others same until true false offset =
+    let sessions = same_sessions logins others same until in
     λ i. map row_of_day (in_order day_time_cmp (filter (λ row. nat_lt 0 row.seconds) (map (λ day. record { day = day; seconds = seconds_of_day offset day (sessions i) }) (days_of offset (sessions i)))))
-same_rows logins others same true true offset =
-    let sessions = same_sessions logins others same in
+same_rows logins others same until true true offset =
+    let sessions = same_sessions logins others same until in
     λ i. map row_of_day_user (in_order day_user_time_cmp (filter (λ row. nat_lt 0 row.seconds) (map (λ k. record { day = k.day; user = k.user; seconds = seconds_of_day_user offset k.day k.user (sessions i) }) (day_users_of offset (sessions i)))))
 
 pub same_answer : RecordOrderIsFree → (logins others : List Entry) (procs rest : List ProcEntry) → SameOfEachHost logins others procs rest → (question : Question) → answer_of question logins procs ≡ answer_of question others rest
 unfolding answer_of
-same_answer free logins others procs rest same (questions.Last host limit) =
-    λ i. answers.Last (limited limit (reverse (stays_from host [] (same.same_logins host i)))) (option_map (λ r. r.time) (slice_get (same.same_logins host i) 0))
-same_answer free logins others procs rest same (questions.Connect by_day by_user offset) =
-    let total : total_of logins ≡ total_of others = λ i. sum (map (λ host. session_seconds (stays_from host [] (same.same_logins host i))) every_host) in
-    λ i. answers.Connect (same_rows logins others same.same_logins by_day by_user offset i) (total i)
+same_answer free logins others procs rest same (questions.Last host limit until) =
+    λ i. answers.Last (limited limit (reverse (stays_from host [] (same.same_logins host i) until))) (option_map (λ r. r.time) (slice_get (same.same_logins host i) 0))
+same_answer free logins others procs rest same (questions.Connect by_day by_user offset until) =
+    let total : total_of logins until ≡ total_of others until = λ i. sum (map (λ host. session_seconds (stays_from host [] (same.same_logins host i) until)) every_host) in
+    λ i. answers.Connect (same_rows logins others same.same_logins until by_day by_user offset i) (total i)
 same_answer free logins others procs rest same (questions.Commands order reversed all) =
     let mixed : IsPermutation (records_of procs) (records_of rest) = same_items (λ (e : ProcEntry). e.host) (λ (e : ProcEntry). e.item) procs rest same.same_procs in
     let law = free order all reversed (records_of procs) (records_of rest) mixed in

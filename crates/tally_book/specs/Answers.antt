@@ -20,22 +20,22 @@ use Rattle.tally_usage.specs.User.{user_rows}
 
 -- what a question needs: an offset within its range
 abbrev pub IsAskable : Question → Type 0
-IsAskable (questions.Last host limit) = Unit {0}
-IsAskable (questions.Connect by_day by_user offset) = IsOffset offset
+IsAskable (questions.Last host limit until) = Unit {0}
+IsAskable (questions.Connect by_day by_user offset until) = IsOffset offset
 IsAskable (questions.Commands order reverse all) = Unit {0}
 IsAskable (questions.Users order reverse) = Unit {0}
 
 -- the host that a question names is one of so many
 abbrev pub NamesHostBelow : ℕ → Question → Type 0
-NamesHostBelow hosts (questions.Last host limit) = host < hosts
-NamesHostBelow hosts (questions.Connect by_day by_user offset) = Unit {0}
+NamesHostBelow hosts (questions.Last host limit until) = host < hosts
+NamesHostBelow hosts (questions.Connect by_day by_user offset until) = Unit {0}
 NamesHostBelow hosts (questions.Commands order reverse all) = Unit {0}
 NamesHostBelow hosts (questions.Users order reverse) = Unit {0}
 
 -- the question is for the stays of this host
 abbrev pub NamesHost : Question → ℕ → Type 0
-NamesHost (questions.Last host limit) asked = host ≡ asked
-NamesHost (questions.Connect by_day by_user offset) asked = ⊥
+NamesHost (questions.Last host limit until) asked = host ≡ asked
+NamesHost (questions.Connect by_day by_user offset until) asked = ⊥
 NamesHost (questions.Commands order reverse all) asked = ⊥
 NamesHost (questions.Users order reverse) asked = ⊥
 
@@ -52,11 +52,11 @@ abbrev pub row_of_day_user : DayUserTime → ConnectRow
 row_of_day_user time = record { day = Some time.day; user = Some time.user; seconds = time.seconds }
 
 -- the rows of connect times: by day, by user, by both or none
-abbrev pub connect_rows : Bool → Bool → ℤ → List Entry → List ConnectRow
-connect_rows false false offset logins = []
-connect_rows false true offset logins = map row_of_user (user_times logins)
-connect_rows true false offset logins = map row_of_day (day_times offset logins)
-connect_rows true true offset logins = map row_of_day_user (day_user_times offset logins)
+abbrev pub connect_rows : Bool → Bool → ℤ → List Entry → Option ℤ → List ConnectRow
+connect_rows false false offset logins until = []
+connect_rows false true offset logins until = map row_of_user (user_times logins until)
+connect_rows true false offset logins until = map row_of_day (day_times offset logins until)
+connect_rows true true offset logins until = map row_of_day_user (day_user_times offset logins until)
 
 -- a row's day is one that a time can have
 abbrev pub HasDay : ConnectRow → Type 0
@@ -71,10 +71,10 @@ HasDays (answers.Users rows total) = Unit {0}
 
 -- the answer over the stored entries
 unfoldable pub answer_of : Question → List Entry → List ProcEntry → Answer
-answer_of (questions.Last host limit) logins procs =
-    answers.Last (latest_stays host limit logins) (first_time host logins)
-answer_of (questions.Connect by_day by_user offset) logins procs =
-    answers.Connect (connect_rows by_day by_user offset logins) (total_of logins)
+answer_of (questions.Last host limit until) logins procs =
+    answers.Last (latest_stays host limit logins until) (first_time host logins)
+answer_of (questions.Connect by_day by_user offset until) logins procs =
+    answers.Connect (connect_rows by_day by_user offset logins until) (total_of logins until)
 answer_of (questions.Commands order reverse all) logins procs =
     answers.Commands (command_rows order all reverse (records_of procs)) (usage_of (records_of procs))
 answer_of (questions.Users order reverse) logins procs =

@@ -28,17 +28,18 @@ pub(crate) fn answer(
 {
     match *question {
         Question::Last { host, .. } if host >= hosts => Err(AskFault::NoSuchHost(host)),
-        Question::Last { host, limit } => Ok(Answer::Last {
-            rows: sessions.stays(alloc, host, limit)?,
+        Question::Last { host, limit, until } => Ok(Answer::Last {
+            rows: sessions.stays(alloc, host, limit, until)?,
             first: sessions.first(host),
         }),
         Question::Connect {
             by_day,
             by_user,
             offset,
+            until,
         } => Ok(Answer::Connect {
-            rows: connect_rows(alloc, sessions, by_day, by_user, offset)?,
-            total: sessions.total(),
+            rows: connect_rows(alloc, sessions, by_day, by_user, offset, until)?,
+            total: sessions.total(until),
         }),
         Question::Commands {
             order,

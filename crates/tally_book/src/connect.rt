@@ -54,23 +54,24 @@ pub(crate) fn connect_rows(
     by_day: bool,
     by_user: bool,
     offset: i32,
+    until: Option<i32>,
 ) -> Result<List<ConnectRow>, Memory>
     requires { IsOffset offset }
-    ensures value { IfOk result (λ rows. rows ≡ connect_rows by_day by_user offset sessions.now.entries) }
+    ensures value { IfOk result (λ rows. rows ≡ connect_rows by_day by_user offset sessions.now.entries until) }
     ensures days { IfOk result (All HasDay) }
 {
     match (by_day, by_user) {
         (false, false) => Ok(List::new(alloc)),
         (false, true) => {
-            let times = sessions.connect_by_user(alloc)?;
+            let times = sessions.connect_by_user(alloc, until)?;
             Ok(List::from_vec(user_rows(alloc, times.as_slice())?))
         }
         (true, false) => {
-            let times = sessions.connect_by_day(alloc, offset)?;
+            let times = sessions.connect_by_day(alloc, offset, until)?;
             Ok(List::from_vec(day_rows(alloc, times.as_slice())?))
         }
         (true, true) => {
-            let times = sessions.connect_by_day_user(alloc, offset)?;
+            let times = sessions.connect_by_day_user(alloc, offset, until)?;
             Ok(List::from_vec(day_user_rows(alloc, times.as_slice())?))
         }
     }

@@ -43,6 +43,7 @@ const TOTAL: Question = Question::Connect {
     by_day: false,
     by_user: false,
     offset: 0,
+    until: None,
 };
 
 fn counts(logins: u64, procs: u64) -> Counts {

@@ -22,52 +22,52 @@ kept_first : {X Y : Type 0} (P : Y → Type 0) (f : X → Y) (x : X) (rest : Lis
 kept_first P f x rest true p h = All-cons P (f x) (map f rest) p h
 kept_first P f x rest false p h = h
 
-stays_from : (P : Question → Type 0) (wanted : Option Kind) (limit : Option ℕ) (kinds : List Kind) (from : ℕ) → ((n : ℕ) → n < from + length kinds → P (questions.Last n limit))
-    → All P (map (λ (numbered : ℕ × Kind). questions.Last numbered.0 limit) (filter (λ numbered. is_wanted wanted numbered.1) (enumerate_from from kinds)))
-stays_from P wanted limit [] from h = All-nil P
-stays_from P wanted limit (k ∷ ks) from h =
-    kept_first P (λ (numbered : ℕ × Kind). questions.Last numbered.0 limit) (from, k) (filter (λ numbered. is_wanted wanted numbered.1) (enumerate_from (from + 1) ks)) (is_wanted wanted k)
-    (h from (omega arith)) (stays_from P wanted limit ks (from + 1) (λ n l. h n (omega (arith, l))))
+stays_from : (P : Question → Type 0) (wanted : Option Kind) (limit : Option ℕ) (until : Option ℤ) (kinds : List Kind) (from : ℕ) → ((n : ℕ) → n < from + length kinds → P (questions.Last n limit until))
+    → All P (map (λ (numbered : ℕ × Kind). questions.Last numbered.0 limit until) (filter (λ numbered. is_wanted wanted numbered.1) (enumerate_from from kinds)))
+stays_from P wanted limit until [] from h = All-nil P
+stays_from P wanted limit until (k ∷ ks) from h =
+    kept_first P (λ (numbered : ℕ × Kind). questions.Last numbered.0 limit until) (from, k) (filter (λ numbered. is_wanted wanted numbered.1) (enumerate_from (from + 1) ks)) (is_wanted wanted k)
+    (h from (omega arith)) (stays_from P wanted limit until ks (from + 1) (λ n l. h n (omega (arith, l))))
 
-stays_all : (P : Question → Type 0) (wanted : Option Kind) (limit : Option ℕ) (kinds : List Kind) → ((n : ℕ) → n < length kinds → P (questions.Last n limit)) → All P (stays_asked wanted limit kinds)
-stays_all P wanted limit kinds h = stays_from P wanted limit kinds 0 (λ n l. h n (omega (arith, l)))
+stays_all : (P : Question → Type 0) (wanted : Option Kind) (limit : Option ℕ) (until : Option ℤ) (kinds : List Kind) → ((n : ℕ) → n < length kinds → P (questions.Last n limit until)) → All P (stays_asked wanted limit kinds until)
+stays_all P wanted limit until kinds h = stays_from P wanted limit until kinds 0 (λ n l. h n (omega (arith, l)))
 
 -- what holds of the stays of each file and of the questions without a host holds of all
-pub all_questions : (P : Question → Type 0) (r : Report) (offset : ℤ) (kinds : List Kind) → ((limit : Option ℕ) (n : ℕ) → n < length kinds → P (questions.Last n limit))
-    → ((by_day by_user : Bool) → P (questions.Connect by_day by_user offset)) → ((by : _) (reverse all : Bool) → P (questions.Commands by reverse all)) → ((by : _) (reverse : Bool) → P (questions.Users by reverse))
-    → All P (questions_of r offset kinds)
-all_questions P (report.Last limit) offset kinds last connect commands users = stays_all P None limit kinds (last limit)
-all_questions P (report.Connect by_day by_user) offset kinds last connect commands users = All-cons P _ [] (connect by_day by_user) (All-nil P)
-all_questions P (report.Commands by reverse all) offset kinds last connect commands users = All-cons P _ [] (commands by reverse all) (All-nil P)
-all_questions P (report.Users by reverse) offset kinds last connect commands users = All-cons P _ [] (users by reverse) (All-nil P)
-all_questions P report.All offset kinds last connect commands users =
-    All-append P (stays_asked (Some Login) None kinds) (questions.Connect false false offset ∷ questions.Commands order.Cpu false false ∷ [])
-    (stays_all P (Some Login) None kinds (last None))
-    (All-cons P (questions.Connect false false offset) (questions.Commands order.Cpu false false ∷ []) (connect false false) (All-cons P (questions.Commands order.Cpu false false) [] (commands order.Cpu false false) (All-nil P)))
+pub all_questions : (P : Question → Type 0) (r : Report) (offset : ℤ) (until : Option ℤ) (kinds : List Kind) → ((limit : Option ℕ) (n : ℕ) → n < length kinds → P (questions.Last n limit until))
+    → ((by_day by_user : Bool) → P (questions.Connect by_day by_user offset until)) → ((by : _) (reverse all : Bool) → P (questions.Commands by reverse all)) → ((by : _) (reverse : Bool) → P (questions.Users by reverse))
+    → All P (questions_of r offset kinds until)
+all_questions P (report.Last limit) offset until kinds last connect commands users = stays_all P None limit until kinds (last limit)
+all_questions P (report.Connect by_day by_user) offset until kinds last connect commands users = All-cons P _ [] (connect by_day by_user) (All-nil P)
+all_questions P (report.Commands by reverse all) offset until kinds last connect commands users = All-cons P _ [] (commands by reverse all) (All-nil P)
+all_questions P (report.Users by reverse) offset until kinds last connect commands users = All-cons P _ [] (users by reverse) (All-nil P)
+all_questions P report.All offset until kinds last connect commands users =
+    All-append P (stays_asked (Some Login) None kinds until) (questions.Connect false false offset until ∷ questions.Commands order.Cpu false false ∷ [])
+    (stays_all P (Some Login) None until kinds (last None))
+    (All-cons P (questions.Connect false false offset until) (questions.Commands order.Cpu false false ∷ []) (connect false false) (All-cons P (questions.Commands order.Cpu false false) [] (commands order.Cpu false false) (All-nil P)))
 
 kept_count : {X Y : Type 0} (f : X → Y) (x : X) (rest : List X) (b : Bool) (n : ℕ) → length (map f rest) ≤ n → length (map f (cond b (x ∷ rest) rest)) ≤ n + 1
 kept_count f x rest true n h = omega (arith, h)
 kept_count f x rest false n h = omega (arith, h)
 
-stays_count : (wanted : Option Kind) (limit : Option ℕ) (kinds : List Kind) (from : ℕ)
-    → length (map (λ (numbered : ℕ × Kind). questions.Last numbered.0 limit) (filter (λ numbered. is_wanted wanted numbered.1) (enumerate_from from kinds))) ≤ length kinds
-stays_count wanted limit [] from = omega arith
-stays_count wanted limit (k ∷ ks) from =
-    omega (arith, kept_count (λ (numbered : ℕ × Kind). questions.Last numbered.0 limit) (from, k) (filter (λ numbered. is_wanted wanted numbered.1) (enumerate_from (from + 1) ks)) (is_wanted wanted k) (length ks) (stays_count wanted limit ks (from + 1)))
+stays_count : (wanted : Option Kind) (limit : Option ℕ) (until : Option ℤ) (kinds : List Kind) (from : ℕ)
+    → length (map (λ (numbered : ℕ × Kind). questions.Last numbered.0 limit until) (filter (λ numbered. is_wanted wanted numbered.1) (enumerate_from from kinds))) ≤ length kinds
+stays_count wanted limit until [] from = omega arith
+stays_count wanted limit until (k ∷ ks) from =
+    omega (arith, kept_count (λ (numbered : ℕ × Kind). questions.Last numbered.0 limit until) (from, k) (filter (λ numbered. is_wanted wanted numbered.1) (enumerate_from (from + 1) ks)) (is_wanted wanted k) (length ks) (stays_count wanted limit until ks (from + 1)))
 
 -- there are few questions
-pub question_count : (r : Report) (offset : ℤ) (kinds : List Kind) → length (questions_of r offset kinds) ≤ length kinds + 2
-question_count (report.Last limit) offset kinds = omega (arith, stays_count None limit kinds 0)
-question_count (report.Connect by_day by_user) offset kinds = omega arith
-question_count (report.Commands by reverse all) offset kinds = omega arith
-question_count (report.Users by reverse) offset kinds = omega arith
-question_count report.All offset kinds =
-    omega (arith, stays_count (Some Login) None kinds 0, length-append (stays_asked (Some Login) None kinds) (questions.Connect false false offset ∷ questions.Commands order.Cpu false false ∷ []))
+pub question_count : (r : Report) (offset : ℤ) (until : Option ℤ) (kinds : List Kind) → length (questions_of r offset kinds until) ≤ length kinds + 2
+question_count (report.Last limit) offset until kinds = omega (arith, stays_count None limit until kinds 0)
+question_count (report.Connect by_day by_user) offset until kinds = omega arith
+question_count (report.Commands by reverse all) offset until kinds = omega arith
+question_count (report.Users by reverse) offset until kinds = omega arith
+question_count report.All offset until kinds =
+    omega (arith, stays_count (Some Login) None until kinds 0, length-append (stays_asked (Some Login) None kinds until) (questions.Connect false false offset until ∷ questions.Commands order.Cpu false false ∷ []))
 
 -- the text of the answers is that of the report
 pub report_is : (job : Job) (kinds : List Kind) (asked : List Question) (answers : List Answer) (logins : List Entry) (procs : List ProcEntry)
-    → asked ≡ questions_of job.report job.offset kinds → answers ≡ map (λ q. answer_of q logins procs) asked → sections (map (λ a. answer_text a job.offset) answers) ≡ report_text job kinds logins procs
+    → asked ≡ questions_of job.report job.offset kinds job.until → answers ≡ map (λ q. answer_of q logins procs) asked → sections (map (λ a. answer_text a job.offset job.until) answers) ≡ report_text job kinds logins procs
 report_is job kinds asked answers logins procs e f =
-    ap (λ l. sections (map (λ a. answer_text a job.offset) l)) f
-    ∙ ap sections (map-map (λ a. answer_text a job.offset) (λ q. answer_of q logins procs) asked)
-    ∙ ap (λ l. sections (map (section job.offset logins procs) l)) e
+    ap (λ l. sections (map (λ a. answer_text a job.offset job.until) l)) f
+    ∙ ap sections (map-map (λ a. answer_text a job.offset job.until) (λ q. answer_of q logins procs) asked)
+    ∙ ap (λ l. sections (map (section job.offset job.until logins procs) l)) e

@@ -1,5 +1,5 @@
 -- One more task is dealt.
-use Rattle.std.proofs.Common.{◌≡◌, ◌≢◌, ℕ, zero, suc, ◌+◌, ◌<◌, ◌≤◌, List, [], ◌∷◌, ◌++◌, length, map, set, get_or, drop, sym, refl, ap, ◌∙◌, subst, arith, length-append, ⊎_elim}
+use Rattle.std.proofs.Common.{◌≡◌, ◌≢◌, ℕ, zero, suc, ◌+◌, ◌<◌, ◌≤◌, List, [], ◌∷◌, ◌++◌, length, map, set, get_or, drop, sym, refl, ap, ◌∙◌, subst, arith, length-append, ⊎_elim, Option, ℤ}
 use Rattle.std.proofs.lemmas.Bool.{cases_eq, cases_lt}
 use Rattle.std.proofs.lemmas.List.{drop-drop, length-set, get_or-set_same, get_or-set_other, get_or_append_left, get_or_at, map-set}
 use Rattle.std.proofs.lemmas.List.Elements.{All-map, All-weaker, All-push, All-head, All-tail}
@@ -70,11 +70,11 @@ pub all_empty : {V A : Type 0} (P : List A → Type 0) (f : V → List A) (vs : 
 all_empty P f vs p h = All-map P f vs (All-weaker (λ v. f v ≡ []) (λ v. P (f v)) (λ v e. subst P (sym e) p) vs h)
 
 -- the first source that is left can be read
-pub countable_at : {I : Type 0} (failures : I → ℕ) (sources : List (Source I)) (n : ℕ) → All (IsReadable failures) sources → IsCountable failures (work_of (slice_get sources n))
-countable_at failures [] zero h = tt
-countable_at failures [] (suc n) h = tt
-countable_at failures (s ∷ ss) zero h = All-head (IsReadable failures) s ss h
-countable_at failures (s ∷ ss) (suc n) h = countable_at failures ss n (All-tail (IsReadable failures) s ss h)
+pub countable_at : {I : Type 0} (failures : I → ℕ) (until : Option ℤ) (sources : List (Source I)) (n : ℕ) → All (IsReadable failures) sources → IsCountable failures (work_of until (slice_get sources n))
+countable_at failures until [] zero h = tt
+countable_at failures until [] (suc n) h = tt
+countable_at failures until (s ∷ ss) zero h = All-head (IsReadable failures) s ss h
+countable_at failures until (s ∷ ss) (suc n) h = countable_at failures until ss n (All-tail (IsReadable failures) s ss h)
 
 -- no task of these is of this number or a greater one
 abbrev pub AreBelow : {I : Type 0} → ℕ → List (Task I) → Type 0

@@ -1,5 +1,5 @@
 -- A run has few calls, so that no call is refused for their number.
-use Rattle.std.proofs.Common.{◌≡◌, ℕ, ◌+◌, ◌*◌, ◌<◌, ◌≤◌, List, [], ◌∷◌, ◌++◌, Some, false, length, pos, sym, refl, ap, ◌∙◌, subst, arith, length-append}
+use Rattle.std.proofs.Common.{◌≡◌, ℕ, ◌+◌, ◌*◌, ◌<◌, ◌≤◌, List, [], ◌∷◌, ◌++◌, Some, false, length, pos, sym, refl, ap, ◌∙◌, subst, arith, length-append, Option, ℤ}
 use Rattle.std.proofs.lemmas.List.{get_or_at, length-map}
 use Rattle.std.proofs.lemmas.List.Elements.{All-cons, All-nil}
 use mathlib.Core.List.{IsPrefix}
@@ -78,34 +78,34 @@ not_full kind seen fault h few e = let full = (subst (IsFeedRefusal kind seen) e
 abbrev NamesFirst : Question → Type 0
 NamesFirst question = (host : ℕ) → NamesHost question host → host ≡ 0
 
-abbrev asked_round : List Question → List Question
-asked_round rest = questions.Last 0 (Some 10) ∷ questions.Connect false false (pos 0) ∷ questions.Commands order.Cpu false false ∷ questions.Users order.Cpu false ∷ rest
+abbrev asked_round : Option ℤ → List Question → List Question
+asked_round until rest = questions.Last 0 (Some 10) until ∷ questions.Connect false false (pos 0) until ∷ questions.Commands order.Cpu false false ∷ questions.Users order.Cpu false ∷ rest
 
-first_round : (rest : List Question) → All NamesFirst rest → All NamesFirst (asked_round rest)
-first_round rest h =
+first_round : (until : Option ℤ) (rest : List Question) → All NamesFirst rest → All NamesFirst (asked_round until rest)
+first_round until rest h =
     let users : List Question = questions.Users order.Cpu false ∷ rest in
     let commands : List Question = questions.Commands order.Cpu false false ∷ users in
-    let connect : List Question = questions.Connect false false (pos 0) ∷ commands in
-    All-cons NamesFirst (questions.Last 0 (Some 10)) connect (λ host is. sym is)
-    (All-cons NamesFirst (questions.Connect false false (pos 0)) commands (λ host never. absurd never)
+    let connect : List Question = questions.Connect false false (pos 0) until ∷ commands in
+    All-cons NamesFirst (questions.Last 0 (Some 10) until) connect (λ host is. sym is)
+    (All-cons NamesFirst (questions.Connect false false (pos 0) until) commands (λ host never. absurd never)
     (All-cons NamesFirst (questions.Commands order.Cpu false false) users (λ host never. absurd never)
     (All-cons NamesFirst (questions.Users order.Cpu false) rest (λ host never. absurd never) h)))
 
-all_first : All NamesFirst asker_questions
-all_first =
-    let one : List Question = asked_round [] in
-    let two : List Question = asked_round one in
-    let three : List Question = asked_round two in
-    first_round three (first_round two (first_round one (first_round [] (All-nil NamesFirst))))
+all_first : (until : Option ℤ) → All NamesFirst (asker_questions until)
+all_first until =
+    let one : List Question = asked_round until [] in
+    let two : List Question = asked_round until one in
+    let three : List Question = asked_round until two in
+    first_round until three (first_round until two (first_round until one (first_round until [] (All-nil NamesFirst))))
 
 refusal_is : (callers calls : ℕ) (question : Question) (fault : AskFault) → NamesFirst question → IsAskRefusal callers calls question fault → calls ≤ 4224 → 0 < callers → fault ≡ ask.Memory
 refusal_is callers calls question ask.Memory first h few some_callers = refl
 refusal_is callers calls question ask.CallsFull first h few some_callers = absurd (omega (arith, h, few))
 refusal_is callers calls question (ask.NoSuchHost host) first h few some_callers = absurd (omega (arith, h.1, first host h.2, some_callers))
 
-pub ask_allowed : (old new : PassState) (fault : AskFault) → AskStops asker_questions old new fault → length new.seen.calls ≤ 4224 → 0 < new.seen.callers → fault ≡ ask.Memory
-ask_allowed old new fault stops few some_callers =
+pub ask_allowed : (until : Option ℤ) (old new : PassState) (fault : AskFault) → AskStops (asker_questions until) old new fault → length new.seen.calls ≤ 4224 → 0 < new.seen.callers → fault ≡ ask.Memory
+ask_allowed until old new fault stops few some_callers =
     let near : length stops.done < length (stops.done ++ stops.next ∷ stops.left) = omega (arith, length-append stops.done (stops.next ∷ stops.left)) in
-    let all : All NamesFirst (stops.done ++ stops.next ∷ stops.left) = subst (All NamesFirst) stops.order all_first in
+    let all : All NamesFirst (stops.done ++ stops.next ∷ stops.left) = subst (All NamesFirst) stops.order (all_first until) in
     let next : NamesFirst stops.next = subst NamesFirst (get_or_at stops.done stops.next stops.left stops.next (length stops.done) refl) (all (length stops.done) stops.next near) in
     refusal_is new.seen.callers (length new.seen.calls) stops.next fault next stops.cause few some_callers

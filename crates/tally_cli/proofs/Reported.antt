@@ -25,7 +25,7 @@ pub report_same : (job : Job) (inputs : List Told) (kinds : List Kind) (logins :
     → ((q : Question) → answer_of q logins procs ≡ answer_of q (login_entries (map records_told inputs)) (proc_entries (map records_told inputs)))
     → report_text job kinds logins procs ≡ output_told job inputs
 report_same job inputs kinds logins procs kinds_is same =
-    (λ j. sections (map (λ q. answer_text (same q j) job.offset) (questions_of job.report job.offset kinds)))
+    (λ j. sections (map (λ q. answer_text (same q j) job.offset job.until) (questions_of job.report job.offset kinds job.until)))
     ∙ ap (λ ks. report_text job ks (login_entries (map records_told inputs)) (proc_entries (map records_told inputs))) kinds_is
 
 -- a text that was written whole

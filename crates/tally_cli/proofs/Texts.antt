@@ -1,5 +1,5 @@
 -- Sections that are asked and printed one by one.
-use Rattle.std.proofs.Common.{◌≡◌, ℕ, zero, suc, ◌+◌, ◌<◌, Bool, true, false, cond, List, [], ◌∷◌, ◌++◌, Option, length, map, filter, take, drop, get_or, refl, sym, ap, ◌∙◌, arith}
+use Rattle.std.proofs.Common.{◌≡◌, ℕ, zero, suc, ◌+◌, ◌<◌, Bool, true, false, cond, List, [], ◌∷◌, ◌++◌, Option, length, map, filter, take, drop, get_or, refl, sym, ap, ◌∙◌, arith, ℤ}
 use Rattle.std.proofs.lemmas.List.{append_assoc, append-nil, map-append}
 use Rattle.std.proofs.lemmas.List.Elements.{filter-append}
 use Rattle.std.specs.List.{enumerate_from, flat_map}
@@ -47,10 +47,10 @@ one_or_none f x true = refl
 one_or_none f x false = refl
 
 -- the questions for the files up to one, and that one if it is wanted
-pub stays_next : (wanted : Option Kind) (limit : Option ℕ) (kinds : List Kind) (i : ℕ) (d : Kind) → i < length kinds
-    → stays_asked wanted limit (take (i + 1) kinds) ≡ stays_asked wanted limit (take i kinds) ++ cond (is_wanted wanted (get_or kinds i d)) (questions.Last i limit ∷ []) []
-stays_next wanted limit kinds i d h =
-    let asked : ℕ × Kind → Question = λ numbered. questions.Last numbered.0 limit in
+pub stays_next : (wanted : Option Kind) (limit : Option ℕ) (until : Option ℤ) (kinds : List Kind) (i : ℕ) (d : Kind) → i < length kinds
+    → stays_asked wanted limit (take (i + 1) kinds) until ≡ stays_asked wanted limit (take i kinds) until ++ cond (is_wanted wanted (get_or kinds i d)) (questions.Last i limit until ∷ []) []
+stays_next wanted limit until kinds i d h =
+    let asked : ℕ × Kind → Question = λ numbered. questions.Last numbered.0 limit until in
     let fits : ℕ × Kind → Bool = λ numbered. is_wanted wanted numbered.1 in
     let first : List (ℕ × Kind) = enumerate_from 0 (take i kinds) in
     let e : 0 + i ≡ i = omega arith in
@@ -60,13 +60,13 @@ stays_next wanted limit kinds i d h =
     ∙ ap (λ l. map asked (filter fits first) ++ l) (one_or_none asked (i, get_or kinds i d) (is_wanted wanted (get_or kinds i d)))
 
 -- a file that is wanted, and one that is not
-pub stays_more : (wanted : Option Kind) (limit : Option ℕ) (kinds : List Kind) (i : ℕ) (d : Kind) → i < length kinds → is_wanted wanted (get_or kinds i d) ≡ true
-    → stays_asked wanted limit (take (i + 1) kinds) ≡ stays_asked wanted limit (take i kinds) ++ questions.Last i limit ∷ []
-stays_more wanted limit kinds i d h e = stays_next wanted limit kinds i d h ∙ ap (λ b. stays_asked wanted limit (take i kinds) ++ cond b (questions.Last i limit ∷ []) []) e
+pub stays_more : (wanted : Option Kind) (limit : Option ℕ) (until : Option ℤ) (kinds : List Kind) (i : ℕ) (d : Kind) → i < length kinds → is_wanted wanted (get_or kinds i d) ≡ true
+    → stays_asked wanted limit (take (i + 1) kinds) until ≡ stays_asked wanted limit (take i kinds) until ++ questions.Last i limit until ∷ []
+stays_more wanted limit until kinds i d h e = stays_next wanted limit until kinds i d h ∙ ap (λ b. stays_asked wanted limit (take i kinds) until ++ cond b (questions.Last i limit until ∷ []) []) e
 
-pub stays_same : (wanted : Option Kind) (limit : Option ℕ) (kinds : List Kind) (i : ℕ) (d : Kind) → i < length kinds → is_wanted wanted (get_or kinds i d) ≡ false
-    → stays_asked wanted limit (take (i + 1) kinds) ≡ stays_asked wanted limit (take i kinds)
-stays_same wanted limit kinds i d h e = stays_next wanted limit kinds i d h ∙ ap (λ b. stays_asked wanted limit (take i kinds) ++ cond b (questions.Last i limit ∷ []) []) e ∙ append-nil (stays_asked wanted limit (take i kinds))
+pub stays_same : (wanted : Option Kind) (limit : Option ℕ) (until : Option ℤ) (kinds : List Kind) (i : ℕ) (d : Kind) → i < length kinds → is_wanted wanted (get_or kinds i d) ≡ false
+    → stays_asked wanted limit (take (i + 1) kinds) until ≡ stays_asked wanted limit (take i kinds) until
+stays_same wanted limit until kinds i d h e = stays_next wanted limit until kinds i d h ∙ ap (λ b. stays_asked wanted limit (take i kinds) until ++ cond b (questions.Last i limit until ∷ []) []) e ∙ append-nil (stays_asked wanted limit (take i kinds) until)
 
 -- answers to the questions up to one, and to that one
 map_suc : {X Y : Type 0} (f : X → Y) (xs : List X) (i : ℕ) (x : X) → i < length xs → map f (take (suc i) xs) ≡ map f (take i xs) ++ f (get_or xs i x) ∷ []

@@ -50,6 +50,14 @@ east_rule = number_rule (codes "east") (between 0 1439) (codes "0")
 abbrev pub west_rule : Rule
 west_rule = number_rule (codes "west") (between 0 1439) (codes "0")
 
+-- the moment up to which stays that nothing has ended are counted, in seconds since 1970
+abbrev pub until_rule : Rule
+until_rule = record (new_rule (codes "until")) {
+  long = Some (codes "until");
+  value_names = 1;
+  parser = Some (between 0 2147483647);
+}
+
 -- the files, one or more
 abbrev pub file_rule : Rule
 file_rule = record (new_rule (codes "file")) {
@@ -64,13 +72,14 @@ with_common app = with_rule (with_rule (with_rule (with_rule app feeders_rule) e
 
 -- `last`
 abbrev pub last_app : App
-last_app = with_common (with_rule (new_app (codes "last")) limit_rule)
+last_app = with_common (with_rule (with_rule (new_app (codes "last")) limit_rule) until_rule)
 
 -- `ac`
 abbrev pub connect_app : App
-connect_app = with_common (with_rule (with_rule (new_app (codes "ac"))
+connect_app = with_common (with_rule (with_rule (with_rule (new_app (codes "ac"))
     (flag_rule (codes "by_day") 100))
     (flag_rule (codes "by_user") 112))
+    until_rule)
 
 -- `sa`
 abbrev pub usage_app : App
@@ -82,7 +91,7 @@ usage_app = with_common (with_rule (with_rule (with_rule (with_rule (new_app (co
 
 -- `all`
 abbrev pub all_app : App
-all_app = with_common (with_rule (new_app (codes "all")) askers_rule)
+all_app = with_common (with_rule (with_rule (new_app (codes "all")) askers_rule) until_rule)
 
 -- words without a program's name, of which one names a subcommand
 abbrev pub top_app : App

@@ -1,7 +1,15 @@
 -- What a run asks of its job.
-use Rattle.std.specs.Prelude.{◌≤◌}
+use Rattle.std.specs.Prelude.{◌≡◌, ◌≤◌, Option, None, ℤ, ⊤}
 use Rattle.tally_sessions.specs.Days.{IsOffset}
 use Rattle.tally_cli.specs.declared.job.Job.{Job}
+use Rattle.tally_cli.specs.declared.job.Report.{Report}
+use Rattle.tally_cli.specs.declared.job.Report.TheVariants as report
+
+-- no moment is given to a report that has no stays
+abbrev pub TakesUntil : Report → Option ℤ → Type 0
+TakesUntil (report.Commands order reverse all) until = until ≡ None
+TakesUntil (report.Users order reverse) until = until ≡ None
+TakesUntil r until = ⊤
 
 -- a job that can be run
 pub record IsRunnable (job : Job) : Type 0 where
@@ -9,3 +17,4 @@ pub record IsRunnable (job : Job) : Type 0 where
   pub some_feeders : 1 ≤ job.feeders
   pub few_feeders : job.feeders ≤ 64
   pub few_askers : job.askers ≤ 128
+  pub until : TakesUntil job.report job.until

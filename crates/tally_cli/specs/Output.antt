@@ -23,19 +23,19 @@ is_wanted (Some Login) Proc = false
 is_wanted (Some Proc) Login = false
 is_wanted wanted kind = true
 
--- the questions for the stays of each file of the wanted kind, whose number is its host
-abbrev pub stays_asked : Option Kind → Option ℕ → List Kind → List Question
-stays_asked wanted limit kinds = map (λ numbered. questions.Last numbered.0 limit)
+-- the questions for the stays of each file of the wanted kind, whose number is its host, up to a moment if one is given
+abbrev pub stays_asked : Option Kind → Option ℕ → List Kind → Option ℤ → List Question
+stays_asked wanted limit kinds until = map (λ numbered. questions.Last numbered.0 limit until)
     (filter (λ numbered. is_wanted wanted numbered.1) (enumerate_from 0 kinds))
 
 -- the questions of a report on files of these kinds, in the order of their sections
-abbrev pub questions_of : Report → ℤ → List Kind → List Question
-questions_of (Last limit) offset kinds = stays_asked None limit kinds
-questions_of (Connect by_day by_user) offset kinds = questions.Connect by_day by_user offset ∷ []
-questions_of (Commands by reverse all) offset kinds = questions.Commands by reverse all ∷ []
-questions_of (Users by reverse) offset kinds = questions.Users by reverse ∷ []
-questions_of All offset kinds = stays_asked (Some Login) None kinds
-    ++ questions.Connect false false offset ∷ questions.Commands order.Cpu false false ∷ []
+abbrev pub questions_of : Report → ℤ → List Kind → Option ℤ → List Question
+questions_of (Last limit) offset kinds until = stays_asked None limit kinds until
+questions_of (Connect by_day by_user) offset kinds until = questions.Connect by_day by_user offset until ∷ []
+questions_of (Commands by reverse all) offset kinds until = questions.Commands by reverse all ∷ []
+questions_of (Users by reverse) offset kinds until = questions.Users by reverse ∷ []
+questions_of All offset kinds until = stays_asked (Some Login) None kinds until
+    ++ questions.Connect false false offset until ∷ questions.Commands order.Cpu false false ∷ []
 
 -- the login entries of files, each under its number
 abbrev pub login_entries : List Records → List Entry
@@ -51,13 +51,13 @@ sections [] = []
 sections (text ∷ texts) = text ++ flat_map (λ t. 10 ∷ t) texts
 
 -- the text of the answer to a question
-abbrev pub section : ℤ → List Entry → List ProcEntry → Question → List ℕ
-section offset logins procs question = answer_text (answer_of question logins procs) offset
+abbrev pub section : ℤ → Option ℤ → List Entry → List ProcEntry → Question → List ℕ
+section offset until logins procs question = answer_text (answer_of question logins procs) offset until
 
 -- the text of a job's report over login and process entries, of which each file of these kinds is a host
 abbrev pub report_text : Job → List Kind → List Entry → List ProcEntry → List ℕ
 report_text job kinds logins procs =
-    sections (map (section job.offset logins procs) (questions_of job.report job.offset kinds))
+    sections (map (section job.offset job.until logins procs) (questions_of job.report job.offset kinds job.until))
 
 -- the output of a job over files, each a kind and its records
 abbrev pub output : Job → List Kind → List Records → List ℕ

@@ -1,5 +1,5 @@
 -- What is known when a run ends.
-use Rattle.std.specs.Prelude.{◌≡◌, ◌⊎◌, ◌<◌, ◌≤◌, ℕ, Bool, List, Option, None, Some, Result, Ok, Err, ⊤, length, map, min, slice_index_or, sum_by}
+use Rattle.std.specs.Prelude.{◌≡◌, ◌⊎◌, ◌<◌, ◌≤◌, ℕ, Bool, List, Option, None, Some, ℤ, Result, Ok, Err, ⊤, length, map, min, slice_index_or, sum_by}
 use Rattle.std.specs.List.{All}
 use Rattle.tally_book.specs.Contents.{Contents}
 use Rattle.tally_book.specs.Deeds.{SameOfEachHost}
@@ -161,9 +161,9 @@ failed_writes (Err Write) = 1
 failed_writes (Err fault) = 0
 
 -- all callers worked through their tasks, and this is the closed book
-pub record AreWorkedThrough {I : Type 0} (to_come : I → Option (List ℕ)) (can_fail : I → Bool) (sources : List (Source I)) (passes : List PassState) (book : Contents) (failure : Option Failure) : Type 0 where
+pub record AreWorkedThrough {I : Type 0} (to_come : I → Option (List ℕ)) (can_fail : I → Bool) (until : Option ℤ) (sources : List (Source I)) (passes : List PassState) (book : Contents) (failure : Option Failure) : Type 0 where
   pub tasks : List (Task I)
-  pub carried : AreCarriedOut to_come can_fail sources passes tasks
+  pub carried : AreCarriedOut to_come can_fail until sources passes tasks
   pub explained : All (IsExplained tasks) tasks
   pub least : IsLeast tasks failure
   pub did : All (λ t. HasDone book t.pass) tasks

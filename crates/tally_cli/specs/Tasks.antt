@@ -1,5 +1,5 @@
 -- What a worker does of its tasks.
-use Rattle.std.specs.Prelude.{◌≡◌, ◌<◌, ◌-◌, ◌^◌, ◌∷◌, [], ℕ, Bool, List, Option, Some, false, pos, true, ⊤, length, slice_index_or}
+use Rattle.std.specs.Prelude.{◌≡◌, ◌<◌, ◌-◌, ◌^◌, ◌∷◌, [], ℕ, Bool, List, Option, Some, ℤ, false, pos, true, ⊤, length, slice_index_or}
 use Rattle.std.specs.List.{All, Contains}
 use Rattle.tally_book.specs.declared.question.Question.{Question}
 use Rattle.tally_book.specs.declared.question.Question.TheVariants as questions
@@ -37,7 +37,7 @@ HasFailed o = ⊥
 -- the failures of an input to be fed can be counted once more
 abbrev pub IsCountable : {I : Type 0} → (I → ℕ) → Work I → Type 0
 IsCountable failures (work.Feed kind input) = failures input < 2 ^ 64 - 1
-IsCountable failures work.Ask = ⊤
+IsCountable failures (work.Ask until) = ⊤
 
 -- a feed that reached the end of its input
 pub record HasFed (told : Option (List ℕ)) (kind : Kind) (old new : PassState) (fed : Fed) : Type 0 where
@@ -51,10 +51,14 @@ pub record FailedToFeed (told : Option (List ℕ)) (can_fail : Bool) (kind : Kin
   pub full : IsFeedRefusal kind new.seen fault
   pub read : fault ≡ Read → can_fail ≡ true
 
--- what an asker asks: the latest stays of the first host, connect time, and the usage of commands and users, four times
-abbrev pub asker_questions : List Question
-asker_questions = in_rounds 4 (questions.Last 0 (Some 10) ∷ questions.Connect false false (pos 0)
-    ∷ questions.Commands order.Cpu false false ∷ questions.Users order.Cpu false ∷ [])
+-- what an asker asks: the latest stays of the first host, connect time, and the usage of commands and users
+abbrev pub asked_once : Option ℤ → List Question
+asked_once until = questions.Last 0 (Some 10) until ∷ questions.Connect false false (pos 0) until
+    ∷ questions.Commands order.Cpu false false ∷ questions.Users order.Cpu false ∷ []
+
+-- all that it asks, in four rounds
+abbrev pub asker_questions : Option ℤ → List Question
+asker_questions until = in_rounds 4 (asked_once until)
 
 -- what a caller did of its work, by what it says of it
 abbrev pub IsOutcome : {I : Type 0} → (I → Option (List ℕ)) → (I → Bool) → Work I → PassState → PassState → Outcome → Type 0
@@ -62,9 +66,9 @@ IsOutcome to_come can_fail (work.Feed kind input) old new outcome.Untried = new 
 IsOutcome to_come can_fail (work.Feed kind input) old new (outcome.Fed fed) = HasFed (to_come input) kind old new fed
 IsOutcome to_come can_fail (work.Feed kind input) old new (outcome.FeedFailed fault) =
     FailedToFeed (to_come input) (can_fail input) kind old new fault
-IsOutcome to_come can_fail work.Ask old new outcome.Untried = new ≡ old
-IsOutcome to_come can_fail work.Ask old new (outcome.Asked count) = (count ≡ 16) × Asks old new asker_questions
-IsOutcome to_come can_fail work.Ask old new (outcome.AskFailed fault) = AskStops asker_questions old new fault
+IsOutcome to_come can_fail (work.Ask until) old new outcome.Untried = new ≡ old
+IsOutcome to_come can_fail (work.Ask until) old new (outcome.Asked count) = (count ≡ 16) × Asks old new (asker_questions until)
+IsOutcome to_come can_fail (work.Ask until) old new (outcome.AskFailed fault) = AskStops (asker_questions until) old new fault
 IsOutcome to_come can_fail w old new o = ⊥
 
 -- the task's work was done as its outcome says

@@ -3,7 +3,7 @@ ghost use Rattle.std.specs.Prelude.{◌≡◌, IfOk, false};
 ghost use Rattle.clap.specs.Words.{App, new_app, rule_of};
 ghost use Rattle.tally_cli.specs.CommandLine.{IsCommand, all_app, askers_rule, connect_app, east_rule};
 ghost use Rattle.tally_cli.specs.CommandLine.{feeders_rule, file_rule, flag_rule, last_app, limit_rule};
-ghost use Rattle.tally_cli.specs.CommandLine.{number_rule, tally_app, top_app, usage_app, west_rule, with_common};
+ghost use Rattle.tally_cli.specs.CommandLine.{number_rule, tally_app, top_app, until_rule, usage_app, west_rule, with_common};
 
 use clap::builder::ValueParser;
 use clap::{Arg, ArgAction, Command, value_parser};
@@ -41,7 +41,8 @@ fn last<'a>(alloc: Global) -> Result<Command<'a>, AllocError>
         "last",
         "List login sessions and running times, as last(1) does",
     )
-    .arg(limit(alloc))?;
+    .arg(limit(alloc))?
+    .arg(until(alloc))?;
     with_options(alloc, command, "Read the login records of FILE")
 }
 
@@ -50,7 +51,8 @@ fn connect<'a>(alloc: Global) -> Result<Command<'a>, AllocError>
 {
     let command = named(alloc, "ac", "Sum connect time, as ac(1) does")
         .arg(flag(alloc, "by_day", 'd', "Sum by day"))?
-        .arg(flag(alloc, "by_user", 'p', "Sum by user"))?;
+        .arg(flag(alloc, "by_user", 'p', "Sum by user"))?
+        .arg(until(alloc))?;
     with_options(alloc, command, "Read the login records of FILE")
 }
 
@@ -78,7 +80,8 @@ fn all<'a>(alloc: Global) -> Result<Command<'a>, AllocError>
         "all",
         "Print last for each login file, then ac, then sa",
     )
-    .arg(askers(alloc))?;
+    .arg(askers(alloc))?
+    .arg(until(alloc))?;
     with_options(
         alloc,
         command,
@@ -166,6 +169,19 @@ fn west<'a>(alloc: Global) -> Arg<'a>
     number(alloc, "west", parser, "0")
         .value_name("M")
         .help("Show times M minutes west of UTC, 0 to 1439")
+}
+
+fn until<'a>(alloc: Global) -> Arg<'a>
+    ensures rule { rule_of result ≡ until_rule }
+    ensures local { result.global ≡ false }
+{
+    Arg::new(alloc, "until")
+        .long("until")
+        .value_name("SECONDS")
+        .help(
+            "Count open sessions up to SECONDS since 1970, 0 to 2147483647 [default: the last record]",
+        )
+        .value_parser(value_parser!(i32).range(0..=2_147_483_647))
 }
 
 fn file<'a>(alloc: Global, help: &'a str) -> Arg<'a>

@@ -35,24 +35,25 @@ fn empty_lists<T: Drop>(alloc: Global, count: usize) -> Result<Vec<Vec<T>>, Allo
 }
 
 /// The first source is to be fed, or nothing is left but to ask.
-fn next_work<I: Drop>(sources: &mut Vec<Source<I>>) -> Work<I>
-    ensures work { result ≡ work_of (slice_get sources.old.items 0) }
+fn next_work<I: Drop>(sources: &mut Vec<Source<I>>, until: Option<i32>) -> Work<I>
+    ensures work { result ≡ work_of until (slice_get sources.old.items 0) }
     ensures rest { sources.new.items ≡ drop 1 sources.old.items }
 {
     if sources.is_empty() {
-        return Work::Ask;
+        return Work::Ask { until };
     }
     let Source { kind, input } = sources.remove(0);
     Work::Feed { kind, input }
 }
 
-/// Deals the callers' work to the workers, in order.
+/// Deals the callers' work to the workers, in order. Askers ask up to a moment, if one is given.
 pub(crate) fn deal_out<I: Input>(
     alloc: Global,
     desk: &Desk,
     passes: Vec<Pass>,
     sources: Vec<Source<I>>,
     feeders: usize,
+    until: Option<i32>,
 ) -> Result<Vec<Vec<Task<I>>>, AllocError>
     requires feeders { (0 < feeders) × (feeders ≤ 64) }
     requires passes { length passes.items ≤ 128 }
@@ -60,7 +61,7 @@ pub(crate) fn deal_out<I: Input>(
     requires numbers { (k : ℕ) (p : _) → k < length passes.items → (slice_index_or passes.items k p).number ≡ k }
     requires sources { length sources.items ≤ length passes.items }
     requires countable { All (IsReadable I.failures) sources.items }
-    ensures dealt { IfOk result (λ lists. AreDealt sources.items passes.items (map (λ v. v.items) lists.items)) }
+    ensures dealt { IfOk result (λ lists. AreDealt until sources.items passes.items (map (λ v. v.items) lists.items)) }
     ensures all { IfOk result (λ lists. sum_by length (map (λ v. v.items) lists.items) ≡ length passes.items) }
     ensures ready { IfOk result (λ lists. All (AreReady I.failures desk.now) (map (λ v. v.items) lists.items)) }
 {
@@ -72,7 +73,7 @@ pub(crate) fn deal_out<I: Input>(
         let pass = passes.remove(0);
         let task = Task {
             pass,
-            work: next_work(&mut sources),
+            work: next_work(&mut sources, until),
             outcome: Outcome::Untried,
         };
         lists[worker_of(number, count, feeders)].push(task)?;

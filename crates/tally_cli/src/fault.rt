@@ -13,7 +13,7 @@ use thiserror::Error;
 /// Why a run gave no whole output.
 #[derive(Debug, PartialEq, Eq, Drop, Error)]
 pub enum RunFault {
-    /// Memory ran out, or no thread could be started.
+    /// Memory ran out.
     #[error("out of memory")]
     Memory,
     /// There are no sources and askers, or more than 128.

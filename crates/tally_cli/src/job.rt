@@ -38,4 +38,7 @@ pub struct Job {
     pub askers: u32,
     /// Minutes east of UTC.
     pub offset: i32,
+    /// Up to when stays count that nothing has ended, in seconds since 1970: else up to the last
+    /// record of their file. None where the report has no stays.
+    pub until: Option<i32>,
 }

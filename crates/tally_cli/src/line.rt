@@ -3,7 +3,7 @@ ghost use Rattle.std.specs.Prelude.{◌≡◌, ◌≢◌, ◌⊎◌, ◌≤◌, 
 ghost use Rattle.clap.specs.Words.{found_of, kind_of, rows_of, subcommand_rows_of};
 ghost use Rattle.tally_cli.specs.Lines.{Answers, IsFaultOf, IsHelp, IsLineOf, IsMemoryOrUsage, Refuses, file_words, met_in, name_of, words_in};
 ghost use Rattle.tally_cli.specs.declared.job.Report.{Report};
-ghost use Rattle.tally_cli.specs.Jobs.{IsRunnable};
+ghost use Rattle.tally_cli.specs.Jobs.{IsRunnable, TakesUntil};
 ghost use Rattle.tally_cli.specs.declared.line.LineFault.TheVariants.{Memory};
 
 use crate::command;
@@ -216,6 +216,19 @@ fn job_from(report: Report, matches: &ArgMatches<'_>) -> Job
         feeders: number(matches, "feeders", 4).clamp(1, 64),
         askers,
         offset: minutes(matches, "east") - minutes(matches, "west"),
+        until: until_of(report, matches),
+    }
+}
+
+/// The moment up to which a report counts stays that nothing has ended.
+fn until_of(report: Report, matches: &ArgMatches<'_>) -> Option<i32>
+    ensures { TakesUntil report result }
+{
+    match report {
+        Report::Commands { .. } | Report::Users { .. } => None,
+        Report::Last { .. } | Report::Connect { .. } | Report::All => {
+            matches.get_one::<i32>("until")
+        }
     }
 }
 

@@ -22,11 +22,17 @@ fn read(alloc: Global, line: &str) -> Result<Line, LineFault> {
 
 // The report that a command line asks for, with the default of each option.
 fn asks(alloc: Global, line: &str, report: Report) -> bool {
+    asks_until(alloc, line, report, None)
+}
+
+// The same, with stays counted up to a moment.
+fn asks_until(alloc: Global, line: &str, report: Report, until: Option<i32>) -> bool {
     let plain = Job {
         report,
         feeders: 4,
         askers: 0,
         offset: 0,
+        until,
     };
     matches!(read(alloc, line), Ok(Line::Run { job, files: _ }) if job == plain)
 }
@@ -50,6 +56,22 @@ fn ac_sums_by_day_and_by_user(rt: HostRuntime) {
             asks(rt.alloc(), line, Report::Connect { by_day, by_user }),
             "{line}"
         );
+    }
+}
+
+#[test]
+fn stays_are_counted_up_to_a_moment(rt: HostRuntime) {
+    let total = Report::Connect {
+        by_day: false,
+        by_user: false,
+    };
+    let rows = [
+        ("last --until 5000 f", Report::Last { limit: None }, 5000),
+        ("ac f --until=0", total, 0),
+        ("all --until 2147483647 w:f", Report::All, i32::MAX),
+    ];
+    for (line, report, until) in rows {
+        assert!(rt; asks_until(rt.alloc(), line, report, Some(until)), "{line}");
     }
 }
 
@@ -116,6 +138,7 @@ fn feeders_askers_and_the_offset_are_set(rt: HostRuntime) {
             feeders,
             askers,
             offset,
+            until: None,
         };
         assert!(rt;
             matches!(read(rt.alloc(), line), Ok(Line::Run { job, files: _ }) if job == want),

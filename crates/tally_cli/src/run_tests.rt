@@ -24,6 +24,7 @@ fn plain(report: Report) -> Job
         feeders: 4,
         askers: 0,
         offset: 0,
+        until: None,
     }
 }
 

@@ -87,6 +87,7 @@ fn work_through<R: Threads + Wait + Sync, I: Input + Send, G: Gate + Sync>(
     passes: Vec<Pass>,
     sources: Vec<Source<I>>,
     feeders: usize,
+    until: Option<i32>,
     gate: &G,
 ) -> Result<(Book, Option<Failure>), AllocError>
     requires feeders { (0 < feeders) × (feeders ≤ 64) }
@@ -97,10 +98,10 @@ fn work_through<R: Threads + Wait + Sync, I: Input + Send, G: Gate + Sync>(
     requires countable { All (IsReadable I.failures) sources.items }
     ensures callers { IfOk result (λ r. r.0.callers ≡ desk.callers) }
     ensures legal { IfOk result (λ r. IsLegal r.0) }
-    ensures worked { IfOk result (λ r. AreWorkedThrough I.to_come I.can_fail sources.items passes.items r.0 r.1) }
+    ensures worked { IfOk result (λ r. AreWorkedThrough I.to_come I.can_fail until sources.items passes.items r.0 r.1) }
 {
     let mut back = Vec::with_capacity(alloc, passes.len())?;
-    let lists = deal_out(alloc, &desk, passes, sources, feeders)?;
+    let lists = deal_out(alloc, &desk, passes, sources, feeders, until)?;
     let lists = carry_out_lists(rt, alloc, &desk, lists, gate)?;
     let failure = take_all(lists, &mut back);
     Ok((close_all(desk, back), failure))
@@ -132,7 +133,8 @@ fn feed_all<R: Threads + Wait + Sync, I: Input + Send, G: Gate + Sync>(
     let (desk, passes) = open(alloc, sources.len(), job.askers)?;
     let feeders = job.feeders as usize;
     entries_are_posts();
-    let (book, failure) = work_through(rt, alloc, desk, passes, sources, feeders, gate)?;
+    let until = job.until;
+    let (book, failure) = work_through(rt, alloc, desk, passes, sources, feeders, until, gate)?;
     match failure {
         None => Ok(book),
         Some(failure) => Err(fault_of(failure)),
@@ -170,7 +172,7 @@ fn report<O: Output>(
 {
     let questions = questions_of(alloc, job, kinds)?;
     let answers = answers_to(alloc, book, questions.as_slice())?;
-    print_sections(alloc, answers.as_slice(), job.offset, out)
+    print_sections(alloc, answers.as_slice(), job.offset, job.until, out)
 }
 
 /// Sees that what was written arrives.

@@ -32,9 +32,10 @@ fn stays_asked(
     kinds: &[Kind],
     wanted: Option<Kind>,
     limit: Option<u32>,
+    until: Option<i32>,
 ) -> Result<Vec<Question>, AllocError>
     requires { length kinds.now ≤ 128 }
-    ensures { IfOk result (λ v. v.items ≡ stays_asked wanted limit kinds.now) }
+    ensures { IfOk result (λ v. v.items ≡ stays_asked wanted limit kinds.now until) }
 {
     let mut questions = Vec::new(alloc);
     for host in 0..kinds.len() {
@@ -42,21 +43,27 @@ fn stays_asked(
             continue;
         }
         let host = host as u32;
-        questions.push(Question::Last { host, limit })?;
+        questions.push(Question::Last { host, limit, until })?;
     }
     Ok(questions)
 }
 
 /// Questions for the stays of each login file, then for connect time and the usage of commands.
-fn all_questions(alloc: Global, kinds: &[Kind], offset: i32) -> Result<Vec<Question>, AllocError>
+fn all_questions(
+    alloc: Global,
+    kinds: &[Kind],
+    offset: i32,
+    until: Option<i32>,
+) -> Result<Vec<Question>, AllocError>
     requires { length kinds.now ≤ 128 }
-    ensures { IfOk result (λ v. v.items ≡ questions_of Report.All offset kinds.now) }
+    ensures { IfOk result (λ v. v.items ≡ questions_of Report.All offset kinds.now until) }
 {
-    let mut questions = stays_asked(alloc, kinds, Some(Kind::Login), None)?;
+    let mut questions = stays_asked(alloc, kinds, Some(Kind::Login), None, until)?;
     questions.push(Question::Connect {
         by_day: false,
         by_user: false,
         offset,
+        until,
     })?;
     questions.push(Question::Commands {
         order: Order::Cpu,
@@ -82,16 +89,17 @@ pub(crate) fn questions_of(
     kinds: &[Kind],
 ) -> Result<Vec<Question>, AllocError>
     requires { length kinds.now ≤ 128 }
-    ensures { IfOk result (λ v. v.items ≡ questions_of job.now.report job.now.offset kinds.now) }
+    ensures { IfOk result (λ v. v.items ≡ questions_of job.now.report job.now.offset kinds.now job.now.until) }
 {
     match job.report {
-        Report::Last { limit } => stays_asked(alloc, kinds, None, limit),
+        Report::Last { limit } => stays_asked(alloc, kinds, None, limit, job.until),
         Report::Connect { by_day, by_user } => {
             let offset = job.offset;
             let question = Question::Connect {
                 by_day,
                 by_user,
                 offset,
+                until: job.until,
             };
             only(alloc, question)
         }
@@ -108,7 +116,7 @@ pub(crate) fn questions_of(
             only(alloc, question)
         }
         Report::Users { order, reverse } => only(alloc, Question::Users { order, reverse }),
-        Report::All => all_questions(alloc, kinds, job.offset),
+        Report::All => all_questions(alloc, kinds, job.offset, job.until),
     }
 }
 
@@ -157,21 +165,22 @@ fn print_next<O: Output>(
     alloc: Global,
     answer: &Answer,
     offset: i32,
+    until: Option<i32>,
     out: &mut O,
 ) -> Result<(), RunFault>
     requires failures { O.failures out.old < 2 ^ 64 - 1 }
     requires offset { IsOffset offset }
     requires days { HasDays answer.now }
     ensures prefix { IsTrue (O.tells out.old) → AppendsPrefix (O.written out.old) (O.written out.new)
-        (10 ∷ answer_text answer.now offset) }
+        (10 ∷ answer_text answer.now offset until) }
     ensures ok { OnOk result (IsTrue (O.tells out.old) → O.written out.new
-        ≡ O.written out.old ++ 10 ∷ answer_text answer.now offset) }
+        ≡ O.written out.old ++ 10 ∷ answer_text answer.now offset until) }
     ensures cause { IfErr result IsPrintFault }
     ensures counts { O.failures out.new ≡ O.failures out.old + failed_writes result }
     ensures stays { O.tells out.new ≡ O.tells out.old }
 {
     print_gap(out)?;
-    print_answer(alloc, answer, offset, out)?;
+    print_answer(alloc, answer, offset, out, until)?;
     Ok(())
 }
 
@@ -180,21 +189,22 @@ fn print_others<O: Output>(
     alloc: Global,
     answers: &[Answer],
     offset: i32,
+    until: Option<i32>,
     out: &mut O,
 ) -> Result<(), RunFault>
     requires failures { O.failures out.old < 2 ^ 64 - 1 }
     requires offset { IsOffset offset }
     requires days { All HasDays answers.now }
     ensures prefix { IsTrue (O.tells out.old) → AppendsPrefix (O.written out.old) (O.written out.new)
-        (flat_map (λ a. 10 ∷ answer_text a offset) answers.now) }
+        (flat_map (λ a. 10 ∷ answer_text a offset until) answers.now) }
     ensures ok { OnOk result (IsTrue (O.tells out.old) → O.written out.new
-        ≡ O.written out.old ++ flat_map (λ a. 10 ∷ answer_text a offset) answers.now) }
+        ≡ O.written out.old ++ flat_map (λ a. 10 ∷ answer_text a offset until) answers.now) }
     ensures cause { IfErr result IsPrintFault }
     ensures counts { O.failures out.new ≡ O.failures out.old + failed_writes result }
     ensures stays { O.tells out.new ≡ O.tells out.old }
 {
     for index in 0..answers.len() {
-        print_next(alloc, &answers[index], offset, out)?;
+        print_next(alloc, &answers[index], offset, until, out)?;
     }
     Ok(())
 }
@@ -204,15 +214,16 @@ pub(crate) fn print_sections<O: Output>(
     alloc: Global,
     answers: &[Answer],
     offset: i32,
+    until: Option<i32>,
     out: &mut O,
 ) -> Result<(), RunFault>
     requires failures { O.failures out.old < 2 ^ 64 - 1 }
     requires offset { IsOffset offset }
     requires days { All HasDays answers.now }
     ensures prefix { IsTrue (O.tells out.old) → AppendsPrefix (O.written out.old) (O.written out.new)
-        (sections (map (λ a. answer_text a offset) answers.now)) }
+        (sections (map (λ a. answer_text a offset until) answers.now)) }
     ensures ok { OnOk result (IsTrue (O.tells out.old) → O.written out.new
-        ≡ O.written out.old ++ sections (map (λ a. answer_text a offset) answers.now)) }
+        ≡ O.written out.old ++ sections (map (λ a. answer_text a offset until) answers.now)) }
     ensures cause { IfErr result IsPrintFault }
     ensures counts { O.failures out.new ≡ O.failures out.old + failed_writes result }
     ensures stays { O.tells out.new ≡ O.tells out.old }
@@ -220,6 +231,6 @@ pub(crate) fn print_sections<O: Output>(
     let Some((first, others)) = answers.split_first() else {
         return Ok(());
     };
-    print_answer(alloc, first, offset, out)?;
-    print_others(alloc, others, offset, out)
+    print_answer(alloc, first, offset, out, until)?;
+    print_others(alloc, others, offset, until, out)
 }

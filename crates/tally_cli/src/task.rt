@@ -1,6 +1,8 @@
 //! One caller's work.
-ghost use Rattle.std.specs.Prelude.{◌≡◌, MatchBool};
-ghost use Rattle.tally_cli.specs.Tasks.{HasFailed, IsCountable, IsDone, IsUntried, Works};
+ghost use Rattle.std.specs.Prelude.{◌≡◌, IfErr, IfOk, MatchBool, OnOk};
+ghost use Rattle.tally_desk.specs.Feeds.{Keeps};
+ghost use Rattle.tally_desk.specs.Rounds.{AskStops, Asks};
+ghost use Rattle.tally_cli.specs.Tasks.{asked_once, asker_questions, HasFailed, IsCountable, IsDone, IsUntried, Works};
 
 use std::alloc::Global;
 use std::sync::Wait;
@@ -13,7 +15,7 @@ use tally_usage::Order;
 #[derive(Drop)]
 pub(crate) enum Work<I> {
     Feed { kind: Kind, input: I },
-    Ask,
+    Ask { until: Option<i32> },
 }
 
 /// What came of it.
@@ -38,26 +40,51 @@ pub(crate) struct Task<I> {
 const ROUNDS: u32 = 4;
 
 /// The questions of an asker.
-const QUESTIONS: [Question; 4] = [
-    Question::Last {
-        host: 0,
-        limit: Some(10),
-    },
-    Question::Connect {
-        by_day: false,
-        by_user: false,
-        offset: 0,
-    },
-    Question::Commands {
-        order: Order::Cpu,
-        reverse: false,
-        all: false,
-    },
-    Question::Users {
-        order: Order::Cpu,
-        reverse: false,
-    },
-];
+fn questions(until: Option<i32>) -> [Question; 4]
+    ensures { result ≡ asked_once until }
+{
+    [
+        Question::Last {
+            host: 0,
+            limit: Some(10),
+            until,
+        },
+        Question::Connect {
+            by_day: false,
+            by_user: false,
+            offset: 0,
+            until,
+        },
+        Question::Commands {
+            order: Order::Cpu,
+            reverse: false,
+            all: false,
+        },
+        Question::Users {
+            order: Order::Cpu,
+            reverse: false,
+        },
+    ]
+}
+
+/// Asks as an asker does, and tells how many reports were answered.
+fn ask<R: Wait, G: Gate>(
+    rt: &R,
+    alloc: Global,
+    desk: &Desk,
+    pass: &mut Pass,
+    until: Option<i32>,
+    gate: &G,
+) -> Result<u64, AskFault>
+    requires { pass.old.desk ≡ desk.now.id }
+    ensures keeps { Keeps pass.old pass.new }
+    ensures count { IfOk result (λ count. count ≡ 16) }
+    ensures asked { OnOk result (Asks pass.old pass.new (asker_questions until)) }
+    ensures stops { IfErr result (AskStops (asker_questions until) pass.old pass.new) }
+{
+    let questions = questions(until);
+    ask_rounds(rt, alloc, desk, pass, &questions, ROUNDS, gate)
+}
 
 /// Does the work, and says whether it was done.
 pub(crate) fn carry_out<R: Wait, I: Input, G: Gate>(
@@ -86,7 +113,7 @@ pub(crate) fn carry_out<R: Wait, I: Input, G: Gate>(
                 }
             }
         }
-        Work::Ask => match ask_rounds(rt, alloc, desk, &mut task.pass, &QUESTIONS, ROUNDS, gate) {
+        Work::Ask { until } => match ask(rt, alloc, desk, &mut task.pass, *until, gate) {
             Ok(count) => {
                 task.outcome = Outcome::Asked(count);
                 true

@@ -72,6 +72,7 @@ fn all_of_two<R: Threads + Wait + Sync, G: Gate + Sync>(
         feeders,
         askers,
         offset: 0,
+        until: None,
     };
     let mut out = Kept::new(alloc);
     let outcome = run(rt, alloc, &job, sources, gate, &mut out);

@@ -4,6 +4,7 @@ pub mod Feeds
 pub mod Knowledge
 pub mod Openings
 pub mod Passes
+pub mod Reading
 pub mod Rounds
 pub mod Rule
 pub mod Seats

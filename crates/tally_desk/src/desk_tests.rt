@@ -62,6 +62,7 @@ const TOTAL: Question = Question::Connect {
     by_day: false,
     by_user: false,
     offset: 0,
+    until: None,
 };
 
 /// A desk of two callers, and their passes.
@@ -187,6 +188,7 @@ fn a_refused_report_is_no_call(rt: HostRuntime) -> Result<(), Fail> {
     let question = Question::Last {
         host: 2,
         limit: None,
+        until: None,
     };
     let refused = desk.ask(&rt, rt.alloc(), &mut second, &question);
     assert_eq!(rt; refused.err(), Some(AskFault::NoSuchHost(2)));

@@ -253,6 +253,7 @@ const TOTAL: Question = Question::Connect {
     by_day: false,
     by_user: false,
     offset: 0,
+    until: None,
 };
 
 /// Whether it is a report of no connect time.

@@ -1,6 +1,7 @@
 //! A reader as an input.
-ghost use Rattle.std.specs.Prelude.{◌≡◌, None, true};
+ghost use Rattle.std.specs.Prelude.{◌≡◌, ◌+◌, ◌-◌, ◌^◌, ◌<◌, None, OnErr, OnOk, true};
 ghost use Rattle.std.specs.Io.{ReadsAtMost};
+ghost use Rattle.std.specs.Io.KnownBytes.{ReadConsumes};
 
 use crate::input::{Input, InputFault};
 use std::io::{ErrorKind, Read};
@@ -9,7 +10,7 @@ use std::marker::Model;
 /// How often a read is begun that an interrupt breaks off, before the input counts as failed.
 const MOST_TRIES: u32 = 1000;
 
-/// An input of what a reader gives, seen as how often the reader has failed.
+/// An input of what a reader gives, seen as the reader and how often it has failed.
 ///
 /// A read that is interrupted is begun again.
 #[derive(Drop)]
@@ -19,17 +20,18 @@ pub struct Reading<R: Read> {
 }
 
 impl<R: Read> Model for Reading<R> {
-    ghost use Rattle.std.specs.Prelude.{ℕ};
+    ghost use Rattle.tally_desk.specs.Reading.{ReadingState};
 
-    ghost Value = { ℕ };
+    ghost Value = { ReadingState R };
 
-    ghost view = { λ r. r.failures };
+    ghost view = { λ r. record { reader = r.reader; failures = r.failures } };
 }
 
 impl<R: Read> Reading<R> {
     /// An input of what the reader gives.
     pub fn new(reader: R) -> Reading<R>
-        ensures { result ≡ 0 }
+        ensures reader { result.reader ≡ reader }
+        ensures failures { result.failures ≡ 0 }
     {
         Reading {
             reader,
@@ -40,7 +42,8 @@ impl<R: Read> Reading<R> {
 
 /// Reads once, and again where an interrupt broke the read off.
 fn read_through<R: Read>(reader: &mut R, buf: &mut [u8]) -> Result<usize, InputFault>
-    ensures { ReadsAtMost result buf.new }
+    ensures bound { ReadsAtMost result buf.new }
+    ensures bytes { ReadConsumes (R.remaining reader.old) (R.remaining reader.new) result buf.new }
 {
     for _ in 0..MOST_TRIES {
         match reader.read(buf) {
@@ -57,9 +60,15 @@ impl<R: Read + Drop> Input for Reading<R> {
 
     ghost can_fail = { λ _. true };
 
-    ghost failures = { λ r. r };
+    ghost failures = { λ r. r.failures };
 
-    fn take(&mut self, buf: &mut [u8]) -> Result<usize, InputFault> {
+    fn take(&mut self, buf: &mut [u8]) -> Result<usize, InputFault>
+        requires { self.old.failures < 2 ^ 64 - 1 }
+        ensures bound { ReadsAtMost result buf.new }
+        ensures bytes { ReadConsumes (R.remaining self.old.reader) (R.remaining self.new.reader) result buf.new }
+        ensures ok { OnOk result (self.new.failures ≡ self.old.failures) }
+        ensures err { OnErr result (self.new.failures ≡ self.old.failures + 1) }
+    {
         match read_through(&mut self.reader, buf) {
             Ok(count) => Ok(count),
             Err(fault) => {

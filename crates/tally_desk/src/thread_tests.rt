@@ -14,6 +14,7 @@ const TOTAL: Question = Question::Connect {
     by_day: false,
     by_user: false,
     offset: 0,
+    until: None,
 };
 
 /// Asks one question together with the others' calls. Tells how many calls the desk then had.

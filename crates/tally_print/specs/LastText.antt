@@ -13,20 +13,29 @@ user_column stay = if stay.is_boot then codes "reboot" else shown stay.user
 abbrev pub line_column : Stay → List ℕ
 line_column stay = if stay.is_boot then codes "system boot" else shown stay.line
 
+-- the words for a stay that nothing has ended
+abbrev pub still_words : Stay → List ℕ
+still_words stay = if stay.is_boot then codes "still running" else codes "still logged in"
+
+-- that a stay goes on, and its span where it was counted up to a moment
+abbrev pub still_ending : Stay → Option ℤ → List ℕ
+still_ending stay None = codes "   " ++ still_words stay
+still_ending stay (Some until) = codes " - " ++ left (still_words stay) 19 ++ codes " " ++ span stay.length
+
 -- when or how the stay ended, or that it goes on
-unfoldable pub ending : End → Stay → ℤ → List ℕ
-ending Logout stay offset = codes " - " ++ moment stay.end_time offset ++ codes " " ++ span stay.length
-ending Next stay offset = codes " - " ++ moment stay.end_time offset ++ codes " " ++ span stay.length
-ending Down stay offset = codes " - " ++ left (codes "down") 19 ++ codes " " ++ span stay.length
-ending Crash stay offset = codes " - " ++ left (codes "crash") 19 ++ codes " " ++ span stay.length
-ending Still stay offset = if stay.is_boot then codes "   still running" else codes "   still logged in"
+unfoldable pub ending : End → Stay → ℤ → Option ℤ → List ℕ
+ending Logout stay offset until = codes " - " ++ moment stay.end_time offset ++ codes " " ++ span stay.length
+ending Next stay offset until = codes " - " ++ moment stay.end_time offset ++ codes " " ++ span stay.length
+ending Down stay offset until = codes " - " ++ left (codes "down") 19 ++ codes " " ++ span stay.length
+ending Crash stay offset until = codes " - " ++ left (codes "crash") 19 ++ codes " " ++ span stay.length
+ending Still stay offset until = still_ending stay until
 
 -- the line of a stay: user, line, remote, recorded start and ending
-unfoldable pub stay_line : ℤ → Stay → List ℕ
-stay_line offset stay =
+unfoldable pub stay_line : ℤ → Option ℤ → Stay → List ℕ
+stay_line offset until stay =
     left (user_column stay) 8 ++ codes " " ++ left (line_column stay) 12 ++ codes " "
     ++ left (shown stay.remote) 16 ++ codes " " ++ moment stay.start offset
-    ++ ending stay.end stay offset ++ codes "\n"
+    ++ ending stay.end stay offset until ++ codes "\n"
 
 -- from when on the host has records
 unfoldable pub beginning : Option ℤ → ℤ → List ℕ
@@ -34,5 +43,5 @@ beginning None offset = codes "wtmp has no records\n"
 beginning (Some first) offset = codes "\nwtmp begins " ++ moment first offset ++ codes "\n"
 
 -- a line for each stay, and from when on the host has records
-abbrev pub last_text : List Stay → Option ℤ → ℤ → List ℕ
-last_text rows first offset = flat_map (stay_line offset) rows ++ beginning first offset
+abbrev pub last_text : List Stay → Option ℤ → ℤ → Option ℤ → List ℕ
+last_text rows first offset until = flat_map (stay_line offset until) rows ++ beginning first offset

@@ -5,3 +5,4 @@ pub mod Output
 pub mod Text
 pub mod UsageText
 pub mod AnswerText
+pub mod Writing

@@ -8,26 +8,30 @@ use crate::{Output, PrintFault, print_commands, print_connect, print_last, print
 use std::alloc::Global;
 use tally_book::Answer;
 
-/// Prints an answer as its kind of report, moments at an offset in minutes east of UTC. `Write` is
-/// a failure of the output in this call; a first part of the text was written then.
+/// Prints an answer as its kind of report, moments at an offset in minutes east of UTC, with the
+/// moment that its question gave. `Write` is a failure of the output in this call; a first part of
+/// the text was written then.
 pub fn print_answer<O: Output>(
     alloc: Global,
     answer: &Answer,
     offset: i32,
     out: &mut O,
+    until: Option<i32>,
 ) -> Result<(), PrintFault>
     requires failures { O.failures out.old < 2 ^ 64 - 1 }
     requires offset { IsOffset offset }
     requires days { HasDays answer.now }
     ensures prefix { IsTrue (O.tells out.old)
-        → AppendsPrefix (O.written out.old) (O.written out.new) (answer_text answer.now offset) }
+        → AppendsPrefix (O.written out.old) (O.written out.new) (answer_text answer.now offset until) }
     ensures ok { OnOk result (IsTrue (O.tells out.old)
-        → O.written out.new ≡ O.written out.old ++ answer_text answer.now offset) }
+        → O.written out.new ≡ O.written out.old ++ answer_text answer.now offset until) }
     ensures counts { O.failures out.new ≡ O.failures out.old + failed_calls result }
     ensures stays { O.tells out.new ≡ O.tells out.old }
 {
     match answer {
-        Answer::Last { rows, first } => print_last(alloc, rows.as_slice(), *first, offset, out),
+        Answer::Last { rows, first } => {
+            print_last(alloc, rows.as_slice(), *first, offset, out, until)
+        }
         Answer::Connect { rows, total } => print_connect(alloc, rows.as_slice(), *total, out),
         Answer::Commands { rows, total } => print_commands(alloc, rows.as_slice(), total, out),
         Answer::Users { rows, total } => print_users(alloc, rows.as_slice(), total, out),

@@ -2,7 +2,7 @@ ghost use Rattle.std.specs.Prelude.{◌≡◌, ◌+◌, ◌-◌, ◌^◌, ◌<�
 ghost use Rattle.tally_sessions.specs.Days.{IsOffset};
 ghost use Rattle.tally_print.specs.Output.{AppendsPrefix, failed_calls};
 ghost use Rattle.tally_print.specs.Text.{left, moment, span};
-ghost use Rattle.tally_print.specs.LastText.{user_column, line_column, ending, beginning, stay_line, last_text};
+ghost use Rattle.tally_print.specs.LastText.{user_column, line_column, ending, still_ending, still_words, beginning, stay_line, last_text};
 
 use crate::date::push_moment;
 use crate::put::{new_page, put_all, turn_page};
@@ -52,35 +52,65 @@ fn push_logout(line: &mut Vec<u8>, stay: &Stay, offset: i32) -> Result<(), Alloc
     push_span(line, stay.length)
 }
 
-fn push_still(line: &mut Vec<u8>, is_boot: bool) -> Result<(), AllocError>
-    ensures { OnOk result (line.new.items ≡ line.old.items
-        ++ (if is_boot then codes "   still running" else codes "   still logged in")) }
+fn push_still(line: &mut Vec<u8>, stay: &Stay) -> Result<(), AllocError>
+    ensures { OnOk result (line.new.items ≡ line.old.items ++ (codes "   " ++ still_words stay.now)) }
 {
-    if is_boot {
-        line.extend_from_slice(b"   still running")
+    line.extend_from_slice(b"   ")?;
+    if stay.is_boot {
+        line.extend_from_slice(b"still running")
     } else {
-        line.extend_from_slice(b"   still logged in")
+        line.extend_from_slice(b"still logged in")
+    }
+}
+
+fn push_still_until(line: &mut Vec<u8>, stay: &Stay) -> Result<(), AllocError>
+    ensures { OnOk result (line.new.items ≡ line.old.items
+        ++ (codes " - " ++ left (still_words stay.now) 19 ++ codes " " ++ span stay.now.length)) }
+{
+    if stay.is_boot {
+        push_cut_off(line, b"still running", stay.length)
+    } else {
+        push_cut_off(line, b"still logged in", stay.length)
+    }
+}
+
+fn push_open(line: &mut Vec<u8>, stay: &Stay, until: Option<i32>) -> Result<(), AllocError>
+    ensures { OnOk result (line.new.items ≡ line.old.items ++ still_ending stay.now until) }
+{
+    match until {
+        None => push_still(line, stay),
+        Some(_) => push_still_until(line, stay),
     }
 }
 
 #[tactic(auto, unfolding(crate::specs::LastText::ending))]
-fn push_ending(line: &mut Vec<u8>, stay: &Stay, offset: i32) -> Result<(), AllocError>
+fn push_ending(
+    line: &mut Vec<u8>,
+    stay: &Stay,
+    offset: i32,
+    until: Option<i32>,
+) -> Result<(), AllocError>
     requires { IsOffset offset }
-    ensures { OnOk result (line.new.items ≡ line.old.items ++ ending stay.now.end stay.now offset) }
+    ensures { OnOk result (line.new.items ≡ line.old.items ++ ending stay.now.end stay.now offset until) }
 {
     match stay.end {
         End::Logout => push_logout(line, stay, offset),
         End::Next => push_logout(line, stay, offset),
         End::Down => push_cut_off(line, b"down", stay.length),
         End::Crash => push_cut_off(line, b"crash", stay.length),
-        End::Still => push_still(line, stay.is_boot),
+        End::Still => push_open(line, stay, until),
     }
 }
 
 #[tactic(auto, unfolding(crate::specs::LastText::stay_line))]
-fn push_stay(line: &mut Vec<u8>, stay: &Stay, offset: i32) -> Result<(), AllocError>
+fn push_stay(
+    line: &mut Vec<u8>,
+    stay: &Stay,
+    offset: i32,
+    until: Option<i32>,
+) -> Result<(), AllocError>
     requires { IsOffset offset }
-    ensures { OnOk result (line.new.items ≡ line.old.items ++ stay_line offset stay.now) }
+    ensures { OnOk result (line.new.items ≡ line.old.items ++ stay_line offset until stay.now) }
 {
     push_user(line, stay)?;
     line.push(b' ')?;
@@ -89,7 +119,7 @@ fn push_stay(line: &mut Vec<u8>, stay: &Stay, offset: i32) -> Result<(), AllocEr
     push_left_shown(line, &stay.remote, 16)?;
     line.push(b' ')?;
     push_moment(line, stay.start, offset)?;
-    push_ending(line, stay, offset)?;
+    push_ending(line, stay, offset, until)?;
     line.push(b'\n')?;
     Ok(())
 }
@@ -117,7 +147,8 @@ fn push_beginning(line: &mut Vec<u8>, first: Option<i32>, offset: i32) -> Result
 }
 
 /// Prints stays as last(1) does: a line for each, then the time of the host's first record, all
-/// at an offset in minutes east of UTC. `Write` is a failure of the output in this call; a first
+/// at an offset in minutes east of UTC. Where stays that nothing has ended were counted up to a
+/// moment, their lines have their span. `Write` is a failure of the output in this call; a first
 /// part of the text was written then.
 pub fn print_last<O: Output>(
     alloc: Global,
@@ -125,19 +156,20 @@ pub fn print_last<O: Output>(
     first: Option<i32>,
     offset: i32,
     out: &mut O,
+    until: Option<i32>,
 ) -> Result<(), PrintFault>
     requires failures { O.failures out.old < 2 ^ 64 - 1 }
     requires offset_in_range { IsOffset offset }
     ensures prefix { IsTrue (O.tells out.old)
-        → AppendsPrefix (O.written out.old) (O.written out.new) (last_text rows.now first offset) }
+        → AppendsPrefix (O.written out.old) (O.written out.new) (last_text rows.now first offset until) }
     ensures ok { OnOk result (IsTrue (O.tells out.old)
-        → O.written out.new ≡ O.written out.old ++ last_text rows.now first offset) }
+        → O.written out.new ≡ O.written out.old ++ last_text rows.now first offset until) }
     ensures counts { O.failures out.new ≡ O.failures out.old + failed_calls result }
     ensures stays { O.tells out.new ≡ O.tells out.old }
 {
     let mut page = new_page(alloc)?;
     for row in rows {
-        push_stay(&mut page, row, offset)?;
+        push_stay(&mut page, row, offset, until)?;
         turn_page(&mut page, out)?;
     }
     push_beginning(&mut page, first, offset)?;

@@ -19,17 +19,15 @@ first_or_length p xs =
 pub first_or_length-le : (p : ℕ → Bool) (xs : List ℕ) → unwrap_or (position p xs) (length xs) ≤ length xs
 first_or_length-le p xs = subst (λ (n : ℕ). n ≤ length xs) (sym (first_or_length p xs)) (prefix_len-le-length _ xs)
 
--- what stands before the first NUL, and then zeros
-pub text_of_is : (field : List ℕ) (end : ℕ) → end ≡ position_or_len (λ b. b == 0) field → end ≤ length field → take end field ++ drop end (replicate (length field) 0) ≡ text_of field
+-- what stands before the first NUL, and then zeros up to n bytes
+pub text_of_is : (n : ℕ) (field : List ℕ) (end : ℕ) → end ≡ position_or_len (λ b. b == 0) field → end ≤ length field → take end field ++ drop end (replicate n 0) ≡ text_of n field
 unfolding text_of
-text_of_is field end e within =
-    let n : length (take end field) ≡ end = length-take-le end field within in
-    ap (λ (zs : List ℕ). take end field ++ zs) (drop-replicate end (length field) 0)
-    ∙ ap (λ (k : ℕ). take end field ++ replicate (length field - k) 0) (sym n)
-    ∙ ap (λ (k : ℕ). padded (length field) (take k field)) e
+text_of_is n field end e within =
+    let len : length (take end field) ≡ end = length-take-le end field within in
+    ap (λ (zs : List ℕ). take end field ++ zs) (drop-replicate end n 0)
+    ∙ ap (λ (k : ℕ). take end field ++ replicate (n - k) 0) (sym len)
+    ∙ ap (λ (k : ℕ). padded n (take k field)) e
 
--- a field's end, where it has n bytes
-pub text_end : (field : List ℕ) (n end : ℕ) → length field ≡ n → end ≡ unwrap_or (position (λ b. b == 0) field) n → (end ≡ position_or_len (λ b. b == 0) field) × (end ≤ length field)
-text_end field n end len e =
-    let is : end ≡ unwrap_or (position (λ b. b == 0) field) (length field) = e ∙ ap (λ (k : ℕ). unwrap_or (position (λ b. b == 0) field) k) (sym len) in
-    (is ∙ first_or_length _ field, subst (λ (k : ℕ). k ≤ length field) (sym is) (first_or_length-le _ field))
+-- where a field ends
+pub text_end : (field : List ℕ) (end : ℕ) → end ≡ unwrap_or (position (λ b. b == 0) field) (length field) → (end ≡ position_or_len (λ b. b == 0) field) × (end ≤ length field)
+text_end field end e = (e ∙ first_or_length _ field, subst (λ (k : ℕ). k ≤ length field) (sym e) (first_or_length-le _ field))

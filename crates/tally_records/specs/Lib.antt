@@ -1,5 +1,6 @@
 pub mod Compressed
 pub mod Decoding
+pub mod Elapsed
 pub mod Event
 pub mod Items
 pub mod LoginRecord

@@ -24,7 +24,7 @@ pub enum RecordFault {
     /// The type of a login record, `ut_type` of utmp(5), is outside 0 to 9.
     #[error("login type {0}")]
     LoginType(i16),
-    /// The version of a process record, `ac_version` of acct(5), is not 2.
+    /// The version of a process record, `ac_version` of acct(5), is neither 2 nor 3.
     #[error("accounting version {0}")]
     ProcVersion(u8),
 }

@@ -1,4 +1,4 @@
-ghost use Rattle.std.specs.Prelude.{◌≡◌, ◌==◌, length, position};
+ghost use Rattle.std.specs.Prelude.{◌≡◌, ◌≤◌, ◌==◌, length, position};
 ghost use Rattle.tally_records.specs.Text.{text_of};
 
 /// A line or a user, `ut_line` and `ut_user` of utmp(5): the text's bytes, then zeros.
@@ -19,10 +19,10 @@ fn first_nul(field: &[u8]) -> Option<usize>
 
 /// The text of a field, which ends at its first NUL or fills the field.
 pub(crate) fn text<const N: usize>(field: &[u8]) -> [u8; N]
-    requires { length field.now ≡ N }
-    ensures { result ≡ text_of field.now }
+    requires { length field.now ≤ N }
+    ensures { result ≡ text_of N field.now }
 {
-    let end = first_nul(field).unwrap_or(N);
+    let end = first_nul(field).unwrap_or(field.len());
     let mut kept = [0; N];
     kept[..end].copy_from_slice(&field[..end]);
     kept

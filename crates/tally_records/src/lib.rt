@@ -3,6 +3,7 @@
 
 mod batch;
 mod compressed;
+mod elapsed;
 mod fault;
 mod field;
 mod laws;

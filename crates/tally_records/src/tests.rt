@@ -73,6 +73,17 @@ fn a_type_outside_zero_to_nine_is_refused(rt: HostRuntime) {
     assert_eq!(rt; read_login(&bytes), Err(RecordFault::LoginType(-1)));
 }
 
+/// The record of `proc_record(2)` as version 3 has it, with this `ac_etime`.
+fn version_3_record(elapsed: u32) -> [u8; 64] {
+    let mut bytes = [0; 64];
+    bytes[1] = 3;
+    put(&mut bytes, 8, &[0xe8, 3]);
+    put(&mut bytes, 28, &elapsed.to_le_bytes());
+    put(&mut bytes, 32, &[0x78, 0, 0x3c, 0, 0xf4, 1, 0xe8, 3]);
+    put(&mut bytes, 48, b"make");
+    bytes
+}
+
 #[test]
 fn a_process_record_is_read_by_its_offsets(rt: HostRuntime) -> Result<(), Fail> {
     let found = read_proc(&proc_record(2))?;
@@ -80,13 +91,50 @@ fn a_process_record_is_read_by_its_offsets(rt: HostRuntime) -> Result<(), Fail> 
     assert_eq!(rt; ticks, (120, 60, 600));
     assert_eq!(rt; (found.mem, found.io, found.uid), (500, 1000, 1000));
     assert_eq!(rt; found.comm, *b"make\0\0\0\0\0\0\0\0\0\0\0\0\0");
+    assert_eq!(rt;
+        read_proc(&version_3_record(0x4416_0000))?,
+        found,
+        "version 3"
+    );
+    Ok(())
+}
+
+#[test]
+fn each_word_of_elapsed_time_has_its_ticks(rt: HostRuntime) -> Result<(), Fail> {
+    let cases = [
+        (0x0000_0000, 0),
+        (0x3F00_0000, 0),
+        (0x3F80_0000, 1),
+        (0x3FC0_0000, 1),
+        (0x4416_0000, 600),
+        (0x5F7F_FFFF, 18_446_742_974_197_923_840),
+        (0x5F80_0000, u64::MAX),
+        (0x7FC0_0000, u64::MAX),
+        (0x0000_0001, 0),
+        (0x8000_0000, 0),
+        (0xBF80_0000, 0),
+    ];
+    for (word, ticks) in cases {
+        let found = read_proc(&version_3_record(word))?;
+        assert_eq!(rt; found.real_ticks, ticks, "at {word}");
+    }
+    Ok(())
+}
+
+#[test]
+fn a_name_of_sixteen_bytes_ends_in_a_zero(rt: HostRuntime) -> Result<(), Fail> {
+    let mut bytes = version_3_record(0);
+    put(&mut bytes, 48, b"sixteen-letters!");
+    assert_eq!(rt; read_proc(&bytes)?.comm, *b"sixteen-letters!\0");
     Ok(())
 }
 
 #[test]
 fn a_big_endian_process_record_is_refused(rt: HostRuntime) {
-    let big_endian = read_proc(&proc_record(0x82));
-    assert_eq!(rt; big_endian, Err(RecordFault::ProcVersion(130)));
+    for version in [0x82, 0x83, 0, 1, 4] {
+        let found = read_proc(&proc_record(version));
+        assert_eq!(rt; found, Err(RecordFault::ProcVersion(version)));
+    }
 }
 
 #[test]

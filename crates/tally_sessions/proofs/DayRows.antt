@@ -1,5 +1,5 @@
 -- The rows by day, from a table of the days' sums.
-use Rattle.std.proofs.Common.{◌≡◌, ℕ, ◌+◌, ◌<◌, ◌≢◌, ◌⊎◌, inl, inr, List, [], ◌∷◌, ℤ, map, filter, All, refl, ap, arith}
+use Rattle.std.proofs.Common.{◌≡◌, ℕ, ◌+◌, ◌<◌, ◌≢◌, ◌⊎◌, inl, inr, Option, List, [], ◌∷◌, ℤ, map, filter, All, refl, ap, arith}
 use Rattle.std.proofs.lemmas.Bool.{cases_eq}
 use Rattle.std.proofs.lemmas.Bool.Decides.{Decides-int_eq}
 use Rattle.std.proofs.lemmas.Cmp.{int_cmp_total}
@@ -36,11 +36,11 @@ day_counted offset day (s ∷ ss) lt = by (cases_eq (seconds_on offset day s.beg
         let within = day_with_time offset day s.begin s.end_time (omega arith) in
         Member-append_left (days_between offset s.begin s.end_time) (days_of offset ss) day (day_among offset s.begin s.end_time day within.0 within.1)
 
-pub day_rows_are : (offset : ℤ) (entries : List Entry) (sums : List (ℤ × ℕ)) → IsStrictlySortedBy int_cmp (keys_of sums) → ((day : ℤ) → sum_at int_cmp sums day ≡ seconds_of_day offset day (sessions_of entries))
-    → map day_time_of (filter above_zero sums) ≡ day_times offset entries
-day_rows_are offset entries sums up at =
+pub day_rows_are : (offset : ℤ) (entries : List Entry) (until : Option ℤ) (sums : List (ℤ × ℕ)) → IsStrictlySortedBy int_cmp (keys_of sums) → ((day : ℤ) → sum_at int_cmp sums day ≡ seconds_of_day offset day (sessions_of entries until))
+    → map day_time_of (filter above_zero sums) ≡ day_times offset entries until
+day_rows_are offset entries until sums up at =
     rows_are int_cmp_total same_day (λ day n. record { day = day; seconds = n }) (λ (r : DayTime). r.day) (λ (r : DayTime). r.seconds) (λ day n. refl) (λ day n. refl)
-    sums (λ day. seconds_of_day offset day (sessions_of entries)) (days_of offset (sessions_of entries)) up at (λ day lt. day_counted offset day (sessions_of entries) lt)
+    sums (λ day. seconds_of_day offset day (sessions_of entries until)) (days_of offset (sessions_of entries until)) up at (λ day lt. day_counted offset day (sessions_of entries until) lt)
 
 pub day_rows_days : (sums : List (ℤ × ℕ)) → IsStrictlySortedBy int_cmp (keys_of sums) → ((day : ℤ) → 0 < sum_at int_cmp sums day → IsDay day) → All (λ (r : DayTime). IsDay r.day) (map day_time_of (filter above_zero sums))
 day_rows_days sums up days =

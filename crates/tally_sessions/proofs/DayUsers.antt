@@ -1,5 +1,5 @@
 -- Users on days: their order, their sums and their rows.
-use Rattle.std.proofs.Common.{◌≡◌, ℕ, ◌+◌, ◌<◌, ◌≢◌, ◌⊎◌, inl, inr, Bool, true, false, cond, List, [], ◌∷◌, ℤ, map, filter, length, take, get_or, All, refl, sym, ap, subst, ◌∙◌, arith}
+use Rattle.std.proofs.Common.{◌≡◌, ℕ, ◌+◌, ◌<◌, ◌≢◌, ◌⊎◌, inl, inr, Option, Bool, true, false, cond, List, [], ◌∷◌, ℤ, map, filter, length, take, get_or, All, refl, sym, ap, subst, ◌∙◌, arith}
 use Rattle.std.proofs.lemmas.Bool.{cases_eq}
 use Rattle.std.proofs.lemmas.Bool.Decides.{Decides-int_eq}
 use Rattle.std.proofs.lemmas.Cmp.{int_cmp_total, nat_list_cmp_total, on_total, then_total}
@@ -103,11 +103,11 @@ row k n = record { day = k.day; user = k.user; seconds = n }
 abbrev key : DayUserTime → DayUser
 key r = record { day = r.day; user = r.user }
 
-pub day_user_rows_are : (offset : ℤ) (entries : List Entry) (sums : List (DayUser × ℕ)) → IsStrictlySortedBy day_user_cmp (keys_of sums) → ((k : DayUser) → sum_at day_user_cmp sums k ≡ seconds_of_day_user offset k.day k.user (sessions_of entries))
-    → map day_user_time_of (filter above_zero sums) ≡ day_user_times offset entries
-day_user_rows_are offset entries sums up at =
+pub day_user_rows_are : (offset : ℤ) (entries : List Entry) (until : Option ℤ) (sums : List (DayUser × ℕ)) → IsStrictlySortedBy day_user_cmp (keys_of sums) → ((k : DayUser) → sum_at day_user_cmp sums k ≡ seconds_of_day_user offset k.day k.user (sessions_of entries until))
+    → map day_user_time_of (filter above_zero sums) ≡ day_user_times offset entries until
+day_user_rows_are offset entries until sums up at =
     rows_are day_user_total same_day_user row key (λ (r : DayUserTime). r.seconds) (λ k n. refl) (λ k n. refl)
-    sums (λ (k : DayUser). seconds_of_day_user offset k.day k.user (sessions_of entries)) (day_users_of offset (sessions_of entries)) up at (λ k lt. day_user_counted offset k (sessions_of entries) lt)
+    sums (λ (k : DayUser). seconds_of_day_user offset k.day k.user (sessions_of entries until)) (day_users_of offset (sessions_of entries until)) up at (λ k lt. day_user_counted offset k (sessions_of entries until) lt)
 
 pub day_user_rows_days : (sums : List (DayUser × ℕ)) → IsStrictlySortedBy day_user_cmp (keys_of sums) → ((k : DayUser) → 0 < sum_at day_user_cmp sums k → IsDay k.day) → All (λ (r : DayUserTime). IsDay r.day) (map day_user_time_of (filter above_zero sums))
 day_user_rows_days sums up days =

@@ -1,5 +1,5 @@
 -- The sessions among the stays of a host, and among those of all hosts.
-use Rattle.std.proofs.Common.{◌≡◌, ℕ, ◌+◌, ◌<◌, ◌≤◌, List, [], ◌∷◌, ◌++◌, map, filter, not, length, get_or, take, true, false, cond, ℤ, refl, sym, ap, ◌∙◌, arith}
+use Rattle.std.proofs.Common.{◌≡◌, ℕ, ◌+◌, ◌<◌, ◌≤◌, List, [], ◌∷◌, ◌++◌, map, filter, not, length, get_or, take, true, false, cond, Option, ℤ, refl, sym, ap, ◌∙◌, arith}
 use Rattle.std.proofs.lemmas.Bool.{false≢true}
 use Rattle.std.proofs.lemmas.Grind.{flat_map-append}
 use Rattle.std.proofs.lemmas.List.{take_more, map-append, length-map, append-nil}
@@ -68,11 +68,11 @@ sessions_boot host es now time t other starts = by (event_of (start_of es t)) ot
     by Nothing h starts = absurd (false≢true starts)
 
 -- a record gives one session at most
-pub length-sessions : (host : ℕ) (es : List Entry) → length (sessions_among (stays_of host es)) ≤ length (of_host host es)
-length-sessions host es =
-    let stays = stays_of host es in
+pub length-sessions : (host : ℕ) (es : List Entry) (until : Option ℤ) → length (sessions_among (stays_of host es until)) ≤ length (of_host host es)
+length-sessions host es until =
+    let stays = stays_of host es until in
     let kept : List Stay = filter (λ (s : Stay). not s.is_boot) stays in
-    omega (arith, length-map kept session_of, length-filter (λ (s : Stay). not s.is_boot) stays, count_by-le-length (λ (s : Stay). not s.is_boot) stays, length-stays_from host [] (of_host host es))
+    omega (arith, length-map kept session_of, length-filter (λ (s : Stay). not s.is_boot) stays, count_by-le-length (λ (s : Stay). not s.is_boot) stays, length-stays_from host [] (of_host host es) until)
 
 one_more : (a n : ℕ) → range_with_len a (n + 1) ≡ range_with_len a n ++ (a + n) ∷ []
 one_more a n = same (range_with_len a (n + 1)) ∙ map-range_with_len_more (λ (k : ℕ). k) a n (a + n) refl ∙ ap (λ xs. xs ++ (a + n) ∷ []) (sym (same (range_with_len a n)))

@@ -1,5 +1,5 @@
 -- The stays of a host as they stand now, from its track.
-use Rattle.std.proofs.Common.{◌≡◌, ℕ, ◌+◌, ◌<◌, ◌≤◌, List, [], ◌∷◌, ◌++◌, map, length, get_or, take, drop, reverse, Option, Some, None, ℤ, pos, refl, sym, ap, ◌∙◌, arith}
+use Rattle.std.proofs.Common.{◌≡◌, ℕ, ◌+◌, ◌<◌, ◌≤◌, List, [], ◌∷◌, ◌++◌, map, length, get_or, take, drop, reverse, Option, Some, None, unwrap_or, ℤ, pos, refl, sym, ap, ◌∙◌, arith}
 use Rattle.std.proofs.lemmas.List.{take_all, length-map, at_drop_more, reverse-append, take-append-le, take-append-drop, get_or-map}
 use Rattle.std.proofs.Math.Seq.{take-length}
 use Rattle.tally_sessions.specs.declared.entry.Entry.{Entry}
@@ -29,20 +29,20 @@ map-stay_now host es now time (t ∷ ts) =
     ∙ ap (λ ss. completed host now time (tracked_in host es t) ∷ ss) (map-stay_now host es now time ts)
 
 -- the tracked stays are the stays
-pub stays_now : (host : ℕ) (es : List Entry) (a : Track) → IsTrack host es (length es) a → map (stay_now host es a.clock a.last) a.stays.items ≡ stays_of host es
-stays_now host es a h =
+pub stays_now : (host : ℕ) (es : List Entry) (a : Track) (until : Option ℤ) → IsTrack host es (length es) a → map (stay_now host es a.clock (unwrap_or until a.last)) a.stays.items ≡ stays_of host es until
+stays_now host es a until h =
     let all : of_host host (take (length es) es) ≡ of_host host es = ap (of_host host) (take-length es) in
-    map-stay_now host es a.clock a.last a.stays.items
-    ∙ ap (map (completed host a.clock a.last)) (h.stays ∙ ap (tracked_from host []) all)
-    ∙ ap (λ (z : ℤ). map (completed host z a.last) (tracked_from host [] (of_host host es))) (h.clock ∙ ap clock all)
-    ∙ ap (λ (z : ℤ). map (completed host (clock (of_host host es)) z) (tracked_from host [] (of_host host es))) (h.last ∙ ap (last_time (pos 0)) all)
-    ∙ sym (stays_from-tracked host [] (of_host host es) (pos 0))
+    map-stay_now host es a.clock (unwrap_or until a.last) a.stays.items
+    ∙ ap (map (completed host a.clock (unwrap_or until a.last))) (h.stays ∙ ap (tracked_from host []) all)
+    ∙ ap (λ (z : ℤ). map (completed host z (unwrap_or until a.last)) (tracked_from host [] (of_host host es))) (h.clock ∙ ap clock all)
+    ∙ ap (λ (z : ℤ). map (completed host (clock (of_host host es)) (unwrap_or until z)) (tracked_from host [] (of_host host es))) (h.last ∙ ap (last_time (pos 0)) all)
+    ∙ sym (stays_from-tracked host [] (of_host host es) until (pos 0))
 
 pub count_now : (host : ℕ) (es : List Entry) (a : Track) → IsTrack host es (length es) a → length a.stays.items ≤ length (of_host host es)
 count_now host es a h =
-    let same = ap length (stays_now host es a h) in
+    let same = ap length (stays_now host es a None h) in
     let mapped = length-map a.stays.items (stay_now host es a.clock a.last) in
-    let few = length-stays_from host [] (of_host host es) in omega arith
+    let few = length-stays_from host [] (of_host host es) None in omega arith
 
 -- one stay further back
 pub latest_more : (f : TrackedStay → Stay) (ts : List TrackedStay) (i : ℕ) (t : TrackedStay) (d : Stay) → i < length ts → reverse (drop i (map f ts)) ≡ reverse (drop (i + 1) (map f ts)) ++ f (get_or ts i t) ∷ []

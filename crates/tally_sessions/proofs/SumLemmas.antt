@@ -1,5 +1,5 @@
 -- Sums over sessions, with one session more.
-use Rattle.std.proofs.Common.{◌≡◌, ℕ, ◌+◌, ◌<◌, ◌≤◌, ◌*◌, Bool, true, false, cond, List, [], ◌∷◌, ◌++◌, length, take, get_or, map, filter, ℤ, pos, refl, sym, ap, ◌∙◌, inl, inr, arith}
+use Rattle.std.proofs.Common.{◌≡◌, ℕ, ◌+◌, ◌<◌, ◌≤◌, ◌*◌, Bool, true, false, cond, Option, List, [], ◌∷◌, ◌++◌, length, take, get_or, map, filter, ℤ, pos, refl, sym, ap, ◌∙◌, inl, inr, arith}
 use Rattle.std.proofs.lemmas.List.{take_more}
 use Rattle.std.proofs.lemmas.List.Elements.{filter-append}
 use Rattle.std.proofs.lemmas.List.Sums.{sum_by-append, sum_by-cons, sum_by_push, sum-map}
@@ -70,17 +70,18 @@ seconds_among user (s ∷ stays) = by s.is_boot (seconds_among user stays)
     by false h = by_user (bytes_eq s.user user) _ _ h
 
 -- over all hosts
-seconds_of_hosts : (user : List ℕ) (entries : List Entry) (hosts : List ℕ) → sum_by (λ host. user_seconds user (stays_of host entries)) hosts ≡ seconds_of_user user (flat_map (λ host. sessions_among (stays_of host entries)) hosts)
-seconds_of_hosts user entries [] = refl
-seconds_of_hosts user entries (host ∷ hosts) =
-    sum_by-cons (λ h. user_seconds user (stays_of h entries)) host hosts
-    ∙ ap (λ n. n + sum_by (λ h. user_seconds user (stays_of h entries)) hosts) (seconds_among user (stays_of host entries))
-    ∙ ap (λ n. seconds_of_user user (sessions_among (stays_of host entries)) + n) (seconds_of_hosts user entries hosts)
-    ∙ sym (seconds_of_user-append user (sessions_among (stays_of host entries)) (flat_map (λ h. sessions_among (stays_of h entries)) hosts))
+seconds_of_hosts : (user : List ℕ) (entries : List Entry) (until : Option ℤ) (hosts : List ℕ)
+    → sum_by (λ host. user_seconds user (stays_of host entries until)) hosts ≡ seconds_of_user user (flat_map (λ host. sessions_among (stays_of host entries until)) hosts)
+seconds_of_hosts user entries until [] = refl
+seconds_of_hosts user entries until (host ∷ hosts) =
+    sum_by-cons (λ h. user_seconds user (stays_of h entries until)) host hosts
+    ∙ ap (λ n. n + sum_by (λ h. user_seconds user (stays_of h entries until)) hosts) (seconds_among user (stays_of host entries until))
+    ∙ ap (λ n. seconds_of_user user (sessions_among (stays_of host entries until)) + n) (seconds_of_hosts user entries until hosts)
+    ∙ sym (seconds_of_user-append user (sessions_among (stays_of host entries until)) (flat_map (λ h. sessions_among (stays_of h entries until)) hosts))
 
 -- the connect time of a user is that of its sessions
-pub connect_of-sessions : (user : List ℕ) (entries : List Entry) → connect_of user entries ≡ seconds_of_user user (sessions_of entries)
-connect_of-sessions user entries = sum-map (λ host. user_seconds user (stays_of host entries)) every_host ∙ seconds_of_hosts user entries every_host
+pub connect_of-sessions : (user : List ℕ) (entries : List Entry) (until : Option ℤ) → connect_of user entries until ≡ seconds_of_user user (sessions_of entries until)
+connect_of-sessions user entries until = sum-map (λ host. user_seconds user (stays_of host entries until)) every_host ∙ seconds_of_hosts user entries until every_host
 
 -- a user with connect time has a session
 pub user_of_session : (user : List ℕ) (ss : List Session) → 0 < seconds_of_user user ss → Member user (map (λ (s : Session). s.user) ss)

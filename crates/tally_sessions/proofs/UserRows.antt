@@ -1,5 +1,5 @@
 -- The rows by user, from a table of the users' sums.
-use Rattle.std.proofs.Common.{◌≡◌, ℕ, ◌<◌, List, [], ◌∷◌, map, filter, refl, sym, ap, ◌∙◌, subst}
+use Rattle.std.proofs.Common.{◌≡◌, ℕ, ℤ, ◌<◌, Option, List, [], ◌∷◌, map, filter, refl, sym, ap, ◌∙◌, subst}
 use Rattle.std.proofs.lemmas.Cmp.{nat_list_cmp_total}
 use Rattle.std.proofs.lemmas.Map.Text.{is_eq-slice_cmp}
 use Rattle.std.proofs.lemmas.Slice.Eq.{bytes_eq-Decides}
@@ -23,15 +23,15 @@ use Rattle.tally_sessions.proofs.SumLemmas.{connect_of-sessions, user_of_session
 pub same_user : (a b : List ℕ) → slice_cmp nat_cmp a b ≡ Equal → a ≡ b
 same_user a b e = (bytes_eq-Decides a b).0 (sym (is_eq-slice_cmp a b) ∙ ap is_eq e)
 
-users_of : (ss : List Session) (entries : List Entry) → map (λ (user : List ℕ). user_time entries user) (map (λ (s : Session). s.user) ss) ≡ map (λ (s : Session). user_time entries s.user) ss
-users_of [] entries = refl
-users_of (s ∷ ss) entries = ap (λ rows. user_time entries s.user ∷ rows) (users_of ss entries)
+users_of : (ss : List Session) (entries : List Entry) (until : Option ℤ) → map (λ (user : List ℕ). user_time entries until user) (map (λ (s : Session). s.user) ss) ≡ map (λ (s : Session). user_time entries until s.user) ss
+users_of [] entries until = refl
+users_of (s ∷ ss) entries until = ap (λ rows. user_time entries until s.user ∷ rows) (users_of ss entries until)
 
-pub user_rows_are : (entries : List Entry) (sums : List (List ℕ × ℕ)) → IsStrictlySortedBy (slice_cmp nat_cmp) (keys_of sums) → ((user : List ℕ) → sum_at (slice_cmp nat_cmp) sums user ≡ seconds_of_user user (sessions_of entries))
-    → map user_time_of (filter above_zero sums) ≡ user_times entries
-user_rows_are entries sums up at =
+pub user_rows_are : (entries : List Entry) (until : Option ℤ) (sums : List (List ℕ × ℕ)) → IsStrictlySortedBy (slice_cmp nat_cmp) (keys_of sums) → ((user : List ℕ) → sum_at (slice_cmp nat_cmp) sums user ≡ seconds_of_user user (sessions_of entries until))
+    → map user_time_of (filter above_zero sums) ≡ user_times entries until
+user_rows_are entries until sums up at =
     rows_are nat_list_cmp_total same_user (λ user n. record { user = user; seconds = n }) (λ (r : UserTime). r.user) (λ (r : UserTime). r.seconds) (λ user n. refl) (λ user n. refl)
-    sums (λ user. connect_of user entries) (map (λ (s : Session). s.user) (sessions_of entries)) up
-    (λ user. at user ∙ sym (connect_of-sessions user entries))
-    (λ user lt. user_of_session user (sessions_of entries) (subst (λ n. 0 < n) (connect_of-sessions user entries) lt))
-    ∙ ap (λ rows. in_order user_time_cmp (filter (λ (r : UserTime). nat_lt 0 r.seconds) rows)) (users_of (sessions_of entries) entries)
+    sums (λ user. connect_of user entries until) (map (λ (s : Session). s.user) (sessions_of entries until)) up
+    (λ user. at user ∙ sym (connect_of-sessions user entries until))
+    (λ user lt. user_of_session user (sessions_of entries until) (subst (λ n. 0 < n) (connect_of-sessions user entries until) lt))
+    ∙ ap (λ rows. in_order user_time_cmp (filter (λ (r : UserTime). nat_lt 0 r.seconds) rows)) (users_of (sessions_of entries until) entries until)

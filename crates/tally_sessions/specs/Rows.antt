@@ -1,5 +1,5 @@
 -- Rows of connect time: each user, day, or user on a day whose time is above 0, once, by day and then by name bytes.
-use Rattle.std.specs.Prelude.{ℕ, ℤ, Bool, List, map, filter, nat_lt}
+use Rattle.std.specs.Prelude.{ℕ, ℤ, Bool, List, Option, map, filter, nat_lt}
 use Rattle.std.specs.Cmp.Lexicographic.{slice_cmp}
 use Rattle.std.specs.List.{flat_map}
 use Rattle.std.specs.Ordering.{int_cmp, nat_cmp, ordering_then}
@@ -20,44 +20,44 @@ abbrev pub user_time_cmp : UserTime → UserTime → Ordering
 user_time_cmp a b = slice_cmp nat_cmp a.user b.user
 
 -- the row of a user
-abbrev pub user_time : List Entry → List ℕ → UserTime
-user_time entries user = record { user = user; seconds = connect_of user entries }
+abbrev pub user_time : List Entry → Option ℤ → List ℕ → UserTime
+user_time entries until user = record { user = user; seconds = connect_of user entries until }
 
 -- the rows of all users with connect time
-abbrev pub user_times : List Entry → List UserTime
-user_times entries = in_order user_time_cmp (filter (λ row. nat_lt 0 row.seconds) (map (λ s. user_time entries s.user) (sessions_of entries)))
+abbrev pub user_times : List Entry → Option ℤ → List UserTime
+user_times entries until = in_order user_time_cmp (filter (λ row. nat_lt 0 row.seconds) (map (λ s. user_time entries until s.user) (sessions_of entries until)))
 
 -- by the day
 abbrev pub day_time_cmp : DayTime → DayTime → Ordering
 day_time_cmp a b = int_cmp a.day b.day
 
 -- the row of a day
-abbrev pub day_time : ℤ → List Entry → ℤ → DayTime
-day_time offset entries day = record { day = day; seconds = seconds_of_day offset day (sessions_of entries) }
+abbrev pub day_time : ℤ → List Entry → Option ℤ → ℤ → DayTime
+day_time offset entries until day = record { day = day; seconds = seconds_of_day offset day (sessions_of entries until) }
 
 -- the days of all sessions
 abbrev pub days_of : ℤ → List Session → List ℤ
 days_of offset sessions = flat_map (λ s. days_between offset s.begin s.end_time) sessions
 
 -- the rows of all days with connect time
-abbrev pub day_times : ℤ → List Entry → List DayTime
-day_times offset entries = in_order day_time_cmp (filter (λ row. nat_lt 0 row.seconds) (map (day_time offset entries) (days_of offset (sessions_of entries))))
+abbrev pub day_times : ℤ → List Entry → Option ℤ → List DayTime
+day_times offset entries until = in_order day_time_cmp (filter (λ row. nat_lt 0 row.seconds) (map (day_time offset entries until) (days_of offset (sessions_of entries until))))
 
 -- by the day, and then by the name's bytes
 abbrev pub day_user_time_cmp : DayUserTime → DayUserTime → Ordering
 day_user_time_cmp a b = ordering_then (int_cmp a.day b.day) (slice_cmp nat_cmp a.user b.user)
 
 -- the row of a user on a day
-abbrev pub day_user_time : ℤ → List Entry → DayUser → DayUserTime
-day_user_time offset entries k = record { day = k.day; user = k.user; seconds = seconds_of_day_user offset k.day k.user (sessions_of entries) }
+abbrev pub day_user_time : ℤ → List Entry → Option ℤ → DayUser → DayUserTime
+day_user_time offset entries until k = record { day = k.day; user = k.user; seconds = seconds_of_day_user offset k.day k.user (sessions_of entries until) }
 
 -- the users of all sessions, on each of their days
 abbrev pub day_users_of : ℤ → List Session → List DayUser
 day_users_of offset sessions = flat_map (λ s. map (λ day. record { day = day; user = s.user }) (days_between offset s.begin s.end_time)) sessions
 
 -- the rows of all users on all days with connect time
-abbrev pub day_user_times : ℤ → List Entry → List DayUserTime
-day_user_times offset entries = in_order day_user_time_cmp (filter (λ row. nat_lt 0 row.seconds) (map (day_user_time offset entries) (day_users_of offset (sessions_of entries))))
+abbrev pub day_user_times : ℤ → List Entry → Option ℤ → List DayUserTime
+day_user_times offset entries until = in_order day_user_time_cmp (filter (λ row. nat_lt 0 row.seconds) (map (day_user_time offset entries until) (day_users_of offset (sessions_of entries until))))
 
 -- a sum of seconds is above 0
 abbrev pub above_zero : {K : Type 0} → K × ℕ → Bool

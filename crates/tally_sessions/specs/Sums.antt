@@ -1,5 +1,5 @@
 -- Sessions, and sums of seconds over them.
-use Rattle.std.specs.Prelude.{ℕ, ℤ, List, map, filter, sum_by, bytes_eq, not, unwrap_or}
+use Rattle.std.specs.Prelude.{ℕ, ℤ, List, Option, map, filter, sum_by, bytes_eq, not, unwrap_or}
 use Rattle.std.specs.List.{flat_map}
 use Rattle.std.specs.Map.{lookup}
 use Rattle.std.specs.Cmp.Lexicographic.{slice_cmp}
@@ -21,8 +21,8 @@ abbrev pub sessions_among : List Stay → List Session
 sessions_among stays = map session_of (filter (λ s. not s.is_boot) stays)
 
 -- the sessions of all hosts
-abbrev pub sessions_of : List Entry → List Session
-sessions_of entries = flat_map (λ host. sessions_among (stays_of host entries)) every_host
+abbrev pub sessions_of : List Entry → Option ℤ → List Session
+sessions_of entries until = flat_map (λ host. sessions_among (stays_of host entries until)) every_host
 
 -- the lengths of a user's sessions
 abbrev pub seconds_of_user : List ℕ → List Session → ℕ

@@ -181,7 +181,7 @@ pub record HasRoom (k : ℕ) (track : Track) : Type 0 where
 abbrev pub AreOf : ℕ → List Entry → ℕ → Type 0
 AreOf host es n = (k : ℕ) → n ≤ k → k < length es → (entry_at es k).host ≡ host
 
--- the end so far of a stay that is pending
+-- the end so far of a stay that is pending, counted to this time
 abbrev pub still_of : LoginRecord → ℤ → ℤ → Ending
 still_of r sum time = record {
   begin = clamped (r.time +ℤ sum);
@@ -190,7 +190,7 @@ still_of r sum time = record {
   length = seconds_between (clamped (r.time +ℤ sum)) time;
 }
 
--- a tracked stay as it stands while the clock has moved so far and this is the last time
+-- a tracked stay as it stands while the clock has moved so far, counted to this time
 abbrev pub ending_now : List Entry → ℤ → ℤ → TrackedStay → Ending
 ending_now es now time t = unwrap_or t.ended (still_of (start_of es t) (now -ℤ t.clock_at) time)
 

@@ -48,7 +48,7 @@ pub record Tracked : Type 0 where
 -- the stay of a record, once this record has ended it
 abbrev pub ended_of : ℕ → List LoginRecord → LoginRecord → List LoginRecord → Option LoginRecord → Option Stay
 ended_of host before r after None = None
-ended_of host before r after (Some _) = Some (stay_of host before r after)
+ended_of host before r after (Some _) = Some (stay_of host before r after None)
 
 -- what is kept of the stay of a record
 abbrev pub tracked_of : ℕ → List LoginRecord → LoginRecord → List LoginRecord → Tracked
@@ -78,11 +78,11 @@ advanced host now x t = advance_if host now x t t.ended
 abbrev pub fresh : List LoginRecord → LoginRecord → List Tracked
 fresh before x = cond (starts_stay (event_of x)) (record { start = x; clock_at = clock (before ++ x ∷ []); ended = None } ∷ []) []
 
--- the stay of what is kept, where the clock and the last time are these
+-- the stay of what is kept, where the clock has moved so far and this is the time to count to
 abbrev pub completed_if : ℕ → ℤ → ℤ → Tracked → Option Stay → Stay
 completed_if host now time t (Some s) = s
 completed_if host now time t None = closed host t.start (now -ℤ t.clock_at) ends.Still time
 
--- the stay of what is kept, where the clock and the last time are these
+-- the stay of what is kept, where the clock has moved so far and this is the time to count to
 abbrev pub completed : ℕ → ℤ → ℤ → Tracked → Stay
 completed host now time t = completed_if host now time t t.ended

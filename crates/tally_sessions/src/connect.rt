@@ -64,50 +64,62 @@ fn day_user_rows(
 
 impl Sessions {
     /// The sessions of all hosts.
-    fn sessions(&self, alloc: Global) -> Result<Vec<Session>, Memory>
-        ensures value { IfOk result (λ found. found.items ≡ sessions_of self.now.entries) }
+    fn sessions(&self, alloc: Global, until: Option<i32>) -> Result<Vec<Session>, Memory>
+        ensures value { IfOk result (λ found. found.items ≡ sessions_of self.now.entries until) }
         ensures few { IfOk result (λ found. vec_len found ≤ ENTRY_LIMIT) }
     {
         let entries = self.entries();
         let mut found = Vec::new(alloc);
         for host in 0..HOST_LIMIT {
-            self.tracks[host as usize].push_sessions(host, entries, &mut found)?;
+            self.tracks[host as usize].push_sessions(host, entries, &mut found, until)?;
         }
         Ok(found)
     }
 
-    /// The connect time of each user that has any, in order of name bytes.
-    pub fn connect_by_user(&self, alloc: Global) -> Result<List<UserTime>, Memory>
-        ensures { IfOk result (λ rows. rows ≡ user_times self.now.entries) }
+    /// The connect time of each user that has any, in order of name bytes. Sessions that nothing has
+    /// ended count up to a moment, in seconds since 1970, or else to their host's last record.
+    pub fn connect_by_user(
+        &self,
+        alloc: Global,
+        until: Option<i32>,
+    ) -> Result<List<UserTime>, Memory>
+        ensures { IfOk result (λ rows. rows ≡ user_times self.now.entries until) }
     {
-        let sessions = self.sessions(alloc)?;
+        let sessions = self.sessions(alloc, until)?;
         let sums = user_sums(alloc, &sessions)?;
         Ok(List::from_vec(user_rows(alloc, &sums)?))
     }
 
     /// The connect time of each day that has any, in order, at an offset in minutes east of UTC.
-    pub fn connect_by_day(&self, alloc: Global, offset: i32) -> Result<List<DayTime>, Memory>
+    /// Sessions that nothing has ended count as by user.
+    pub fn connect_by_day(
+        &self,
+        alloc: Global,
+        offset: i32,
+        until: Option<i32>,
+    ) -> Result<List<DayTime>, Memory>
         requires { IsOffset offset }
-        ensures value { IfOk result (λ rows. rows ≡ day_times offset self.now.entries) }
+        ensures value { IfOk result (λ rows. rows ≡ day_times offset self.now.entries until) }
         ensures days { IfOk result (All (λ row. IsDay row.day)) }
     {
-        let sessions = self.sessions(alloc)?;
+        let sessions = self.sessions(alloc, until)?;
         let sums = day_sums(alloc, offset, &sessions)?;
         Ok(List::from_vec(day_rows(alloc, &sums)?))
     }
 
     /// The connect time of each user on each day, where there is any, by day and then by name
-    /// bytes, at an offset in minutes east of UTC.
+    /// bytes, at an offset in minutes east of UTC. Sessions that nothing has ended count as by user.
     pub fn connect_by_day_user(
         &self,
         alloc: Global,
         offset: i32,
+        until: Option<i32>,
     ) -> Result<List<DayUserTime>, Memory>
         requires { IsOffset offset }
-        ensures value { IfOk result (λ rows. rows ≡ day_user_times offset self.now.entries) }
+        ensures value { IfOk result (λ rows. rows ≡ day_user_times offset self.now.entries until) }
         ensures days { IfOk result (All (λ row. IsDay row.day)) }
     {
-        let sessions = self.sessions(alloc)?;
+        let sessions = self.sessions(alloc, until)?;
         let sums = day_user_sums(alloc, offset, &sessions)?;
         Ok(List::from_vec(day_user_rows(alloc, &sums)?))
     }

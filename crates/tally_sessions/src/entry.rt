@@ -37,6 +37,7 @@ pub struct Stay {
     /// The start by the clock of the end: clock changes during the stay have moved it.
     pub begin: i32,
     pub end: End,
+    /// The time of the record that ended it; where nothing has, up to when it is counted.
     pub end_time: i32,
     /// Seconds from `begin` to `end_time`, or none where the end comes first.
     pub length: u64,

@@ -29,3 +29,5 @@ mod scan;
 mod scripts;
 #[cfg(test)]
 mod tests;
+#[cfg(test)]
+mod until_tests;

@@ -72,15 +72,15 @@ pub(crate) fn drawn(alloc: Global, numbers: &mut Numbers) -> Result<Sessions, Fa
 }
 
 /// Whether the stays of each host, and the total, are those of the scan.
-pub(crate) fn agrees(alloc: Global, sessions: &Sessions) -> Result<bool, Fail>
+pub(crate) fn agrees(alloc: Global, sessions: &Sessions, until: Option<i32>) -> Result<bool, Fail>
     requires { sessions.now.hosts ≡ 3 }
 {
     for host in 0..3 {
-        let found = sessions.stays(alloc, host, None)?;
-        let wanted = scan::stays(alloc, sessions.entries(), host)?;
+        let found = sessions.stays(alloc, host, None, until)?;
+        let wanted = scan::stays(alloc, sessions.entries(), host, until)?;
         if found.as_slice() != wanted.as_slice() {
             return Ok(false);
         }
     }
-    Ok(sessions.total() == scan::total(sessions.entries()))
+    Ok(sessions.total(until) == scan::total(sessions.entries(), until))
 }

@@ -43,8 +43,8 @@ fn shift(before: &[Entry], entry: &Entry) -> i64 {
     0
 }
 
-/// The stay that the entry at a place starts.
-fn stay_at(entries: &[Entry], at: usize) -> Stay
+/// The stay that the entry at a place starts, counted until a moment while nothing has ended it.
+fn stay_at(entries: &[Entry], at: usize, until: Option<i32>) -> Stay
     requires { at < length entries.now }
 {
     let start = &entries[at];
@@ -60,6 +60,9 @@ fn stay_at(entries: &[Entry], at: usize) -> Stay
                 end = end_at(event(&later.item));
             }
         }
+    }
+    if let (End::Still, Some(moment)) = (end, until) {
+        end_time = moment;
     }
     let highest = i64::from(i32::MAX);
     let lowest = i64::from(i32::MIN);
@@ -81,25 +84,30 @@ fn stay_at(entries: &[Entry], at: usize) -> Stay
 }
 
 /// The stays of a host, that of the latest record first.
-pub(crate) fn stays(alloc: Global, entries: &[Entry], host: u32) -> Result<Vec<Stay>, Memory> {
+pub(crate) fn stays(
+    alloc: Global,
+    entries: &[Entry],
+    host: u32,
+    until: Option<i32>,
+) -> Result<Vec<Stay>, Memory> {
     let mut found = Vec::new(alloc);
     for i in 0..entries.len() {
         let at = entries.len() - 1 - i;
         if entries[at].host == host
             && matches!(event(&entries[at].item), Event::Login | Event::Boot)
         {
-            found.push(stay_at(entries, at))?;
+            found.push(stay_at(entries, at, until))?;
         }
     }
     Ok(found)
 }
 
 /// The lengths of the sessions of all hosts.
-pub(crate) fn total(entries: &[Entry]) -> u64 {
+pub(crate) fn total(entries: &[Entry], until: Option<i32>) -> u64 {
     let mut total = 0u64;
     for (at, entry) in entries.iter().enumerate() {
         if event(&entry.item) == Event::Login {
-            total = total.saturating_add(stay_at(entries, at).length);
+            total = total.saturating_add(stay_at(entries, at, until).length);
         }
     }
     total

@@ -102,6 +102,7 @@ pub(crate) const TOTAL: Question = Question::Connect {
     by_day: false,
     by_user: false,
     offset: 0,
+    until: None,
 };
 
 /// The command groups, by processor time.
@@ -119,6 +120,7 @@ fn ask_of_nobody<R: Print + AllocGlobal>(rt: &R, book: &mut Book) -> Result<(), 
     let question = Question::Last {
         host: 2,
         limit: None,
+        until: None,
     };
     match book.ask(rt.alloc(), 1, &question) {
         Err(AskFault::NoSuchHost(host)) => {

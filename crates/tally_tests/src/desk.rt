@@ -103,6 +103,7 @@ fn ask_of_nobody<R: Print + AllocGlobal + Wait>(
     let question = Question::Last {
         host: 2,
         limit: None,
+        until: None,
     };
     match desk.ask(rt, rt.alloc(), pass, &question) {
         Err(AskFault::NoSuchHost(host)) => {

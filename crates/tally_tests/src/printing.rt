@@ -26,11 +26,11 @@ fn text(alloc: Global, answer: &Answer) -> Result<Watched, Stopped>
     requires { HasDays answer.now }
 {
     let mut first = Watched::new(alloc);
-    let Err(fault) = print_answer(alloc, answer, 0, &mut first) else {
+    let Err(fault) = print_answer(alloc, answer, 0, &mut first, None) else {
         return Ok(first);
     };
     let mut second = Watched::new(alloc);
-    print_answer(alloc, answer, 0, &mut second)?;
+    print_answer(alloc, answer, 0, &mut second, None)?;
     if (fault == PrintFault::Write) != first.failed {
         return Err(Stopped::Changed("a fault of the output"));
     }

@@ -11,24 +11,28 @@ use tally_usage::Order;
 const LAST: Question = Question::Last {
     host: 0,
     limit: Some(1),
+    until: None,
 };
 
 const USERS: Question = Question::Connect {
     by_day: false,
     by_user: true,
     offset: 0,
+    until: None,
 };
 
 const DAYS: Question = Question::Connect {
     by_day: true,
     by_user: false,
     offset: 0,
+    until: None,
 };
 
 const USERS_BY_DAY: Question = Question::Connect {
     by_day: true,
     by_user: true,
     offset: 0,
+    until: None,
 };
 
 const ALL_COMMANDS: Question = Question::Commands {
@@ -45,6 +49,7 @@ const UIDS: Question = Question::Users {
 const ALL_STAYS: Question = Question::Last {
     host: 0,
     limit: None,
+    until: None,
 };
 
 /// A running time that a shutdown ends, with a session in it, and one that has not ended.

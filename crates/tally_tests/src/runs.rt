@@ -19,6 +19,7 @@ const JOB: Job = Job {
     feeders: 2,
     askers: 1,
     offset: 0,
+    until: None,
 };
 
 /// A file of two blocks: a login, 1,023 records that are no event, and the logout at the second.

@@ -39,8 +39,8 @@ pub(crate) fn seen_of(sessions: &Sessions) -> Seen
 {
     Seen {
         entries: sessions.entries().len(),
-        total: sessions.total(),
-        of_ann: sessions.connect(&name("ann")),
+        total: sessions.total(None),
+        of_ann: sessions.connect(&name("ann"), None),
         first: sessions.first(1),
     }
 }
@@ -51,11 +51,11 @@ fn ask_all(alloc: Global, sessions: &Sessions) -> Result<Answers, Memory>
     Ok(Answers {
         seen: seen_of(sessions),
         entries: Vec::from_slice(alloc, sessions.entries())?,
-        of_first_host: sessions.stays(alloc, 0, None)?,
-        of_second_host: sessions.stays(alloc, 1, None)?,
-        by_user: sessions.connect_by_user(alloc)?,
-        by_day: sessions.connect_by_day(alloc, 0)?,
-        by_both: sessions.connect_by_day_user(alloc, 0)?,
+        of_first_host: sessions.stays(alloc, 0, None, None)?,
+        of_second_host: sessions.stays(alloc, 1, None, None)?,
+        by_user: sessions.connect_by_user(alloc, None)?,
+        by_day: sessions.connect_by_day(alloc, 0, None)?,
+        by_both: sessions.connect_by_day_user(alloc, 0, None)?,
     })
 }
 

@@ -6,3 +6,4 @@ pub mod SummaryLemmas
 pub mod TotalsLemmas
 pub mod UsageLemmas
 pub mod UserLemmas
+pub mod WorkedRows

@@ -8,9 +8,21 @@ use tally_sessions::{End, Stay};
 /// Asserts that the stays of host 0 print this text.
 /// Where a growth is refused, the second try prints it.
 fn expect_last(rt: &impl Abort, alloc: Global, rows: &[Stay], first: Option<i32>, text: &[u8]) {
+    expect_until(rt, alloc, rows, first, None, text);
+}
+
+/// The same, with stays that nothing has ended counted up to a moment.
+fn expect_until(
+    rt: &impl Abort,
+    alloc: Global,
+    rows: &[Stay],
+    first: Option<i32>,
+    until: Option<i32>,
+    text: &[u8],
+) {
     for _ in 0..2 {
         let mut out = Kept::new(alloc);
-        let printed = print_last(alloc, rows, first, 0, &mut out);
+        let printed = print_last(alloc, rows, first, 0, &mut out, until);
         if is_printed(rt, printed, &out, text) {
             return;
         }
@@ -58,6 +70,23 @@ wtmp begins 1970-01-01 00:01:40
 }
 
 #[test]
+fn open_stays_have_a_span_up_to_a_moment(rt: HostRuntime) {
+    let rows = [
+        login(b"ann", 1100, End::Still, 5000, 3900),
+        boot(1000, End::Still, 5000, 4000),
+        login(b"ann", 200, End::Down, 1000, 800),
+    ];
+    let text = b"\
+ann      tty1                          1970-01-01 00:18:20 - still logged in     (01:05)
+reboot   system boot                   1970-01-01 00:16:40 - still running       (01:06)
+ann      tty1                          1970-01-01 00:03:20 - down                (00:13)
+
+wtmp begins 1970-01-01 00:03:20
+";
+    expect_until(&rt, rt.alloc(), &rows, Some(200), Some(5000), text);
+}
+
+#[test]
 fn a_span_over_a_day_tells_the_days(rt: HostRuntime) {
     let rows = [
         login(b"ann", 0, End::Next, 90_061, 90_061),
@@ -93,7 +122,7 @@ fn an_offset_moves_dates_to_the_ends_of_time(rt: HostRuntime) {
         (i32::MAX, 1439, b"\nwtmp begins 2038-01-20 03:13:07\n"),
     ] {
         let mut out = Kept::new(rt.alloc());
-        let printed = print_last(rt.alloc(), &[], Some(first), offset, &mut out);
+        let printed = print_last(rt.alloc(), &[], Some(first), offset, &mut out, None);
         assert!(rt; printed.is_err() || out.bytes() == text.as_slice());
     }
 }

@@ -78,7 +78,7 @@ fn print_narrow(
         room,
         failures: 0,
     };
-    let printed = print_last(alloc, rows, Some(100), 0, &mut out);
+    let printed = print_last(alloc, rows, Some(100), 0, &mut out, None);
     let count = room.min(BOOTS.len());
     assert!(rt; out.bytes.as_slice() == BOOTS.split_at(count).0);
     assert!(rt; out.failures == if printed.is_ok() { 0 } else { 1 });
@@ -131,7 +131,7 @@ fn the_writer_is_flushed_at_the_end(rt: HostRuntime) {
 fn any_writer_takes_the_text(rt: HostRuntime) -> Result<(), Fail> {
     let mut held = Vec::new(rt.alloc());
     let mut out = Writing::new(&mut held);
-    print_last(rt.alloc(), &boots(), Some(100), 0, &mut out)?;
+    print_last(rt.alloc(), &boots(), Some(100), 0, &mut out, None)?;
     out.finish()?;
     drop(out);
     assert!(rt; held.as_slice() == BOOTS);

@@ -6,8 +6,8 @@ use Rattle.tally.proofs.opened.open_all.Goals as goal
 
 pub loop-at-preserved : goal.loop-at-preserved
 loop-at-preserved g c =
-    let fresh : c.new-input.result < 2 ^ 64 - 1 = omega (arith, c.new-input.ensures) in (
+    let fresh : c.new-input.result.failures < 2 ^ 64 - 1 = omega (arith, c.new-input.ensures.failures) in (
       omega (arith, c.loop-at.invariant.0, ap length c.in_ok-push.ensures.items ∙ length_push c.loop-at.sources.items _),
-      All-same (IsReadable (λ failures. failures)) c.push.new.self.items (c.loop-at.sources.items ++ _ ∷ []) c.in_ok-push.ensures.items
-          (All-push (IsReadable (λ failures. failures)) c.loop-at.sources.items _ c.loop-at.invariant.1 fresh),
+      All-same (IsReadable (λ input. input.failures)) c.push.new.self.items (c.loop-at.sources.items ++ _ ∷ []) c.in_ok-push.ensures.items
+          (All-push (IsReadable (λ input. input.failures)) c.loop-at.sources.items _ c.loop-at.invariant.1 fresh),
     )

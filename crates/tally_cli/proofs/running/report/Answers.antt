@@ -14,25 +14,25 @@ answers_to-requires-clause-askable g c =
     let job = c.args.job.now in
     let offset = c.requires.runnable.offset in
     subst (All IsAskable) (sym (c.as_slice.ensures.value ∙ c.in_ok-questions.ensures))
-    (all_questions IsAskable job.report job.offset c.args.kinds.now (λ limit n l. tt) (λ by_day by_user. offset) (λ by reverse all. tt) (λ by reverse. tt))
+    (all_questions IsAskable job.report job.offset job.until c.args.kinds.now (λ limit n l. tt) (λ by_day by_user. offset) (λ by reverse all. tt) (λ by reverse. tt))
 
 pub answers_to-requires-clause-hosts : goal.answers_to-requires-clause-hosts
 answers_to-requires-clause-hosts g c =
     let job = c.args.job.now in
     let callers = c.args.book.callers in
     subst (All (NamesHostBelow callers)) (sym (c.as_slice.ensures.value ∙ c.in_ok-questions.ensures))
-    (all_questions (NamesHostBelow callers) job.report job.offset c.args.kinds.now (λ limit n l. omega (arith, l, c.requires.hosts)) (λ by_day by_user. tt) (λ by reverse all. tt) (λ by reverse. tt))
+    (all_questions (NamesHostBelow callers) job.report job.offset job.until c.args.kinds.now (λ limit n l. omega (arith, l, c.requires.hosts)) (λ by_day by_user. tt) (λ by reverse all. tt) (λ by reverse. tt))
 
 pub answers_to-requires-clause-room : goal.answers_to-requires-clause-room
 answers_to-requires-clause-room g c =
     let job = c.args.job.now in
-    omega (arith, ap length (c.as_slice.ensures.value ∙ c.in_ok-questions.ensures), question_count job.report job.offset c.args.kinds.now, c.requires.calls, c.requires.hosts, c.requires.few)
+    omega (arith, ap length (c.as_slice.ensures.value ∙ c.in_ok-questions.ensures), question_count job.report job.offset job.until c.args.kinds.now, c.requires.calls, c.requires.hosts, c.requires.few)
 
 pub returns-clause-prefix : goal.returns-clause-prefix
 returns-clause-prefix g c = λ tells.
     let job = c.args.job.now in
     let offset : FitsSigned w32 c.args.job.now.offset = search rules in
-    let is = ap (λ l. sections (map (λ a. answer_text a job.offset) l)) c.as_slice-2.ensures.value
+    let is = ap (λ l. sections (map (λ a. answer_text a job.offset job.until) l)) c.as_slice-2.ensures.value
     ∙ report_is job c.args.kinds.now c.as_slice.result.now c.in_ok-answers.answers.items c.args.book.logins c.args.book.procs (c.as_slice.ensures.value ∙ c.in_ok-questions.ensures) c.in_ok-answers.ensures.value in
     subst (AppendsPrefix (g.O.Output.written c.args.out.now) (g.O.Output.written c.print_sections.new.out)) is (simp to_z-of_z at (c.print_sections.ensures.prefix tells))
 
@@ -41,6 +41,6 @@ returns-clause-ok g c =
     let job = c.args.job.now in
     let offset : FitsSigned w32 c.args.job.now.offset = search rules in
     let printed = simp to_z-of_z at c.print_sections.ensures.ok in
-    let is = ap (λ l. sections (map (λ a. answer_text a job.offset) l)) c.as_slice-2.ensures.value
+    let is = ap (λ l. sections (map (λ a. answer_text a job.offset job.until) l)) c.as_slice-2.ensures.value
     ∙ report_is job c.args.kinds.now c.as_slice.result.now c.in_ok-answers.answers.items c.args.book.logins c.args.book.procs (c.as_slice.ensures.value ∙ c.in_ok-questions.ensures) c.in_ok-answers.ensures.value in
     on_ok_weaker c.print_sections.result (λ written tells. written tells ∙ ap (λ l. g.O.Output.written c.args.out.now ++ l) is) printed

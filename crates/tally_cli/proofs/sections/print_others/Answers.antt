@@ -12,4 +12,4 @@ returns-in_err-print_next-clause-prefix g c = λ tells.
     let still : IsTrue (g.O.Output.tells c.loop-index.out) = subst IsTrue (sym c.loop-index.invariant.tells) tells in
     prefix_more (g.O.Output.written c.args.out.now) (g.O.Output.written c.loop-index.out) (g.O.Output.written c.print_next.new.out) _ _ _ _
     (simp to_z-of_z at (c.loop-index.invariant.written tells)) (simp to_z-of_z at (c.in_err-print_next.ensures.prefix still))
-    (flat_at (λ a. 10 ∷ answer_text a c.args.offset) c.args.answers.now i c.index-answers-index.result near c.index-answers-index.is)
+    (flat_at (λ a. 10 ∷ answer_text a c.args.offset c.args.until) c.args.answers.now i c.index-answers-index.result near c.index-answers-index.is)

@@ -8,5 +8,5 @@ invariant-loop-index g l = record {
   failures : g.O.Output.failures l.out ≡ g.O.Output.failures l.fn.out;
   tells : g.O.Output.tells l.out ≡ g.O.Output.tells l.fn.out;
   written : IsTrue (g.O.Output.tells l.fn.out) → g.O.Output.written l.out
-      ≡ g.O.Output.written l.fn.out ++ flat_map (λ a. 10 ∷ answer_text a l.fn.offset) (take l.index l.fn.answers);
+      ≡ g.O.Output.written l.fn.out ++ flat_map (λ a. 10 ∷ answer_text a l.fn.offset l.fn.until) (take l.index l.fn.answers);
 }

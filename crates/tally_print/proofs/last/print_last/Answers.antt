@@ -11,7 +11,7 @@ loop-row-preserved g c =
     record {
       printing = λ tells.
           let told : IsTrue (g.O.Output.tells c.loop-row.out) = rw held.stays tells in
-          let row = printing_row (stay_line _) _ _ _ _ _ _ _ _ _ c.loop-row-test.true (held.printing tells) c.in_ok-push_stay.ensures in
+          let row = printing_row (stay_line _ _) _ _ _ _ _ _ _ _ _ c.loop-row-test.true (held.printing tells) c.in_ok-push_stay.ensures in
           printing_turn _ _ _ _ _ _ _ row (turned.ok told) (turned.prefix told);
       stays = turned.stays ∙ held.stays;
       counts = omega (arith, turned.counts, held.counts);
@@ -23,7 +23,7 @@ returns-in_err-turn_page-clause-prefix g c =
     let offset : FitsSigned w32 c.args.offset = c.ranges.offset in
     λ tells.
     let told : IsTrue (g.O.Output.tells c.loop-row.out) = rw held.stays tells in
-    let row = printing_row (stay_line _) _ _ _ _ _ _ _ _ _ c.loop-row-test.true (held.printing tells) c.in_ok-push_stay.ensures in
+    let row = printing_row (stay_line _ _) _ _ _ _ _ _ _ _ _ c.loop-row-test.true (held.printing tells) c.in_ok-push_stay.ensures in
     simp to_z-of_z at (prefix_from_put _ _ _ _ _ _ row (c.turn_page.ensures.prefix told))
 
 pub returns-clause-prefix : goal.returns-clause-prefix
@@ -32,6 +32,6 @@ returns-clause-prefix g c =
     let offset : FitsSigned w32 c.args.offset = c.ranges.offset in
     λ tells.
     let told : IsTrue (g.O.Output.tells c.loop-row.out) = rw held.stays tells in
-    let last = printing_ending (stay_line _) _ _ _ _ _ _ _ _ c.loop-row-test.false (held.printing tells) c.in_ok-push_beginning.ensures in
+    let last = printing_ending (stay_line _ _) _ _ _ _ _ _ _ _ c.loop-row-test.false (held.printing tells) c.in_ok-push_beginning.ensures in
     let put = rw c.as_slice.ensures.value at (c.put_all.ensures.prefix told) in
     simp to_z-of_z at (prefix_from_put _ _ _ _ _ _ last put)

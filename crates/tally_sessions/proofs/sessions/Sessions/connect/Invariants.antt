@@ -6,6 +6,6 @@ use Rattle.tally_sessions.proofs.sessions.Sessions.connect.Given as goal
 
 abbrev pub invariant-loop-host : goal.invariant-loop-host
 invariant-loop-host l = record {
-  told : l.total ≡ sum (map (λ host. user_seconds l.user (stays_of host l.entries)) (range_with_len 0 l.host));
+  told : l.total ≡ sum (map (λ host. user_seconds l.user (stays_of host l.entries l.until)) (range_with_len 0 l.host));
   fits : l.total ≤ 4294967295 * count_below l.host l.entries;
 }

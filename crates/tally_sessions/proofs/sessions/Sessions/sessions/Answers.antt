@@ -19,7 +19,7 @@ push_sessions-requires-clause-track c =
 pub loop-host-preserved : goal.loop-host-preserved
 loop-host-preserved c =
     let es : List Entry = c.entries-entries.result.now in
-    let of : ℕ → List Session = λ host. sessions_among (stays_of host es) in
+    let of : ℕ → List Session = λ host. sessions_among (stays_of host es c.args.until) in
     let pushed : c.push_sessions.new.found.items ≡ c.loop-host.found.items ++ of c.loop-host.host = c.in_ok-push_sessions.ensures in
     record {
       told = pushed ∙ ap (λ xs. xs ++ of c.loop-host.host) c.loop-host.invariant.told ∙ sym (hosts_more of c.loop-host.host);
@@ -29,7 +29,7 @@ loop-host-preserved c =
         c.loop-host.found.ok.0,
         ap length pushed,
         length-append c.loop-host.found.items (of c.loop-host.host),
-        length-sessions c.loop-host.host es,
+        length-sessions c.loop-host.host es c.args.until,
         count_below-more c.loop-host.host es,
         c.loop-host.invariant.few,
       );
@@ -39,8 +39,8 @@ pub returns-clause-value : goal.returns-clause-value
 returns-clause-value c =
     let all = every_host_is c.loop-host.host (omega arith) in
     c.loop-host.invariant.told
-    ∙ ap (flat_map (λ host. sessions_among (stays_of host c.entries-entries.result.now))) all
-    ∙ ap sessions_of c.entries-entries.ensures.value
+    ∙ ap (flat_map (λ host. sessions_among (stays_of host c.entries-entries.result.now c.args.until))) all
+    ∙ ap (λ (es : List Entry). sessions_of es c.args.until) c.entries-entries.ensures.value
 
 pub returns-clause-few : goal.returns-clause-few
 returns-clause-few c = omega (arith, c.loop-host.invariant.few, count_below-le c.loop-host.host c.entries-entries.result.now, c.entries-entries.ensures.few)

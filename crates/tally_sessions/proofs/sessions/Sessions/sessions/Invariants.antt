@@ -7,6 +7,6 @@ use Rattle.tally_sessions.proofs.sessions.Sessions.sessions.Given as goal
 
 abbrev pub invariant-loop-host : goal.invariant-loop-host
 invariant-loop-host l = record {
-  told : l.found.items ≡ flat_map (λ host. sessions_among (stays_of host l.entries)) (range_with_len 0 l.host);
+  told : l.found.items ≡ flat_map (λ host. sessions_among (stays_of host l.entries l.until)) (range_with_len 0 l.host);
   few : vec_len l.found ≤ count_below l.host l.entries;
 }

@@ -22,8 +22,8 @@ latest-requires-in-None-clause-track c =
 pub returns-in-None-clause-value : goal.returns-in-None-clause-value
 returns-in-None-clause-value c =
     let es : List Entry = c.entries-entries.result.now in
-    let all : take (length es) (reverse (stays_of c.args.host es)) ≡ latest_stays c.args.host c.args.limit c.args.self.now.entries =
-    stays_of-all c.args.host es
-    ∙ ap (λ (xs : List Entry). reverse (stays_of c.args.host xs)) c.entries-entries.ensures.value
-    ∙ sym (ap (λ o. limited o (reverse (stays_of c.args.host c.args.self.now.entries))) c.in-None.is) in
+    let all : take (length es) (reverse (stays_of c.args.host es c.args.until)) ≡ latest_stays c.args.host c.args.limit c.args.self.now.entries c.args.until =
+    stays_of-all c.args.host es c.args.until
+    ∙ ap (λ (xs : List Entry). reverse (stays_of c.args.host xs c.args.until)) c.entries-entries.ensures.value
+    ∙ sym (ap (λ o. limited o (reverse (stays_of c.args.host c.args.self.now.entries c.args.until))) c.in-None.is) in
     subst (λ (xs : List Stay). IfOk c.latest-in-None.result (λ found. found ≡ xs)) all c.latest-in-None.ensures.value

@@ -17,8 +17,8 @@ seconds-total-requires-clause-track c =
 
 pub loop-host-preserved : goal.loop-host-preserved
 loop-host-preserved c =
-    let more = sum_by-map-range_with_len_more (λ (x : ℕ). x) (λ (host : ℕ). session_seconds (stays_of host c.entries-entries.result.now)) 0 c.loop-host.host c.loop-host.host (omega arith) in record {
-      told = ap (λ (n : ℕ). n + c.seconds-total.result) c.loop-host.invariant.told ∙ ap (λ (n : ℕ). sum (map (λ (host : ℕ). session_seconds (stays_of host c.entries-entries.result.now)) (range_with_len 0 c.loop-host.host)) + n) c.seconds-total.ensures.value ∙ sym more;
+    let more = sum_by-map-range_with_len_more (λ (x : ℕ). x) (λ (host : ℕ). session_seconds (stays_of host c.entries-entries.result.now c.args.until)) 0 c.loop-host.host c.loop-host.host (omega arith) in record {
+      told = ap (λ (n : ℕ). n + c.seconds-total.result) c.loop-host.invariant.told ∙ ap (λ (n : ℕ). sum (map (λ (host : ℕ). session_seconds (stays_of host c.entries-entries.result.now c.args.until)) (range_with_len 0 c.loop-host.host)) + n) c.seconds-total.ensures.value ∙ sym more;
       fits = omega (arith, c.seconds-total.ensures.fits, count_below-more c.loop-host.host c.entries-entries.result.now);
     }
 
@@ -35,5 +35,5 @@ pub returns-clause-value : goal.returns-clause-value
 returns-clause-value c =
     let all = every_host_is c.loop-host.host (omega arith) in
     c.loop-host.invariant.told
-    ∙ ap (λ (hosts : List ℕ). sum (map (λ (host : ℕ). session_seconds (stays_of host c.entries-entries.result.now)) hosts)) all
-    ∙ ap total_of c.entries-entries.ensures.value
+    ∙ ap (λ (hosts : List ℕ). sum (map (λ (host : ℕ). session_seconds (stays_of host c.entries-entries.result.now c.args.until)) hosts)) all
+    ∙ ap (λ (es : List Entry). total_of es c.args.until) c.entries-entries.ensures.value

@@ -1,7 +1,9 @@
-use Rattle.std.proofs.Common.{◌≡◌, ◌<◌, All, subst, ◌+◌, ◌-◌, ◌++◌, ◌∷◌, [], List, map, take, drop, reverse, length, sym, ap, ◌∙◌, arith, length-append}
+use Rattle.std.proofs.Common.{◌≡◌, ◌<◌, All, subst, ℤ, ◌+◌, ◌-◌, ◌++◌, ◌∷◌, [], List, map, take, drop, reverse, length, unwrap_or, sym, ap, ◌∙◌, arith, length-append, rules}
+use Rattle.std.proofs.lemmas.Int.{to_z-of_z}
 use Rattle.std.proofs.lemmas.List.Elements.{All-push}
+use Rattle.std.specs.Int.{w32}
 use Rattle.tally_sessions.specs.declared.entry.Stay.{Stay}
-use Rattle.tally_sessions.specs.Track.{no_stay, stay_now}
+use Rattle.tally_sessions.specs.Track.{no_stay, stay_at, stay_now}
 use Rattle.tally_sessions.proofs.StaysNow.{stays_now, latest_more, latest_all, latest_limit}
 use Rattle.tally_sessions.proofs.track.Track.latest.Goals as goal
 use Rattle.tally_sessions.proofs.track.Track.latest.Goals.{then-loop-i-test+else-len-limit, else-loop-i-test}
@@ -10,7 +12,7 @@ pub loop-i-preserved : goal.loop-i-preserved
 loop-i-preserved c =
     let es = c.args.entries.now in
     let a = c.args.self.now in
-    let f = stay_now c.args.host es a.clock a.last in
+    let f = stay_now c.args.host es a.clock (unwrap_or c.args.until a.last) in
     let all : List Stay = map f a.stays.items in
     let i = c.loop-i.i in
     let place : i - 1 + 1 ≡ i = omega (arith, c.loop-i-test.true) in
@@ -18,7 +20,7 @@ loop-i-preserved c =
     let more = latest_more f a.stays.items (i - 1) no_stay c.stay.result (omega (arith, c.loop-i-test.true, c.loop-i.invariant.within, a.stays.ok.0)) in record {
       within = omega (arith, c.loop-i.invariant.within);
       told = pushed ∙ ap (λ (ss : List Stay). ss ++ c.stay.result ∷ []) (c.loop-i.invariant.told ∙ ap (λ k. reverse (drop k all)) (sym place))
-          ∙ ap (λ (s : Stay). reverse (drop (i - 1 + 1) all) ++ s ∷ []) c.stay.ensures.value ∙ sym more;
+          ∙ ap (λ (s : Stay). reverse (drop (i - 1 + 1) all) ++ s ∷ []) (c.stay.ensures.value ∙ ap (λ (z : ℤ). stay_now c.args.host es a.clock z (stay_at a.stays.items (i - 1))) (to_z-of_z w32 c.time_now-time.result (search rules) ∙ c.time_now-time.ensures)) ∙ sym more;
       few = omega (arith, ap length pushed, length-append c.loop-i.found (c.stay.result ∷ []), c.if-len-limit.true, c.len.ensures);
       lengths = subst (All (λ (s : Stay). s.length < 4294967296)) (sym pushed) (All-push (λ (s : Stay). s.length < 4294967296) c.loop-i.found c.stay.result c.loop-i.invariant.lengths c.stay.ensures.fits);
     }
@@ -27,8 +29,8 @@ pub returns-clause-value : goal.returns-clause-value
 returns-clause-value c =
     let es = c.args.entries.now in
     let a = c.args.self.now in
-    let all : List Stay = map (stay_now c.args.host es a.clock a.last) a.stays.items in
-    let same = stays_now c.args.host es a c.requires.track in
+    let all : List Stay = map (stay_now c.args.host es a.clock (unwrap_or c.args.until a.last)) a.stays.items in
+    let same = stays_now c.args.host es a c.args.until c.requires.track in
     elim c.loop-i-test.branch [
       | then-loop-i-test+else-len-limit w ↦
           let full : length c.loop-i.found ≡ c.args.limit = omega (arith, w.if-len-limit.false, w.len.ensures, c.loop-i.invariant.few) in

@@ -1,4 +1,4 @@
-use Rattle.std.proofs.Common.{◌≡◌, ◌≤◌, ◌<◌, ◌^◌, All, map, drop, reverse, length, vec_len}
+use Rattle.std.proofs.Common.{◌≡◌, ◌≤◌, ◌<◌, ◌^◌, All, map, drop, reverse, length, unwrap_or, vec_len}
 use Rattle.tally_sessions.specs.declared.entry.Stay.{Stay}
 use Rattle.tally_sessions.specs.Track.{stay_now}
 use Rattle.tally_sessions.proofs.track.Track.latest.Given as goal
@@ -9,7 +9,7 @@ decreases-loop-i l = l.i
 abbrev pub invariant-loop-i : goal.invariant-loop-i
 invariant-loop-i l = record {
   within : l.i ≤ vec_len l.self.stays;
-  told : l.found ≡ reverse (drop l.i (map (stay_now l.host l.entries l.self.clock l.self.last) l.self.stays.items));
+  told : l.found ≡ reverse (drop l.i (map (stay_now l.host l.entries l.self.clock (unwrap_or l.fn.until l.self.last)) l.self.stays.items));
   few : length l.found ≤ l.limit;
   lengths : All (λ (s : Stay). s.length < 2 ^ 32) l.found;
 }

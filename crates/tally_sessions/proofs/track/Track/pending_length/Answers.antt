@@ -17,10 +17,10 @@ returns c =
     let read : stay_at a.stays.items c.args.i ≡ t = get_or_from_slice_get a.stays.items c.args.i t no_stay (slice_get_read a.stays.items (length a.stays.items) c.args.i t refl lt c.index.ensures) in
     let before : IsWithin 1048576 t.clock_at = subst (λ (u : TrackedStay). IsWithin 1048576 u.clock_at) read (c.requires.placed.before c.args.i lt) in
     let gap : held (held a.clock -ℤ held t.clock_at) ≡ a.clock -ℤ t.clock_at = omega (arith, ints, before.low, before.high, c.requires.now.low, c.requires.now.high) in
-    let last : ℤ = c.args.last in
-    let still : c.still.result ≡ still_of (start_of es t) (a.clock -ℤ t.clock_at) last = c.still.ensures ∙ (λ j. still_of (start_of es t) (gap j) (to_z-of_z w32 last c.ranges.last j)) in
+    let time : ℤ = c.args.time in
+    let still : c.still.result ≡ still_of (start_of es t) (a.clock -ℤ t.clock_at) time = c.still.ensures ∙ (λ j. still_of (start_of es t) (gap j) (to_z-of_z w32 time c.ranges.time j)) in
     let pending : is_some t.ended ≡ false = sym c.is_some.ensures ∙ c.if-is_some.false in
     let counted : counts c.args.who (start_of es t) ≡ true = sym c.is_counted.ensures ∙ c.if-not-is_counted.false in
-    let n : ℕ = (still_of (start_of es t) (a.clock -ℤ t.clock_at) last).length in
-    let is : pending_length c.args.who es a.clock last t ≡ n = λ j. cond (not (pending j) && counted j) n 0 in
-    c.from.ensures ∙ ap (λ (e : Ending). e.length) still ∙ sym is ∙ ap (pending_length c.args.who es a.clock last) (sym read)
+    let n : ℕ = (still_of (start_of es t) (a.clock -ℤ t.clock_at) time).length in
+    let is : pending_length c.args.who es a.clock time t ≡ n = λ j. cond (not (pending j) && counted j) n 0 in
+    c.from.ensures ∙ ap (λ (e : Ending). e.length) still ∙ sym is ∙ ap (pending_length c.args.who es a.clock time) (sym read)

@@ -1,4 +1,4 @@
-use Rattle.std.proofs.Common.{◌≡◌, ◌∙◌, ◌+◌, ◌<◌, ◌≤◌, ◌≤ℤ◌, ℕ, ℤ, pos, List, [], length, get_or, take, sym, ap, subst, arith, rules}
+use Rattle.std.proofs.Common.{◌≡◌, ◌∙◌, ◌+◌, ◌<◌, ◌≤◌, ◌≤ℤ◌, ℕ, ℤ, pos, List, [], length, get_or, take, unwrap_or, sym, ap, subst, arith, rules}
 use Rattle.std.proofs.lemmas.Int.{ints, to_z-of_z}
 use Rattle.std.proofs.lemmas.List.{take_all, take_more}
 use Rattle.std.proofs.lemmas.List.Sums.{sum_by_more_le, sum_by_push}
@@ -34,17 +34,18 @@ overflow_add-seconds c =
     let a = c.args.self.now in
     let lines = a.lines.entries in
     let k = c.loop-k.k in
-    let f : (List ℕ × ℕ) → ℕ = λ e. pending_length c.args.who es a.clock a.last (stay_at a.stays.items e.1) in
+    let f : (List ℕ × ℕ) → ℕ = λ e. pending_length c.args.who es a.clock (unwrap_or c.args.until a.last) (stay_at a.stays.items e.1) in
     let lt : k < length lines = omega (arith, c.len-k-end.ensures.len, c.loop-k-test.true) in
     let e : List ℕ × ℕ = (c.in-Some.field-0-0.now, c.in-Some.field-0-1.now) in
     let read : get_or lines k no_line ≡ e = get_or_from_slice_get lines k e no_line (sym c.in-Some.ensures.entry) in
     let part : sum_by f (take k lines) + f e ≤ sum_by f lines = subst (λ x. sum_by f (take k lines) + f x ≤ sum_by f lines) read (sum_by_more_le f lines k no_line lt) in
-    let all : sum_by f lines ≡ pending_sum c.args.who es a.clock a.last a.stays.items =
-    lines_sum c.args.who es a.clock a.last (length es) lines a.swept a.stays.items c.requires.track.tracked c.len-k-end.ensures.unique (λ x m. lookup_of_member lines x c.len-k-end.ensures.unique m) in
-    let fits : FitsSigned w32 a.last = search rules in
-    let last : a.last ≤ℤ pos 2147483647 = omega (arith, ints) in
-    let few = pending_sum-le c.args.who es a.clock a.last a.stays.items last c.requires.track.sums.fits in
-    let value : c.pending_length-seconds.result ≡ f e = c.pending_length-seconds.ensures ∙ ap (λ (z : ℤ). pending_length c.args.who es a.clock z (stay_at a.stays.items e.1)) (to_z-of_z w32 a.last fits) in
+    let all : sum_by f lines ≡ pending_sum c.args.who es a.clock (unwrap_or c.args.until a.last) a.stays.items =
+    lines_sum c.args.who es a.clock (unwrap_or c.args.until a.last) (length es) lines a.swept a.stays.items c.requires.track.tracked c.len-k-end.ensures.unique (λ x m. lookup_of_member lines x c.len-k-end.ensures.unique m) in
+    let fits : FitsSigned w32 c.time_now-time.result = search rules in
+    let is = c.time_now-time.ensures in
+    let last : unwrap_or c.args.until a.last ≤ℤ pos 2147483647 = omega (arith, ints) in
+    let few = pending_sum-le c.args.who es a.clock (unwrap_or c.args.until a.last) a.stays.items last c.requires.track.sums.fits in
+    let value : c.pending_length-seconds.result ≡ f e = c.pending_length-seconds.ensures ∙ ap (λ (z : ℤ). pending_length c.args.who es a.clock z (stay_at a.stays.items e.1)) (to_z-of_z w32 c.time_now-time.result (search rules) ∙ c.time_now-time.ensures) in
     omega (arith, c.loop-k.invariant, value, part, all, few, c.requires.track.count, c.requires.few)
 
 pub loop-k-preserved : goal.loop-k-preserved
@@ -53,10 +54,9 @@ loop-k-preserved c =
     let a = c.args.self.now in
     let lines = a.lines.entries in
     let k = c.loop-k.k in
-    let f : (List ℕ × ℕ) → ℕ = λ e. pending_length c.args.who es a.clock a.last (stay_at a.stays.items e.1) in
+    let f : (List ℕ × ℕ) → ℕ = λ e. pending_length c.args.who es a.clock (unwrap_or c.args.until a.last) (stay_at a.stays.items e.1) in
     let lt : k < length lines = omega (arith, c.len-k-end.ensures.len, c.loop-k-test.true) in
-    let fits : FitsSigned w32 a.last = search rules in
-    let last = to_z-of_z w32 a.last fits in
+    let last = to_z-of_z w32 c.time_now-time.result (search rules) ∙ c.time_now-time.ensures in
     elim c.match-get_index.branch [
       | in-Some w ↦
           let e : List ℕ × ℕ = (w.in-Some.field-0-0.now, w.in-Some.field-0-1.now) in
@@ -74,18 +74,19 @@ returns-clause-value c =
     let es = c.args.entries.now in
     let a = c.args.self.now in
     let lines = a.lines.entries in
-    let f : (List ℕ × ℕ) → ℕ = λ e. pending_length c.args.who es a.clock a.last (stay_at a.stays.items e.1) in
+    let f : (List ℕ × ℕ) → ℕ = λ e. pending_length c.args.who es a.clock (unwrap_or c.args.until a.last) (stay_at a.stays.items e.1) in
     c.loop-k.invariant
     ∙ ap (sum_by f) (take_all c.loop-k.k lines (omega (arith, c.len-k-end.ensures.len)))
-    ∙ lines_sum c.args.who es a.clock a.last (length es) lines a.swept a.stays.items c.requires.track.tracked c.len-k-end.ensures.unique (λ x m. lookup_of_member lines x c.len-k-end.ensures.unique m)
+    ∙ lines_sum c.args.who es a.clock (unwrap_or c.args.until a.last) (length es) lines a.swept a.stays.items c.requires.track.tracked c.len-k-end.ensures.unique (λ x m. lookup_of_member lines x c.len-k-end.ensures.unique m)
 
 pub returns-clause-fits : goal.returns-clause-fits
 returns-clause-fits c =
     let es = c.args.entries.now in
     let a = c.args.self.now in
-    let fits : FitsSigned w32 a.last = search rules in
-    let last : a.last ≤ℤ pos 2147483647 = omega (arith, ints) in
-    let all = ended_and_pending c.args.who es a.clock a.last a.stays.items in
-    let few = now_sum-le c.args.who es a.clock a.last a.stays.items last c.requires.track.sums.fits in
+    let fits : FitsSigned w32 c.time_now-time.result = search rules in
+    let is = c.time_now-time.ensures in
+    let last : unwrap_or c.args.until a.last ≤ℤ pos 2147483647 = omega (arith, ints) in
+    let all = ended_and_pending c.args.who es a.clock (unwrap_or c.args.until a.last) a.stays.items in
+    let few = now_sum-le c.args.who es a.clock (unwrap_or c.args.until a.last) a.stays.items last c.requires.track.sums.fits in
     let value = returns-clause-value c in
     omega (arith, a.stays.ok.0, value, all, few)

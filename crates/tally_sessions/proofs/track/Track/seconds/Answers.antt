@@ -1,4 +1,4 @@
-use Rattle.std.proofs.Common.{◌≡◌, ◌∙◌, ◌+◌, sym, ap, arith}
+use Rattle.std.proofs.Common.{◌≡◌, ◌∙◌, ◌+◌, sym, ap, unwrap_or, arith}
 use Rattle.tally_sessions.specs.Totals.{seconds_of}
 use Rattle.tally_sessions.specs.Track.{ended_sum}
 use Rattle.tally_sessions.proofs.PendingSums.{ended_and_pending, seconds_now}
@@ -16,9 +16,9 @@ returns-clause-value c =
     let a = c.args.self.now in
     let ended : c.of.result ≡ ended_sum c.args.who es a.stays.items = c.of.ensures ∙ c.requires.track.sums.at c.args.who in
     (λ i. ended i + c.pending_seconds.ensures.value i)
-    ∙ ended_and_pending c.args.who es a.clock a.last a.stays.items
-    ∙ sym (seconds_now c.args.who es a.clock a.last c.args.host a.stays.items (λ k lt. (c.requires.track.tracked.at k lt).starts))
-    ∙ ap (seconds_of c.args.who) (stays_now c.args.host es a c.requires.track)
+    ∙ ended_and_pending c.args.who es a.clock (unwrap_or c.args.until a.last) a.stays.items
+    ∙ sym (seconds_now c.args.who es a.clock (unwrap_or c.args.until a.last) c.args.host a.stays.items (λ k lt. (c.requires.track.tracked.at k lt).starts))
+    ∙ ap (seconds_of c.args.who) (stays_now c.args.host es a c.args.until c.requires.track)
 
 pub returns-clause-fits : goal.returns-clause-fits
 returns-clause-fits c =

@@ -1,0 +1,81 @@
+-- Worked examples, computed by the definitions.
+use Rattle.std.proofs.Common.{◌≡◌, ℕ, List, [], ◌∷◌, ◌++◌, map, replicate, Some, refl}
+use Rattle.std.specs.Prelude.{codes, pos}
+use Rattle.tally_records.specs.declared.login.Event.{Event}
+use Rattle.tally_records.specs.declared.login.Event.TheVariants.{Login, Logout, Boot, Down, OldTime, NewTime, Nothing}
+use Rattle.tally_records.specs.declared.process.ProcRecord.{ProcRecord}
+use Rattle.tally_records.specs.Compressed.{comp_of}
+use Rattle.tally_records.specs.Elapsed.{elapsed_of, rounded_down}
+use Rattle.tally_records.specs.Event.{event_of}
+use Rattle.tally_records.specs.ProcRecord.{proc_of}
+use Rattle.tally_records.specs.Text.{padded, text_of, u16_at, u32_at}
+
+-- a comp_t has a base-8 exponent
+numbers : map comp_of (0 ∷ 8191 ∷ 8193 ∷ 16383 ∷ 65535 ∷ []) ≡ 0 ∷ 8191 ∷ 8 ∷ 65528 ∷ 17177772032 ∷ []
+numbers = refl
+
+-- a text ends at its first NUL, or fills its field
+texts : map (text_of 4) ((97 ∷ 0 ∷ 98 ∷ 99 ∷ []) ∷ (97 ∷ 98 ∷ 99 ∷ 100 ∷ []) ∷ (97 ∷ 98 ∷ []) ∷ []) ≡ (97 ∷ 0 ∷ 0 ∷ 0 ∷ []) ∷ (97 ∷ 98 ∷ 99 ∷ 100 ∷ []) ∷ (97 ∷ 98 ∷ 0 ∷ 0 ∷ []) ∷ []
+unfolding text_of
+texts = refl
+
+abbrev event : ℕ → List ℕ → List ℕ → Event
+event kind line user = event_of (record { kind = kind; line = padded 32 line; user = padded 32 user; remote = padded 256 []; time = pos 0 })
+
+-- logins and logouts, with and without a user and a line
+sessions : event 7 (codes "tty1") (codes "ann") ∷ event 7 (codes "tty1") [] ∷ event 7 [] (codes "ann") ∷ event 8 (codes "tty1") (codes "ann") ∷ event 8 [] [] ∷ [] ≡ Login ∷ Logout ∷ Nothing ∷ Logout ∷ Nothing ∷ []
+unfolding event_of
+sessions = refl
+
+-- a shutdown is named so in full, on a line that begins with a tilde
+shutdowns : event 1 (codes "~") (codes "shutdown") ∷ event 1 (codes "~") (codes "shutdownx") ∷ event 1 (codes "tty1") (codes "shutdown") ∷ event 1 (codes "~") (codes "runlevel") ∷ [] ≡ Down ∷ Nothing ∷ Nothing ∷ Nothing ∷ []
+unfolding event_of
+shutdowns = refl
+
+-- a boot, and the clock's times
+others : event 2 (codes "~") (codes "reboot") ∷ event 4 (codes "|") [] ∷ event 3 (codes "{") [] ∷ event 6 (codes "tty1") (codes "LOGIN") ∷ [] ≡ Boot ∷ OldTime ∷ NewTime ∷ Nothing ∷ []
+unfolding event_of
+others = refl
+
+-- 0, a half, 1, 1.5 and 600 ticks
+small_times : map elapsed_of (0 ∷ 1056964608 ∷ 1065353216 ∷ 1069547520 ∷ 1142292480 ∷ []) ≡ 0 ∷ 0 ∷ 1 ∷ 1 ∷ 600 ∷ []
+unfolding elapsed_of rounded_down
+small_times = refl
+
+-- the greatest number below 2 ^ 64, 2 ^ 64, and no number
+great_times : map elapsed_of (1602224127 ∷ 1602224128 ∷ 2143289344 ∷ []) ≡ 18446742974197923840 ∷ 18446744073709551615 ∷ 18446744073709551615 ∷ []
+unfolding elapsed_of rounded_down
+great_times = refl
+
+-- the least number above 0, and with the sign bit 0 and 1
+no_times : map elapsed_of (1 ∷ 2147483648 ∷ 3212836864 ∷ []) ≡ 0 ∷ 0 ∷ 0 ∷ []
+unfolding elapsed_of rounded_down
+no_times = refl
+
+-- a record with a value of its own in each field
+abbrev wanted : List ℕ → ProcRecord
+wanted name = record { flag = 1; uid = 66536; begin = 16909060; user_ticks = 120; system_ticks = 60; real_ticks = 600; mem = 500; io = 1000; comm = padded 17 name }
+
+abbrev numbers_2 : List ℕ
+numbers_2 = 120 ∷ 0 ∷ 60 ∷ 0 ∷ 88 ∷ 2 ∷ 244 ∷ 1 ∷ 232 ∷ 3 ∷ []
+
+abbrev uid : List ℕ
+uid = 232 ∷ 3 ∷ 1 ∷ 0 ∷ []
+
+abbrev begin : List ℕ
+begin = 4 ∷ 3 ∷ 2 ∷ 1 ∷ []
+
+-- what no field holds
+abbrev other : ℕ → List ℕ
+other n = replicate n 170
+
+version_two : proc_of ((1 ∷ 2 ∷ []) ++ other 6 ++ begin ++ numbers_2 ++ other 14 ++ codes "seventeen-letters" ++ other 3 ++ uid ++ other 4) ≡ Some (wanted (codes "seventeen-letters"))
+unfolding text_of u32_at u16_at
+version_two = refl
+
+abbrev numbers_3 : List ℕ
+numbers_3 = 0 ∷ 0 ∷ 22 ∷ 68 ∷ 120 ∷ 0 ∷ 60 ∷ 0 ∷ 244 ∷ 1 ∷ 232 ∷ 3 ∷ []
+
+version_three : proc_of ((1 ∷ 3 ∷ []) ++ other 6 ++ uid ++ other 12 ++ begin ++ numbers_3 ++ other 8 ++ codes "sixteen-letters!") ≡ Some (wanted (codes "sixteen-letters!"))
+unfolding elapsed_of rounded_down text_of u32_at u16_at
+version_three = refl
