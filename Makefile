@@ -13,9 +13,10 @@ build:
 test:
 	@.ci/gate "$(ROWS)"
 
-# The rows with an input of 402 MB. `make test` or `make build` comes first.
+# The rows and the cases with inputs of 402 MB. `make test` or `make build` comes first.
 test-big:
 	rows/run --only "$(ROWS),big" $(PROGRAM) endless-zeros-ac
+	rows/surroundings --big $(PROGRAM)
 
 install: build
 	install -d $(DESTDIR)$(PREFIX)/bin

@@ -1,7 +1,15 @@
-/* Loaded before the C library, makes one call of a kind fail: the Nth, by the environment.
-   REFUSE=KIND:N, where KIND is memory (malloc and realloc), read, write, interrupt (the Nth read and
-   the Nth write answer EINTR), random (getentropy and getrandom), short (every read and write moves one byte; N counts for nothing).
-   Where a call was refused, the file REFUSED is made. Reads and writes of standard error are left alone. */
+/* Loaded before the C library, makes calls of a kind fail, by the environment: REFUSE=KIND:N:TIMES.
+   memory       the Nth growth (malloc and realloc) is refused
+   memory-from  every growth from the Nth on is refused
+   read, write  the Nth read or write fails by EIO; read-again and read-invalid by EAGAIN and EINVAL
+   read-end     the Nth read gives no byte, as at the end
+   read-signal, write-signal   the Nth read or write answers EINTR, and so do those after it, TIMES in all
+   write-less, write-one       the Nth write takes one byte less than it is given, or one byte
+   short        every read and write moves one byte
+   read-last, write-last       so it is, and the Nth read or write fails by EIO
+   Where a call was refused, the file REFUSED is made. Reads and writes of standard error are left alone.
+   A program may ask for all growths to be refused, from a growth of FROM bytes to one of TO bytes, which
+   are refused themselves; the file ASKED is made then. */
 #define _GNU_SOURCE
 #include <dlfcn.h>
 #include <errno.h>
@@ -10,8 +18,11 @@
 #include <string.h>
 #include <unistd.h>
 
+enum { FROM = 1000003, TO = 1000033 };
+
 static const char *kind = "";
-static long at, memory, reads, writes, randoms;
+static long at, times = 1, memory, reads, writes, randoms;
+static int all_refused;
 
 __attribute__((constructor)) static void begin(void) {
     char *given = getenv("REFUSE");
@@ -19,21 +30,46 @@ __attribute__((constructor)) static void begin(void) {
     if (colon) {
         *colon = 0;
         kind = given;
-        at = strtol(colon + 1, NULL, 10);
+        at = strtol(colon + 1, &colon, 10);
+        if (*colon)
+            times = strtol(colon + 1, NULL, 10);
     }
     memory = reads = writes = randoms = 0;
 }
 
-static void mark(void) {
-    char *path = getenv("REFUSED");
+static void mark(const char *name) {
+    char *path = getenv(name);
     if (path)
         close(open(path, O_CREAT | O_WRONLY, 0600));
 }
 
+static int is(const char *word) {
+    return !strcmp(kind, word);
+}
+
+/* Whether call `count` is one of those that the kind refuses. */
 static int refused(const char *word, long count) {
-    if (strcmp(kind, word) || count != at)
+    if (!is(word) || count < at || count >= at + times)
         return 0;
-    mark();
+    mark("REFUSED");
+    return 1;
+}
+
+/* Whether a growth is refused. */
+static int no_memory(size_t size) {
+    if (!*kind)
+        return 0;
+    if (size == FROM || size == TO) {
+        mark("ASKED");
+        all_refused = size == FROM;
+        return 1;
+    }
+    if (all_refused)
+        return 1;
+    ++memory;
+    if (!is("memory-from") || memory < at)
+        return refused("memory", memory);
+    mark("REFUSED");
     return 1;
 }
 
@@ -41,15 +77,11 @@ extern void *__libc_malloc(size_t);
 extern void *__libc_realloc(void *, size_t);
 
 void *malloc(size_t size) {
-    if (*kind && refused("memory", ++memory))
-        return errno = ENOMEM, NULL;
-    return __libc_malloc(size);
+    return no_memory(size) ? (errno = ENOMEM, NULL) : __libc_malloc(size);
 }
 
 void *realloc(void *old, size_t size) {
-    if (*kind && refused("memory", ++memory))
-        return errno = ENOMEM, NULL;
-    return __libc_realloc(old, size);
+    return no_memory(size) ? (errno = ENOMEM, NULL) : __libc_realloc(old, size);
 }
 
 ssize_t read(int fd, void *to, size_t size) {
@@ -57,11 +89,17 @@ ssize_t read(int fd, void *to, size_t size) {
     if (!real)
         real = (ssize_t (*)(int, void *, size_t))dlsym(RTLD_NEXT, "read");
     ++reads;
-    if (refused("read", reads))
+    if (refused("read", reads) || refused("read-last", reads))
         return errno = EIO, -1;
-    if (refused("interrupt", reads))
+    if (refused("read-again", reads))
+        return errno = EAGAIN, -1;
+    if (refused("read-invalid", reads))
+        return errno = EINVAL, -1;
+    if (refused("read-signal", reads))
         return errno = EINTR, -1;
-    return real(fd, to, size && !strcmp(kind, "short") ? 1 : size);
+    if (refused("read-end", reads))
+        return 0;
+    return real(fd, to, size && (is("short") || is("read-last")) ? 1 : size);
 }
 
 int getentropy(void *to, size_t size) {
@@ -89,11 +127,15 @@ ssize_t write(int fd, const void *from, size_t size) {
     if (fd == 2)
         return real(fd, from, size);
     ++writes;
-    if (refused("write", writes))
+    if (refused("write", writes) || refused("write-last", writes))
         return errno = EIO, -1;
-    if (refused("interrupt", writes))
+    if (refused("write-signal", writes))
         return errno = EINTR, -1;
-    return real(fd, from, size && !strcmp(kind, "short") ? 1 : size);
+    if (size > 1 && refused("write-less", writes))
+        return real(fd, from, size - 1);
+    if (size > 1 && (is("short") || is("write-last") || refused("write-one", writes)))
+        return real(fd, from, 1);
+    return real(fd, from, size);
 }
 
 ssize_t __write(int fd, const void *from, size_t size) {

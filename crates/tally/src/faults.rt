@@ -3,6 +3,7 @@
 ghost use Rattle.std.specs.Prelude.{ℕ, length};
 ghost use Rattle.tally_cli.specs.Runs.{IsNamed};
 
+use crate::shown::{ErrorsTo, Shown};
 use std::process::ExitCode;
 use tally_book::AskFault;
 use tally_cli::{FileArg, RunFault};
@@ -22,7 +23,7 @@ pub(crate) fn fault<R: Eprint>(rt: &R, status: u8, text: &str) -> ExitCode {
 }
 
 /// Tells a fault of a file.
-pub(crate) fn file_fault<R: Eprint>(rt: &R, status: u8, path: &str, text: &str) -> ExitCode {
+pub(crate) fn file_fault<R: Eprint>(rt: &R, status: u8, path: Shown<'_>, text: &str) -> ExitCode {
     let _ = eprintln!(rt; "tally: {path}: {text}");
     ExitCode::from(status)
 }
@@ -34,7 +35,12 @@ pub(crate) fn usage<R: Eprint>(rt: &R, text: &str) -> ExitCode {
 }
 
 /// Tells why a run over these files gave no whole output.
-pub(crate) fn run_fault<R: Eprint>(rt: &R, files: &[FileArg], found: RunFault) -> ExitCode
+pub(crate) fn run_fault<R: Eprint>(
+    rt: &R,
+    to: ErrorsTo,
+    files: &[FileArg],
+    found: RunFault,
+) -> ExitCode
     requires { (callers : ℕ) × IsNamed (length files.now) callers found }
 {
     match found {
@@ -45,14 +51,18 @@ pub(crate) fn run_fault<R: Eprint>(rt: &R, files: &[FileArg], found: RunFault) -
             ExitCode::from(FAULT)
         }
         RunFault::File { host, fault } => {
-            feed_fault(rt, files[host as usize].path.as_str(), fault)
+            feed_fault(
+                rt,
+                Shown::new(files[host as usize].path.as_str(), to),
+                fault,
+            )
         }
         RunFault::Asker { caller: _, fault } => ask_fault(rt, fault),
     }
 }
 
 /// Tells why a file was not read in full.
-fn feed_fault<R: Eprint>(rt: &R, path: &str, found: FeedFault) -> ExitCode {
+fn feed_fault<R: Eprint>(rt: &R, path: Shown<'_>, found: FeedFault) -> ExitCode {
     let text = match found {
         FeedFault::Memory => "out of memory",
         FeedFault::Read => "read failed",
@@ -69,7 +79,7 @@ fn feed_fault<R: Eprint>(rt: &R, path: &str, found: FeedFault) -> ExitCode {
     file_fault(rt, FAULT, path, text)
 }
 
-fn bad_record<R: Eprint>(rt: &R, path: &str, at: u64, found: RecordFault) -> ExitCode {
+fn bad_record<R: Eprint>(rt: &R, path: Shown<'_>, at: u64, found: RecordFault) -> ExitCode {
     let _ = match found {
         RecordFault::LoginType(kind) => {
             eprintln!(rt; "tally: {path}: record {at} has login type {kind}")

@@ -4,10 +4,18 @@
 mod faults;
 mod opened;
 mod program;
+mod shown;
 mod words;
 
+use crate::shown::ErrorsTo;
+use std::io::IsTerminal;
 use std::process::ExitCode;
 
 fn main(rt: HostRuntime) -> ExitCode {
-    program::tally(&rt)
+    let to = if rt.stderr().is_terminal() {
+        ErrorsTo::Terminal
+    } else {
+        ErrorsTo::Elsewhere
+    };
+    program::tally(&rt, to)
 }

@@ -6,12 +6,57 @@ ghost use Rattle.tally_cli.specs.Deals.{IsReadable};
 use std::alloc::{AllocFailed, Global};
 use std::fs;
 use std::io::{self, Read};
+use std::os::fd::AsRawFd;
 use std::rt::Files;
 use tally_cli::{FileArg, Source};
 use tally_desk::Reading;
 
 /// The path of the program's own standard input.
 const STANDARD_INPUT: &str = "/dev/stdin";
+
+/// A folder that each system has, and that has no bytes to read.
+pub(crate) const ROOT: &str = "/";
+
+/// The descriptors of standard input, output and error.
+const STANDARD: [i32; 3] = [0, 1, 2];
+
+/// What stands in the place of closed standard streams, as many as are closed.
+#[derive(Drop)]
+pub(crate) struct Held<F: Drop> {
+    _first: Option<F>,
+    _second: Option<F>,
+    _third: Option<F>,
+}
+
+/// A folder in the place of the first standard stream that is closed.
+fn hold_closed_stream<R: Files>(rt: &R) -> io::Result<Option<R::File>>
+where
+    R::File: AsRawFd + Drop,
+{
+    let folder = fs::open(rt, ROOT)?;
+    if STANDARD.contains(&folder.as_raw_fd()) {
+        Ok(Some(folder))
+    } else {
+        Ok(None)
+    }
+}
+
+/// Holds a folder in the place of each standard stream that is closed. The system gives a file the
+/// least free descriptor, so that without it a file of the command line would be read again as
+/// `/dev/stdin`. A folder gives no byte and takes none: who reads or writes a closed stream fails.
+pub(crate) fn hold_closed_streams<R: Files>(rt: &R) -> io::Result<Held<R::File>>
+where
+    R::File: AsRawFd + Drop,
+{
+    let _first = hold_closed_stream(rt)?;
+    let _second = hold_closed_stream(rt)?;
+    let _third = hold_closed_stream(rt)?;
+    Ok(Held {
+        _first,
+        _second,
+        _third,
+    })
+}
 
 /// A file of the command line: one that was opened, or standard input.
 #[derive(Drop)]

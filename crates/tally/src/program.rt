@@ -2,10 +2,12 @@
 ghost use Rattle.tally_cli.specs.Jobs.{IsRunnable};
 
 use crate::faults::{FAULT, REFUSED, fault, file_fault, run_fault, usage};
-use crate::opened::{OpenFault, open_all};
+use crate::opened::{OpenFault, ROOT, hold_closed_streams, open_all};
+use crate::shown::{ErrorsTo, Shown, printable};
 use crate::words::{WordsFault, words};
 use std::hash::RandomState;
 use std::io;
+use std::os::fd::AsRawFd;
 use std::process::ExitCode;
 use std::random::RandomSource;
 use std::rt::{Env, Files};
@@ -16,10 +18,10 @@ use tally_desk::OpenGate;
 use tally_print::Writing;
 
 /// Runs the program, and says how it went.
-pub(crate) fn tally<R>(rt: &R) -> ExitCode
+pub(crate) fn tally<R>(rt: &R, to: ErrorsTo) -> ExitCode
 where
     R: Env + Files + Input + Print + Eprint + AllocGlobal + RandomSource + Threads + Wait + Sync,
-    R::File: Drop + Send,
+    R::File: AsRawFd + Drop + Send,
     R::Reader: Send,
 {
     let words = match words(rt) {
@@ -28,11 +30,11 @@ where
         Err(WordsFault::NoText) => return fault(rt, REFUSED, "a word is no UTF-8 text"),
     };
     match job_of(rt.alloc(), words.as_slice()) {
-        Ok(Line::Run { job, files }) => report(rt, &job, files.as_slice()),
+        Ok(Line::Run { job, files }) => hold_and_report(rt, to, &job, files.as_slice()),
         Ok(Line::Help { text }) => help(rt, text.as_str()),
         Err(LineFault::Memory) => fault(rt, FAULT, "out of memory"),
-        Err(LineFault::Usage { text }) => usage(rt, text.as_str()),
-        Err(LineFault::Prefix { index }) => no_prefix(rt, words.as_slice(), index),
+        Err(LineFault::Usage { text }) => refused(rt, to, words.as_slice(), text.as_str()),
+        Err(LineFault::Prefix { index }) => no_prefix(rt, to, words.as_slice(), index),
     }
 }
 
@@ -43,15 +45,44 @@ fn help<R: Print + Eprint>(rt: &R, text: &str) -> ExitCode {
     }
 }
 
-fn no_prefix<R: Eprint + AllocGlobal>(rt: &R, words: &[String], index: usize) -> ExitCode {
+/// Tells the text of a refused command line. For a terminal it is the text for the words as they are
+/// shown, which are refused too.
+fn refused<R: Eprint + AllocGlobal>(
+    rt: &R,
+    to: ErrorsTo,
+    words: &[String],
+    text: &str,
+) -> ExitCode {
+    let ErrorsTo::Terminal = to else {
+        return usage(rt, text);
+    };
+    let Ok(shown) = printable(rt.alloc(), words) else {
+        return fault(rt, FAULT, "out of memory");
+    };
+    match job_of(rt.alloc(), shown.as_slice()) {
+        Err(LineFault::Usage { text }) => usage(rt, text.as_str()),
+        Err(LineFault::Memory) => fault(rt, FAULT, "out of memory"),
+        _ => fault(rt, REFUSED, "the command line is refused"),
+    }
+}
+
+fn no_prefix<R: Eprint + AllocGlobal>(
+    rt: &R,
+    to: ErrorsTo,
+    words: &[String],
+    index: usize,
+) -> ExitCode {
     match file_word(rt.alloc(), words, index) {
-        Ok(word) => file_fault(rt, REFUSED, word.as_str(), "no prefix w: or p:"),
+        Ok(word) => {
+            let shown = Shown::new(word.as_str(), to);
+            file_fault(rt, REFUSED, shown, "no prefix w: or p:")
+        }
         Err(_) => fault(rt, FAULT, "out of memory"),
     }
 }
 
 /// Opens all files, and then reads them and prints the report.
-fn report<R>(rt: &R, job: &Job, files: &[FileArg]) -> ExitCode
+fn report<R>(rt: &R, to: ErrorsTo, job: &Job, files: &[FileArg]) -> ExitCode
 where
     R: Files + Input + Print + Eprint + AllocGlobal + RandomSource + Threads + Wait + Sync,
     R::File: Drop + Send,
@@ -66,12 +97,26 @@ where
         Ok(sources) => sources,
         Err(OpenFault::Memory) => return fault(rt, FAULT, "out of memory"),
         Err(OpenFault::NotOpened(path)) => {
-            return file_fault(rt, FAULT, path, "cannot be opened");
+            return file_fault(rt, FAULT, Shown::new(path, to), "cannot be opened");
         }
     };
     let mut out = Writing::new(io::writer(rt));
     match run(rt, rt.alloc(), keys, job, sources, &OpenGate, &mut out) {
         Ok(()) => ExitCode::SUCCESS,
-        Err(found) => run_fault(rt, files, found),
+        Err(found) => run_fault(rt, to, files, found),
+    }
+}
+
+/// Reports with the closed standard streams held, so that no file takes the place of one.
+fn hold_and_report<R>(rt: &R, to: ErrorsTo, job: &Job, files: &[FileArg]) -> ExitCode
+where
+    R: Files + Input + Print + Eprint + AllocGlobal + RandomSource + Threads + Wait + Sync,
+    R::File: AsRawFd + Drop + Send,
+    R::Reader: Send,
+    requires { IsRunnable job.now }
+{
+    match hold_closed_streams(rt) {
+        Ok(_held) => report(rt, to, job, files),
+        Err(_) => file_fault(rt, FAULT, Shown::new(ROOT, to), "cannot be opened"),
     }
 }

@@ -128,13 +128,15 @@ fn a_desk_is_closed_with_all_its_passes(rt: HostRuntime) -> Result<(), Fail> {
 fn the_last_of_128_passes_is_missed(rt: HostRuntime) -> Result<(), Fail> {
     let (desk, mut passes) = Desk::open(rt.alloc(), RandomState::new(&rt)?, 128)?;
     let last = passes.pop().ok_or("a last pass")?;
-    let Err((_, desk, mut passes)) = desk.close(passes) else {
+    let Err((fault, desk, mut passes)) = desk.close(passes) else {
         panic!(rt; "a pass is missing")
     };
+    assert_eq!(rt; fault, CloseFault::PassMissing);
     assert_eq!(rt; (last.number(), passes.len()), (127, 127));
     passes.push(last)?;
     let book = desk.close(passes).ok().ok_or("all passes are there")?;
-    assert_eq!(rt; book.callers(), 128);
+    assert_eq!(rt; (book.callers(), book.calls().len()), (128, 0));
+    assert!(rt; book.logins().is_empty() && book.procs().is_empty());
     Ok(())
 }
 

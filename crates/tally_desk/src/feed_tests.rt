@@ -167,6 +167,49 @@ fn a_first_read_that_fails_posts_nothing(rt: HostRuntime) -> Result<(), Fail> {
 }
 
 #[test]
+fn whichever_read_fails_posts_nothing(rt: HostRuntime) -> Result<(), Fail> {
+    for left in 0..769 {
+        let reader = Trickle {
+            step: 1,
+            left,
+            fails: true,
+            interrupts: 0,
+        };
+        let input = &mut Reading::new(reader);
+        let (outcome, stored) = fed(&rt, rt.alloc(), Kind::Login, input)?;
+        assert!(rt; outcome == Err(FeedFault::Read) && stored == Some(0), "after {left} bytes");
+    }
+    Ok(())
+}
+
+#[test]
+fn wherever_a_record_is_torn_nothing_is_posted(rt: HostRuntime) -> Result<(), Fail> {
+    for len in 1u64..768 {
+        let bytes = vec![in rt.alloc(); 0u8; len as usize]?;
+        let (outcome, stored) = fed_bytes(&rt, rt.alloc(), Kind::Login, bytes)?;
+        let torn = FeedFault::Torn {
+            records: len / 384,
+            rest: len % 384,
+        };
+        let want = (Err(torn), Some(0));
+        assert!(rt; len == 384 || (outcome, stored) == want, "{len} bytes");
+    }
+    Ok(())
+}
+
+#[test]
+fn zeros_are_no_process_records(rt: HostRuntime) -> Result<(), Fail> {
+    let zeros = vec![in rt.alloc(); 0u8; 131_072]?;
+    let (outcome, stored) = fed_bytes(&rt, rt.alloc(), Kind::Proc, zeros)?;
+    let want = FeedFault::Bad {
+        at: 0,
+        fault: RecordFault::ProcVersion(0),
+    };
+    assert!(rt; outcome == Err(want) && stored == Some(0));
+    Ok(())
+}
+
+#[test]
 fn a_later_read_that_fails_keeps_the_blocks_before(rt: HostRuntime) -> Result<(), Fail> {
     let reader = Trickle {
         step: 4096,
@@ -300,6 +343,7 @@ fn a_full_history_refuses_a_feed(rt: HostRuntime) -> Result<(), Fail> {
     let empty = Batch::procs(alloc, &[])?;
     let refused = post_until_refused(&rt, &desk, &mut pass, &empty);
     assert!(rt; refused == Some(PostFault::CallsFull));
+    assert_eq!(rt; desk.stored(&mut pass), 65_536);
     let mut input = Bytes::new(twos(alloc, 192)?);
     let outcome = feed(
         &rt,

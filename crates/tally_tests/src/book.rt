@@ -3,29 +3,15 @@ ghost use Rattle.std.specs.Prelude.{◌≡◌, ◌<◌, IfOk};
 ghost use Rattle.tally_book.specs.Answers.{IsAskable, HasDays};
 
 use crate::bytes::{login_record, logins, make_record, procs, put};
+use crate::held::{held_by, holds};
 use crate::printing::{print_receipt, print_served};
 use crate::stopped::Stopped;
+use crate::window::{grant_growths, refuse_growths};
 use std::alloc::Global;
 use std::hash::RandomState;
 use tally_book::{AskFault, Book, PostFault, Question, Receipt, Served};
 use tally_records::{Batch, Memory};
 use tally_usage::Order;
-
-/// How much a book holds.
-#[derive(Clone, Copy, PartialEq, Eq)]
-struct Held {
-    logins: usize,
-    procs: usize,
-    calls: usize,
-}
-
-fn held_by(book: &Book) -> Held {
-    Held {
-        logins: book.logins().len(),
-        procs: book.procs().len(),
-        calls: book.calls().len(),
-    }
-}
 
 /// A book of two callers.
 pub(crate) fn new_book(alloc: Global, keys: RandomState) -> Result<Book, Memory>
@@ -38,13 +24,18 @@ pub(crate) fn new_book(alloc: Global, keys: RandomState) -> Result<Book, Memory>
 }
 
 /// Posts, and posts again where memory was refused.
-pub(crate) fn post(book: &mut Book, caller: u32, batch: &Batch) -> Result<Receipt, Stopped>
+pub(crate) fn post(
+    alloc: Global,
+    book: &mut Book,
+    caller: u32,
+    batch: &Batch,
+) -> Result<Receipt, Stopped>
     requires { caller < book.old.callers }
     ensures { book.new.callers ≡ book.old.callers }
 {
-    let before = held_by(book);
+    let before = held_by(alloc, book)?;
     match book.post(caller, batch) {
-        Err(PostFault::Memory) if held_by(book) != before => Err(Stopped::Changed("the book")),
+        Err(PostFault::Memory) if !holds(book, &before) => Err(Stopped::Changed("the book")),
         Err(PostFault::Memory) => Ok(book.post(caller, batch)?),
         posted => Ok(posted?),
     }
@@ -57,9 +48,9 @@ fn ask(alloc: Global, book: &mut Book, caller: u32, question: &Question) -> Resu
     ensures callers { book.new.callers ≡ book.old.callers }
     ensures days { IfOk result (λ served. HasDays served.answer) }
 {
-    let before = held_by(book);
+    let before = held_by(alloc, book)?;
     match book.ask(alloc, caller, question) {
-        Err(AskFault::Memory) if held_by(book) != before => Err(Stopped::Changed("the book")),
+        Err(AskFault::Memory) if !holds(book, &before) => Err(Stopped::Changed("the book")),
         Err(AskFault::Memory) => Ok(book.ask(alloc, caller, question)?),
         asked => Ok(asked?),
     }
@@ -141,22 +132,34 @@ fn ask_of_nobody<R: Print + AllocGlobal>(rt: &R, book: &mut Book) -> Result<(), 
     }
 }
 
+/// Prints what a book holds, which takes no memory to see and to hand out.
+fn print_parts<R: Print + AllocGlobal>(rt: &R, book: Book) -> Result<(), Stopped> {
+    refuse_growths(rt.alloc());
+    let seen = (
+        book.callers(),
+        book.logins().len(),
+        book.procs().len(),
+        book.calls().len(),
+    );
+    let (logins, procs, calls) = book.into_parts();
+    let given = (logins.len(), procs.len(), calls.len());
+    grant_growths(rt.alloc());
+    if seen != (2, given.0, given.1, given.2) {
+        return Err(Stopped::Changed("a closed book"));
+    }
+    println!(rt; "book: {} {} in {} calls", given.0, given.1, given.2)?;
+    Ok(())
+}
+
 /// Prints what each call of the script answers.
 pub(crate) fn script<R: Print + AllocGlobal>(rt: &R, keys: RandomState) -> Result<(), Stopped> {
     let mut book = new_book(rt.alloc(), keys)?;
     let hour = hour(rt.alloc())?;
     let makes = makes(rt.alloc())?;
-    print_receipt(rt, post(&mut book, 0, &hour)?)?;
+    print_receipt(rt, post(rt.alloc(), &mut book, 0, &hour)?)?;
     report(rt, &mut book, 1, &TOTAL)?;
     ask_of_nobody(rt, &mut book)?;
-    print_receipt(rt, post(&mut book, 1, &makes)?)?;
+    print_receipt(rt, post(rt.alloc(), &mut book, 1, &makes)?)?;
     report(rt, &mut book, 0, &COMMANDS)?;
-    let (logins, procs, calls) = book.into_parts();
-    println!(rt;
-        "book: {} {} in {} calls",
-        logins.len(),
-        procs.len(),
-        calls.len()
-    )?;
-    Ok(())
+    print_parts(rt, book)
 }

@@ -5,6 +5,7 @@ ghost use Rattle.tally_book.specs.Answers.{HasDays, IsAskable};
 use crate::book::{COMMANDS, TOTAL, hour, makes};
 use crate::printing::{print_receipt, print_served};
 use crate::stopped::Stopped;
+use crate::window::{grant_growths, refuse_growths};
 use std::alloc::Global;
 use std::hash::RandomState;
 use std::sync::Wait;
@@ -27,7 +28,8 @@ pub(crate) fn open(alloc: Global, keys: RandomState) -> Result<(Desk, Pass, Pass
     Ok((desk, first, second))
 }
 
-/// The book of a desk of two callers, for whose passes room is made again where memory was refused.
+/// The book of a desk of two callers, for whose passes room is made again where memory was refused; to close it
+/// takes none.
 pub(crate) fn close(alloc: Global, desk: Desk, first: Pass, second: Pass) -> Result<Book, Stopped>
     requires first { first.desk ≡ desk.id }
     requires second { second.desk ≡ desk.id }
@@ -39,7 +41,10 @@ pub(crate) fn close(alloc: Global, desk: Desk, first: Pass, second: Pass) -> Res
     let mut passes = room?;
     passes.push_reserved(first);
     passes.push_reserved(second);
-    desk.close(passes).map_err(|_| Stopped::Refused("close"))
+    refuse_growths(alloc);
+    let closed = desk.close(passes);
+    grant_growths(alloc);
+    closed.map_err(|_| Stopped::Refused("close"))
 }
 
 /// Posts, and posts again where memory was refused.
@@ -111,11 +116,14 @@ fn ask_of_nobody<R: Print + AllocGlobal + Wait>(
 }
 
 /// Prints how many calls were answered.
-fn print_stored<R: Print>(rt: &R, desk: &Desk, pass: &mut Pass) -> Result<(), Stopped>
+fn print_stored<R: Print + AllocGlobal>(rt: &R, desk: &Desk, pass: &mut Pass) -> Result<(), Stopped>
     requires { pass.old.desk ≡ desk.now.id }
     ensures { pass.new.desk ≡ pass.old.desk }
 {
-    println!(rt; "stored {}", desk.stored(pass))?;
+    refuse_growths(rt.alloc());
+    let stored = desk.stored(pass);
+    grant_growths(rt.alloc());
+    println!(rt; "stored {stored}")?;
     Ok(())
 }
 

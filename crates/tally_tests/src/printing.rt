@@ -3,10 +3,11 @@ ghost use Rattle.std.specs.Prelude.{◌≡◌, IfOk};
 ghost use Rattle.tally_book.specs.Answers.{HasDays};
 
 use crate::stopped::Stopped;
+use crate::watched::Watched;
 use std::alloc::Global;
 use std::io::{self, Write};
 use tally_book::{Answer, Receipt, Served};
-use tally_print::{Kept, PrintFault, print_answer};
+use tally_print::{PrintFault, print_answer};
 use tally_records::Memory;
 
 /// An equal answer, copied again where memory was refused.
@@ -19,16 +20,23 @@ fn copy(alloc: Global, answer: &Answer) -> Result<Answer, Memory>
     }
 }
 
-/// The text of an answer, printed again where memory was refused: to the printer or to its output.
-fn text(alloc: Global, answer: &Answer) -> Result<Kept, PrintFault>
+/// The text of an answer, printed again where memory was refused: to the printer or to its output,
+/// which the fault tells apart. What was written then is a first part of the text.
+fn text(alloc: Global, answer: &Answer) -> Result<Watched, Stopped>
     requires { HasDays answer.now }
 {
-    let mut first = Kept::new(alloc);
-    if print_answer(alloc, answer, 0, &mut first, None).is_ok() {
+    let mut first = Watched::new(alloc);
+    let Err(fault) = print_answer(alloc, answer, 0, &mut first, None) else {
         return Ok(first);
-    }
-    let mut second = Kept::new(alloc);
+    };
+    let mut second = Watched::new(alloc);
     print_answer(alloc, answer, 0, &mut second, None)?;
+    if (fault == PrintFault::Write) != first.failed {
+        return Err(Stopped::Changed("a fault of the output"));
+    }
+    if !second.kept.bytes().starts_with(first.kept.bytes()) {
+        return Err(Stopped::Changed("a text"));
+    }
     Ok(second)
 }
 
@@ -38,7 +46,7 @@ fn print_copy<R: Print + AllocGlobal>(rt: &R, answer: &Answer) -> Result<(), Sto
 {
     let copied = copy(rt.alloc(), answer)?;
     let printed = text(rt.alloc(), &copied)?;
-    io::writer(rt).write_all(printed.bytes())?;
+    io::writer(rt).write_all(printed.kept.bytes())?;
     Ok(())
 }
 

@@ -1,44 +1,18 @@
 //! Sessions of two hosts, to which a batch with three new users and lines is added.
-ghost use Rattle.std.specs.Prelude.{◌≡◌, ◌<◌, IfOk};
-ghost use Rattle.tally_records.specs.Records.{IsLogins};
+ghost use Rattle.std.specs.Prelude.{◌≡◌, ◌<◌, ◌≤◌, ◌+◌, IfOk, OnOk, Some, length};
+ghost use Rattle.tally_records.specs.Records.{IsLogins, logins_in, record_count};
 
 use crate::bytes::{login_record, logins, put};
+use crate::session_answers::{Seen, answers_of, are_same, seen_of};
 use crate::stopped::Stopped;
+use crate::window::{grant_growths, refuse_growths};
 use std::alloc::Global;
 use std::hash::RandomState;
-use tally_records::{Batch, BatchFault, List, Memory, Name};
+use tally_records::{Batch, BatchFault, Memory};
 use tally_sessions::{DayTime, DayUserTime, Sessions, Stay, UserTime};
 
 /// The most entries of sessions.
 const ENTRY_LIMIT: usize = 1_048_576;
-
-/// What takes no memory to ask.
-#[derive(Clone, Copy, PartialEq, Eq)]
-struct Seen {
-    entries: usize,
-    total: u64,
-    of_ann: u64,
-    first: Option<i32>,
-}
-
-fn name(text: &str) -> Name {
-    let mut name = [0; 32];
-    for (to, from) in name.iter_mut().zip(text.as_bytes()) {
-        *to = *from;
-    }
-    name
-}
-
-fn seen_of(sessions: &Sessions) -> Seen
-    requires { sessions.now.hosts ≡ 2 }
-{
-    Seen {
-        entries: sessions.entries().len(),
-        total: sessions.total(None),
-        of_ann: sessions.connect(&name("ann"), None),
-        first: sessions.first(1),
-    }
-}
 
 fn new_sessions(alloc: Global, keys: RandomState) -> Result<Sessions, Memory>
     ensures { IfOk result (λ s. s.hosts ≡ 2) }
@@ -49,55 +23,43 @@ fn new_sessions(alloc: Global, keys: RandomState) -> Result<Sessions, Memory>
     }
 }
 
-/// Adds a batch, made ready again where memory was refused.
-fn add(sessions: &mut Sessions, host: u32, batch: &Batch) -> Result<(), Stopped>
+/// Makes sessions ready for a batch, and again where memory was refused.
+fn prepare(alloc: Global, sessions: &mut Sessions, host: u32, batch: &Batch) -> Result<(), Stopped>
+    requires host { host < sessions.old.hosts }
+    requires hosts { sessions.old.hosts ≡ 2 }
+    requires kind { IsLogins batch.now }
+    requires room { length sessions.old.entries + record_count batch.now ≤ 1048576 }
+    ensures ready { OnOk result (sessions.new ≡ record sessions.old { ready = Some (record { host = host; records = logins_in batch.now }) }) }
+    ensures hosts { sessions.new.hosts ≡ 2 }
+{
+    let before = answers_of(alloc, sessions)?;
+    if sessions.prepare(host, batch).is_ok() {
+        return Ok(());
+    }
+    let after = answers_of(alloc, sessions)?;
+    if !are_same(&before, &after) {
+        return Err(Stopped::Changed("sessions"));
+    }
+    sessions.prepare(host, batch)?;
+    Ok(())
+}
+
+/// Adds a batch, which takes no memory once the sessions are ready for it.
+fn add(alloc: Global, sessions: &mut Sessions, host: u32, batch: &Batch) -> Result<Seen, Stopped>
     requires hosts { sessions.old.hosts ≡ 2 }
     requires host { host < 2 }
     requires kind { IsLogins batch.now }
     ensures { sessions.new.hosts ≡ 2 }
 {
-    let before = seen_of(sessions);
     if sessions.entries().len() + batch.len() > ENTRY_LIMIT {
         return Err(Stopped::Refused("batch"));
     }
-    if sessions.prepare(host, batch).is_err() {
-        if seen_of(sessions) != before {
-            return Err(Stopped::Changed("sessions"));
-        }
-        sessions.prepare(host, batch)?;
-    }
+    prepare(alloc, sessions, host, batch)?;
+    refuse_growths(alloc);
     sessions.add(host, batch);
-    Ok(())
-}
-
-fn stays(alloc: Global, sessions: &Sessions) -> Result<List<Stay>, Memory>
-    requires { sessions.now.hosts ≡ 2 }
-{
-    match sessions.stays(alloc, 1, None, None) {
-        Err(_) => sessions.stays(alloc, 1, None, None),
-        answered => answered,
-    }
-}
-
-fn by_user(alloc: Global, sessions: &Sessions) -> Result<List<UserTime>, Memory> {
-    match sessions.connect_by_user(alloc, None) {
-        Err(_) => sessions.connect_by_user(alloc, None),
-        answered => answered,
-    }
-}
-
-fn by_day(alloc: Global, sessions: &Sessions) -> Result<List<DayTime>, Memory> {
-    match sessions.connect_by_day(alloc, 0, None) {
-        Err(_) => sessions.connect_by_day(alloc, 0, None),
-        answered => answered,
-    }
-}
-
-fn by_both(alloc: Global, sessions: &Sessions) -> Result<List<DayUserTime>, Memory> {
-    match sessions.connect_by_day_user(alloc, 0, None) {
-        Err(_) => sessions.connect_by_day_user(alloc, 0, None),
-        answered => answered,
-    }
+    let seen = seen_of(sessions);
+    grant_growths(alloc);
+    Ok(seen)
 }
 
 /// A session of one hour.
@@ -159,15 +121,15 @@ pub(crate) fn script<R: Print + AllocGlobal>(rt: &R, keys: RandomState) -> Resul
     let mut sessions = new_sessions(rt.alloc(), keys)?;
     let hour = hour(rt.alloc())?;
     let three = three(rt.alloc())?;
-    add(&mut sessions, 0, &hour)?;
-    add(&mut sessions, 1, &three)?;
-    let seen = seen_of(&sessions);
+    add(rt.alloc(), &mut sessions, 0, &hour)?;
+    let seen = add(rt.alloc(), &mut sessions, 1, &three)?;
     println!(rt;
         "sessions: {} entries, {} and {} seconds",
         seen.entries, seen.total, seen.of_ann
     )?;
-    print_stays(rt, stays(rt.alloc(), &sessions)?.as_slice())?;
-    print_users(rt, by_user(rt.alloc(), &sessions)?.as_slice())?;
-    print_days(rt, by_day(rt.alloc(), &sessions)?.as_slice())?;
-    print_both(rt, by_both(rt.alloc(), &sessions)?.as_slice())
+    let answers = answers_of(rt.alloc(), &sessions)?;
+    print_stays(rt, answers.of_second_host.as_slice())?;
+    print_users(rt, answers.by_user.as_slice())?;
+    print_days(rt, answers.by_day.as_slice())?;
+    print_both(rt, answers.by_both.as_slice())
 }

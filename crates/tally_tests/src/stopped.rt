@@ -1,6 +1,7 @@
 use std::alloc::AllocError;
 use std::io;
 use tally_book::{AskFault, PostFault};
+use tally_cli::LineFault;
 use tally_desk::{FeedFault, OpenFault};
 use tally_print::PrintFault;
 use tally_records::{BatchFault, Memory};
@@ -80,6 +81,15 @@ impl From<FeedFault> for Stopped {
         match fault {
             FeedFault::Memory => Stopped::Memory,
             _ => Stopped::Refused("feed"),
+        }
+    }
+}
+
+impl From<LineFault> for Stopped {
+    fn from(fault: LineFault) -> Stopped {
+        match fault {
+            LineFault::Memory => Stopped::Memory,
+            _ => Stopped::Refused("word"),
         }
     }
 }

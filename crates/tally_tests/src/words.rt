@@ -1,0 +1,64 @@
+//! Command lines: one that is good, one with a file without its prefix, and one with a number out of range.
+
+use crate::stopped::Stopped;
+use std::alloc::{AllocError, Global};
+use tally_cli::{Line, LineFault, file_word, job_of};
+
+fn words_of(alloc: Global, given: &[&str]) -> Result<Vec<String>, AllocError> {
+    let mut words = Vec::new(alloc);
+    for word in given {
+        words.push(String::from_str(alloc, word)?)?;
+    }
+    Ok(words)
+}
+
+/// The words, made again where memory was refused.
+fn words(alloc: Global, given: &[&str]) -> Result<Vec<String>, AllocError> {
+    match words_of(alloc, given) {
+        Err(_) => words_of(alloc, given),
+        made => made,
+    }
+}
+
+/// The file word of this index, looked for again where memory was refused.
+fn word(alloc: Global, words: &[String], index: usize) -> Result<String, LineFault> {
+    match file_word(alloc, words, index) {
+        Err(LineFault::Memory) => file_word(alloc, words, index),
+        found => found,
+    }
+}
+
+/// Prints what the words are read as.
+fn print_line<R: Print + AllocGlobal>(rt: &R, words: &[String]) -> Result<(), Stopped> {
+    let read = match job_of(rt.alloc(), words) {
+        Err(LineFault::Memory) => job_of(rt.alloc(), words),
+        read => read,
+    };
+    match read {
+        Ok(Line::Run { job, files }) => {
+            println!(rt; "words: {} files, {} feeders", files.len(), job.feeders)?
+        }
+        Ok(Line::Help { text: _text }) => println!(rt; "words: help")?,
+        Err(LineFault::Usage { text: _text }) => println!(rt; "words: refused")?,
+        Err(LineFault::Prefix { index }) => {
+            let found = word(rt.alloc(), words, index)?;
+            println!(rt; "words: no prefix in {} at {index}", found.as_str())?
+        }
+        Err(LineFault::Memory) => return Err(Stopped::Memory),
+    }
+    Ok(())
+}
+
+/// Prints what each command line is read as.
+pub(crate) fn script<R: Print + AllocGlobal>(rt: &R) -> Result<(), Stopped> {
+    let alloc = rt.alloc();
+    print_line(
+        rt,
+        words(alloc, &["ac", "-p", "--feeders", "2", "f", "g"])?.as_slice(),
+    )?;
+    print_line(rt, words(alloc, &["all", "w:f", "x:g"])?.as_slice())?;
+    print_line(
+        rt,
+        words(alloc, &["last", "--feeders", "0", "f"])?.as_slice(),
+    )
+}
