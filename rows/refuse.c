@@ -5,6 +5,7 @@
    read-end     the Nth read gives no byte, as at the end
    read-signal, write-signal   the Nth read or write answers EINTR, and so do those after it, TIMES in all
    write-less, write-one       the Nth write takes one byte less than it is given, or one byte
+   random       the Nth call for random bytes fails
    short        every read and write moves one byte
    read-last, write-last       so it is, and the Nth read or write fails by EIO
    Where a call was refused, the file REFUSED is made. Reads and writes of standard error are left alone.
@@ -82,6 +83,20 @@ void *malloc(size_t size) {
 
 void *realloc(void *old, size_t size) {
     return no_memory(size) ? (errno = ENOMEM, NULL) : __libc_realloc(old, size);
+}
+
+int getentropy(void *to, size_t size) {
+    static int (*real)(void *, size_t);
+    if (!real)
+        real = (int (*)(void *, size_t))dlsym(RTLD_NEXT, "getentropy");
+    return refused("random", ++randoms) ? (errno = ENOSYS, -1) : real(to, size);
+}
+
+ssize_t getrandom(void *to, size_t size, unsigned flags) {
+    static ssize_t (*real)(void *, size_t, unsigned);
+    if (!real)
+        real = (ssize_t (*)(void *, size_t, unsigned))dlsym(RTLD_NEXT, "getrandom");
+    return refused("random", ++randoms) ? (errno = ENOSYS, -1) : real(to, size, flags);
 }
 
 ssize_t read(int fd, void *to, size_t size) {

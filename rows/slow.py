@@ -8,6 +8,7 @@ import struct
 
 BLOCK = 1024                      # records that are read at once
 SIZES = {'w': 384, 'p': 64}
+VERSIONS = (2, 3)
 ENDS = {'Login': 'Next', 'Logout': 'Logout', 'Down': 'down', 'Boot': 'crash'}
 
 
@@ -67,9 +68,6 @@ def process(raw, at):
         real, name = elapsed(word), raw[48:64]
     cpu = user + system
     return dict(name=text_of(name), forked=raw[0] % 2 == 1, uid=uid, real=real, cpu=cpu, io=io, mem_cpu=mem * cpu)
-
-
-VERSIONS = (2, 3)
 
 
 def records_of(kind, raw):

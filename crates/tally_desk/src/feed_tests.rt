@@ -168,6 +168,7 @@ fn a_first_read_that_fails_posts_nothing(rt: HostRuntime) -> Result<(), Fail> {
 
 #[test]
 fn whichever_read_fails_posts_nothing(rt: HostRuntime) -> Result<(), Fail> {
+    let keys = RandomState::new(&rt)?;
     for left in 0..769 {
         let reader = Trickle {
             step: 1,
@@ -176,7 +177,7 @@ fn whichever_read_fails_posts_nothing(rt: HostRuntime) -> Result<(), Fail> {
             interrupts: 0,
         };
         let input = &mut Reading::new(reader);
-        let (outcome, stored) = fed(&rt, rt.alloc(), Kind::Login, input)?;
+        let (outcome, stored) = fed(&rt, rt.alloc(), keys, Kind::Login, input)?;
         assert!(rt; outcome == Err(FeedFault::Read) && stored == Some(0), "after {left} bytes");
     }
     Ok(())
@@ -184,9 +185,10 @@ fn whichever_read_fails_posts_nothing(rt: HostRuntime) -> Result<(), Fail> {
 
 #[test]
 fn wherever_a_record_is_torn_nothing_is_posted(rt: HostRuntime) -> Result<(), Fail> {
+    let keys = RandomState::new(&rt)?;
     for len in 1u64..768 {
         let bytes = vec![in rt.alloc(); 0u8; len as usize]?;
-        let (outcome, stored) = fed_bytes(&rt, rt.alloc(), Kind::Login, bytes)?;
+        let (outcome, stored) = fed_bytes(&rt, rt.alloc(), keys, Kind::Login, bytes)?;
         let torn = FeedFault::Torn {
             records: len / 384,
             rest: len % 384,
@@ -200,7 +202,7 @@ fn wherever_a_record_is_torn_nothing_is_posted(rt: HostRuntime) -> Result<(), Fa
 #[test]
 fn zeros_are_no_process_records(rt: HostRuntime) -> Result<(), Fail> {
     let zeros = vec![in rt.alloc(); 0u8; 131_072]?;
-    let (outcome, stored) = fed_bytes(&rt, rt.alloc(), Kind::Proc, zeros)?;
+    let (outcome, stored) = fed_bytes(&rt, rt.alloc(), RandomState::new(&rt)?, Kind::Proc, zeros)?;
     let want = FeedFault::Bad {
         at: 0,
         fault: RecordFault::ProcVersion(0),
