@@ -178,7 +178,10 @@ fn whichever_read_fails_posts_nothing(rt: HostRuntime) -> Result<(), Fail> {
         };
         let input = &mut Reading::new(reader);
         let (outcome, stored) = fed(&rt, rt.alloc(), keys, Kind::Login, input)?;
-        assert!(rt; outcome == Err(FeedFault::Read) && stored == Some(0), "after {left} bytes");
+        assert!(rt;
+            outcome == Err(FeedFault::Read) && stored == Some(0),
+            "after {left} bytes"
+        );
     }
     Ok(())
 }
