@@ -39,7 +39,7 @@ fn scripts<R: Print + AllocGlobal + RandomSource + Threads + Wait + Sync>(
     reports::nights(rt, keys)?;
     desk::script(rt, keys)?;
     feeds::script(rt, keys)?;
-    quiet::script(rt)?;
+    quiet::script(rt, keys)?;
     runs::script(rt, keys)?;
     words::script(rt)
 }
