@@ -35,7 +35,7 @@ __attribute__((constructor)) static void begin(void) {
         if (*colon)
             times = strtol(colon + 1, NULL, 10);
     }
-    memory = reads = writes = 0;
+    memory = reads = writes = randoms = 0;
 }
 
 static void mark(const char *name) {
@@ -115,6 +115,24 @@ ssize_t read(int fd, void *to, size_t size) {
     if (refused("read-end", reads))
         return 0;
     return real(fd, to, size && (is("short") || is("read-last")) ? 1 : size);
+}
+
+int getentropy(void *to, size_t size) {
+    static int (*real)(void *, size_t);
+    if (!real)
+        real = (int (*)(void *, size_t))dlsym(RTLD_NEXT, "getentropy");
+    if (refused("random", ++randoms))
+        return errno = EIO, -1;
+    return real(to, size);
+}
+
+ssize_t getrandom(void *to, size_t size, unsigned flags) {
+    static ssize_t (*real)(void *, size_t, unsigned);
+    if (!real)
+        real = (ssize_t (*)(void *, size_t, unsigned))dlsym(RTLD_NEXT, "getrandom");
+    if (refused("random", ++randoms))
+        return errno = EIO, -1;
+    return real(to, size, flags);
 }
 
 ssize_t write(int fd, const void *from, size_t size) {

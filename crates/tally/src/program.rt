@@ -5,9 +5,11 @@ use crate::faults::{FAULT, REFUSED, fault, file_fault, run_fault, usage};
 use crate::opened::{OpenFault, ROOT, hold_closed_streams, open_all};
 use crate::shown::{ErrorsTo, Shown, printable};
 use crate::words::{WordsFault, words};
+use std::hash::RandomState;
 use std::io;
 use std::os::fd::AsRawFd;
 use std::process::ExitCode;
+use std::random::RandomSource;
 use std::rt::{Env, Files};
 use std::sync::Wait;
 use std::thread::Threads;
@@ -18,7 +20,7 @@ use tally_print::Writing;
 /// Runs the program, and says how it went.
 pub(crate) fn tally<R>(rt: &R, to: ErrorsTo) -> ExitCode
 where
-    R: Env + Files + Input + Print + Eprint + AllocGlobal + Threads + Wait + Sync,
+    R: Env + Files + Input + Print + Eprint + AllocGlobal + RandomSource + Threads + Wait + Sync,
     R::File: AsRawFd + Drop + Send,
     R::Reader: Send,
 {
@@ -82,11 +84,15 @@ fn no_prefix<R: Eprint + AllocGlobal>(
 /// Opens all files, and then reads them and prints the report.
 fn report<R>(rt: &R, to: ErrorsTo, job: &Job, files: &[FileArg]) -> ExitCode
 where
-    R: Files + Input + Print + Eprint + AllocGlobal + Threads + Wait + Sync,
+    R: Files + Input + Print + Eprint + AllocGlobal + RandomSource + Threads + Wait + Sync,
     R::File: Drop + Send,
     R::Reader: Send,
     requires { IsRunnable job.now }
 {
+    let keys = match RandomState::new(rt) {
+        Ok(keys) => keys,
+        Err(_) => return fault(rt, FAULT, "no random bytes"),
+    };
     let sources = match open_all(rt, rt.alloc(), files) {
         Ok(sources) => sources,
         Err(OpenFault::Memory) => return fault(rt, FAULT, "out of memory"),
@@ -95,7 +101,7 @@ where
         }
     };
     let mut out = Writing::new(io::writer(rt));
-    match run(rt, rt.alloc(), job, sources, &OpenGate, &mut out) {
+    match run(rt, rt.alloc(), keys, job, sources, &OpenGate, &mut out) {
         Ok(()) => ExitCode::SUCCESS,
         Err(found) => run_fault(rt, to, files, found),
     }
@@ -104,7 +110,7 @@ where
 /// Reports with the closed standard streams held, so that no file takes the place of one.
 fn hold_and_report<R>(rt: &R, to: ErrorsTo, job: &Job, files: &[FileArg]) -> ExitCode
 where
-    R: Files + Input + Print + Eprint + AllocGlobal + Threads + Wait + Sync,
+    R: Files + Input + Print + Eprint + AllocGlobal + RandomSource + Threads + Wait + Sync,
     R::File: AsRawFd + Drop + Send,
     R::Reader: Send,
     requires { IsRunnable job.now }

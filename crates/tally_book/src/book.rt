@@ -11,6 +11,7 @@ use crate::fault::{AskFault, PostFault};
 use crate::history::{Call, Counts, Receipt, Served};
 use crate::question::Question;
 use std::alloc::Global;
+use std::hash::RandomState;
 use std::marker::Model;
 use tally_records::{Batch, Kind, Memory};
 use tally_sessions::{Entry, Sessions};
@@ -124,8 +125,8 @@ fn record(calls: &mut Vec<Call>, call: Call) -> u64
 }
 
 impl Book {
-    /// An empty book of so many callers.
-    pub fn new(alloc: Global, callers: u32) -> Result<Book, Memory>
+    /// An empty book of so many callers. Its tables are hashed by the keys.
+    pub fn new(alloc: Global, keys: RandomState, callers: u32) -> Result<Book, Memory>
         requires some { 1 ≤ callers }
         requires few { callers ≤ 128 }
         ensures empty { IfOk result (λ b. b ≡ empty callers) }
@@ -133,8 +134,8 @@ impl Book {
     {
         Ok(Book {
             callers,
-            sessions: Sessions::new(alloc, callers)?,
-            summary: Summary::new(alloc),
+            sessions: Sessions::new(alloc, keys, callers)?,
+            summary: Summary::new(alloc, keys),
             calls: Vec::new(alloc),
         })
     }

@@ -3,6 +3,7 @@ ghost use Rattle.tally_book.specs.Answers.{IsAskable};
 
 use crate::{AskFault, Book, Counts, PostFault, Question, Receipt, Served};
 use std::alloc::Global;
+use std::hash::RandomState;
 use std::test::Fail;
 use tally_records::Batch;
 
@@ -63,10 +64,11 @@ fn filled(book: &mut Book, batch: &Batch) -> Option<PostFault> {
 /// Fills a book with the batch; why it was refused at last, and what an empty batch is answered then.
 fn overfilled(
     alloc: Global,
+    keys: RandomState,
     batch: &Batch,
     empty: &Batch,
 ) -> Result<(Option<PostFault>, Receipt), Fail> {
-    let mut book = Book::new(alloc, 1)?;
+    let mut book = Book::new(alloc, keys, 1)?;
     let refused = filled(&mut book, batch);
     Ok((refused, post(&mut book, 0, empty)?))
 }
@@ -76,7 +78,7 @@ fn a_book_full_of_login_records_takes_an_empty_batch_alone(rt: HostRuntime) -> R
     let zeros = vec![in rt.alloc(); 0u8; 393_216]?;
     let batch = Batch::logins(rt.alloc(), zeros.as_slice())?;
     let empty = Batch::logins(rt.alloc(), &[])?;
-    let (refused, receipt) = overfilled(rt.alloc(), &batch, &empty)?;
+    let (refused, receipt) = overfilled(rt.alloc(), RandomState::new(&rt)?, &batch, &empty)?;
     assert_eq!(rt; refused, Some(PostFault::LoginsFull { stored: 1_048_576 }));
     assert_eq!(rt; (receipt.call, receipt.after), (1025, counts(1_048_576, 0)));
     Ok(())
@@ -90,7 +92,7 @@ fn a_book_full_of_process_records_takes_an_empty_batch_alone(rt: HostRuntime) ->
     }
     let batch = Batch::procs(rt.alloc(), bytes.as_slice())?;
     let empty = Batch::procs(rt.alloc(), &[])?;
-    let (refused, receipt) = overfilled(rt.alloc(), &batch, &empty)?;
+    let (refused, receipt) = overfilled(rt.alloc(), RandomState::new(&rt)?, &batch, &empty)?;
     assert_eq!(rt; refused, Some(PostFault::ProcsFull { stored: 1_048_576 }));
     assert_eq!(rt; (receipt.call, receipt.after), (1025, counts(0, 1_048_576)));
     Ok(())
@@ -98,7 +100,7 @@ fn a_book_full_of_process_records_takes_an_empty_batch_alone(rt: HostRuntime) ->
 
 #[test]
 fn a_history_holds_65536_calls(rt: HostRuntime) -> Result<(), Fail> {
-    let mut book = Book::new(rt.alloc(), 1)?;
+    let mut book = Book::new(rt.alloc(), RandomState::new(&rt)?, 1)?;
     let empty = Batch::procs(rt.alloc(), &[])?;
     assert_eq!(rt; filled(&mut book, &empty), Some(PostFault::CallsFull));
     assert_eq!(rt; book.calls().len(), 65_536);

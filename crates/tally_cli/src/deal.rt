@@ -1,5 +1,5 @@
 //! Tasks that are dealt to workers.
-ghost use Rattle.std.specs.Prelude.{◌≡◌, ◌+◌, ◌-◌, ◌%◌, ◌<◌, ◌≤◌, ℕ, [], length, map, drop, slice_get, slice_index_or, sum_by, IfOk};
+ghost use Rattle.std.specs.Prelude.{◌≡◌, ◌+◌, ◌-◌, ◌%◌, ◌<◌, ◌≤◌, ℕ, [], length, map, drop, max, slice_get, slice_index_or, sum_by, IfOk};
 ghost use Rattle.std.specs.List.{All};
 ghost use Rattle.tally_cli.specs.Tasks.{AreReady};
 ghost use Rattle.tally_cli.specs.Deals.{AreDealt, IsReadable, work_of};
@@ -21,6 +21,17 @@ fn worker_of(number: usize, sources: usize, feeders: usize) -> usize
     } else {
         feeders + (number - sources)
     }
+}
+
+/// How many feeders have a source, where there is one: which feeder a source is dealt to stays
+/// the same.
+pub(crate) fn busy_feeders(feeders: usize, sources: usize) -> usize
+    requires { (0 < feeders) × (feeders ≤ 64) }
+    ensures allowed { (0 < result) × (result ≤ 64) }
+    ensures spared { result ≤ max 1 sources }
+    ensures same { (k : ℕ) → k < sources → k % result ≡ k % feeders }
+{
+    feeders.min(sources.max(1))
 }
 
 /// As many empty lists.

@@ -3,6 +3,7 @@ ghost use Rattle.tally_cli.specs.Jobs.{IsRunnable};
 
 use crate::{Job, Report, RunFault, Source, run};
 use std::alloc::{AllocError, Global};
+use std::hash::RandomState;
 use std::sync::Wait;
 use std::test::Fail;
 use std::thread::Threads;
@@ -55,6 +56,7 @@ fn one_hour(alloc: Global, rest: usize) -> Result<Vec<u8>, AllocError> {
 fn run_over<R: Threads + Wait + Sync>(
     rt: &R,
     alloc: Global,
+    keys: RandomState,
     report: Report,
     kind: Kind,
     bytes: Vec<u8>,
@@ -63,7 +65,15 @@ fn run_over<R: Threads + Wait + Sync>(
     let input = Bytes::new(bytes);
     sources.push(Source { kind, input })?;
     let mut out = Kept::new(alloc);
-    let outcome = run(rt, alloc, &plain(report), sources, &OpenGate, &mut out);
+    let outcome = run(
+        rt,
+        alloc,
+        keys,
+        &plain(report),
+        sources,
+        &OpenGate,
+        &mut out,
+    );
     Ok((outcome, out))
 }
 
@@ -71,14 +81,20 @@ fn run_over<R: Threads + Wait + Sync>(
 fn ac<R: Threads + Wait + Sync>(
     rt: &R,
     alloc: Global,
+    keys: RandomState,
     bytes: Vec<u8>,
 ) -> Result<(Result<(), RunFault>, Kept), AllocError> {
-    run_over(rt, alloc, TOTAL, Kind::Login, bytes)
+    run_over(rt, alloc, keys, TOTAL, Kind::Login, bytes)
 }
 
 #[test]
 fn an_hour_is_its_total(rt: HostRuntime) -> Result<(), Fail> {
-    let (outcome, out) = ac(&rt, rt.alloc(), one_hour(rt.alloc(), 768)?)?;
+    let (outcome, out) = ac(
+        &rt,
+        rt.alloc(),
+        RandomState::new(&rt)?,
+        one_hour(rt.alloc(), 768)?,
+    )?;
     assert!(rt; outcome.is_ok());
     assert!(rt; out.bytes() == b"total                        1.00\n".as_slice());
     Ok(())
@@ -90,6 +106,7 @@ fn an_hour_is_a_stay(rt: HostRuntime) -> Result<(), Fail> {
     let (outcome, out) = run_over(
         &rt,
         rt.alloc(),
+        RandomState::new(&rt)?,
         report,
         Kind::Login,
         one_hour(rt.alloc(), 768)?,
@@ -119,7 +136,14 @@ fn a_call_is_a_row_of_its_own(rt: HostRuntime) -> Result<(), Fail> {
         reverse: false,
         all: true,
     };
-    let (outcome, out) = run_over(&rt, rt.alloc(), report, Kind::Proc, one_call(rt.alloc())?)?;
+    let (outcome, out) = run_over(
+        &rt,
+        rt.alloc(),
+        RandomState::new(&rt)?,
+        report,
+        Kind::Proc,
+        one_call(rt.alloc())?,
+    )?;
     assert!(rt; outcome.is_ok());
     assert!(rt;
         out.bytes()
@@ -134,7 +158,14 @@ fn a_call_is_counted_for_its_user(rt: HostRuntime) -> Result<(), Fail> {
         order: Order::Cpu,
         reverse: false,
     };
-    let (outcome, out) = run_over(&rt, rt.alloc(), report, Kind::Proc, one_call(rt.alloc())?)?;
+    let (outcome, out) = run_over(
+        &rt,
+        rt.alloc(),
+        RandomState::new(&rt)?,
+        report,
+        Kind::Proc,
+        one_call(rt.alloc())?,
+    )?;
     assert!(rt; outcome.is_ok());
     assert!(rt;
         out.bytes()
@@ -145,7 +176,12 @@ fn a_call_is_counted_for_its_user(rt: HostRuntime) -> Result<(), Fail> {
 
 #[test]
 fn an_empty_file_has_the_total_zero(rt: HostRuntime) -> Result<(), Fail> {
-    let (outcome, out) = ac(&rt, rt.alloc(), Vec::new(rt.alloc()))?;
+    let (outcome, out) = ac(
+        &rt,
+        rt.alloc(),
+        RandomState::new(&rt)?,
+        Vec::new(rt.alloc()),
+    )?;
     assert!(rt; outcome.is_ok());
     assert!(rt; out.bytes() == b"total                        0.00\n".as_slice());
     Ok(())
@@ -153,7 +189,12 @@ fn an_empty_file_has_the_total_zero(rt: HostRuntime) -> Result<(), Fail> {
 
 #[test]
 fn a_torn_file_writes_nothing(rt: HostRuntime) -> Result<(), Fail> {
-    let (outcome, out) = ac(&rt, rt.alloc(), one_hour(rt.alloc(), 385)?)?;
+    let (outcome, out) = ac(
+        &rt,
+        rt.alloc(),
+        RandomState::new(&rt)?,
+        one_hour(rt.alloc(), 385)?,
+    )?;
     let fault = FeedFault::Torn {
         records: 1,
         rest: 1,
@@ -203,7 +244,15 @@ fn an_output_that_fails_ends_the_run(rt: HostRuntime) -> Result<(), Fail> {
         room: 5,
         failures: 0,
     };
-    let outcome = run(&rt, rt.alloc(), &plain(TOTAL), sources, &OpenGate, &mut out);
+    let outcome = run(
+        &rt,
+        rt.alloc(),
+        RandomState::new(&rt)?,
+        &plain(TOTAL),
+        sources,
+        &OpenGate,
+        &mut out,
+    );
     assert!(rt; outcome == Err(RunFault::Write) && out.room == 0);
     Ok(())
 }

@@ -11,7 +11,7 @@ ghost use Rattle.tally_cli.specs.Jobs.{IsRunnable};
 ghost use Rattle.tally_cli.specs.Runs.{AreRead, AreWorkedThrough, IsAllowed, IsCause, IsGood, IsNamed, IsOpenRefusal, IsPrintFault, IsReadCause, IsUnprinted};
 ghost use Rattle.tally_cli.specs.Runs.{Tell, Told, Unwritten, failed_writes, output_told, run_fault};
 
-use crate::deal::deal_out;
+use crate::deal::{busy_feeders, deal_out};
 use crate::fault::RunFault;
 use crate::gather::{Cause, Failure, take_all};
 use crate::job::Job;
@@ -19,6 +19,7 @@ use crate::sections::{answers_to, print_sections, questions_of};
 use crate::sources::Source;
 use crate::work::carry_out_lists;
 use std::alloc::{AllocError, Global};
+use std::hash::RandomState;
 use std::sync::Wait;
 use std::thread::Threads;
 use tally_book::{Book, entries_are_posts, host_order_is_enough};
@@ -45,7 +46,12 @@ fn close_all(desk: Desk, passes: Vec<Pass>) -> Book
 const MOST_CALLERS: usize = 128;
 
 /// A desk with a caller for each source and each asker.
-fn open(alloc: Global, sources: usize, askers: u32) -> Result<(Desk, Vec<Pass>), RunFault>
+fn open(
+    alloc: Global,
+    keys: RandomState,
+    sources: usize,
+    askers: u32,
+) -> Result<(Desk, Vec<Pass>), RunFault>
     requires { askers ≤ 128 }
     ensures opened { IfOk result (λ r. (r.0.callers ≡ sources + askers)
         × (r.1.items ≡ first_passes r.0.id (sources + askers))) }
@@ -57,7 +63,7 @@ fn open(alloc: Global, sources: usize, askers: u32) -> Result<(Desk, Vec<Pass>),
         let count = u32::try_from(sources).unwrap_or(u32::MAX);
         return Err(RunFault::Callers(count.saturating_add(askers)));
     }
-    match Desk::open(alloc, sources as u32 + askers) {
+    match Desk::open(alloc, keys, sources as u32 + askers) {
         Ok(opened) => Ok(opened),
         Err(OpenFault::Memory) => Err(RunFault::Memory),
         Err(OpenFault::Callers(count)) => Err(RunFault::Callers(count)),
@@ -101,6 +107,7 @@ fn work_through<R: Threads + Wait + Sync, I: Input + Send, G: Gate + Sync>(
     ensures worked { IfOk result (λ r. AreWorkedThrough I.to_come I.can_fail until sources.items passes.items r.0 r.1) }
 {
     let mut back = Vec::with_capacity(alloc, passes.len())?;
+    let feeders = busy_feeders(feeders, sources.len());
     let lists = deal_out(alloc, &desk, passes, sources, feeders, until)?;
     let lists = carry_out_lists(rt, alloc, &desk, lists, gate)?;
     let failure = take_all(lists, &mut back);
@@ -112,6 +119,7 @@ fn work_through<R: Threads + Wait + Sync, I: Input + Send, G: Gate + Sync>(
 fn feed_all<R: Threads + Wait + Sync, I: Input + Send, G: Gate + Sync>(
     rt: &R,
     alloc: Global,
+    keys: RandomState,
     job: &Job,
     sources: Vec<Source<I>>,
     gate: &G,
@@ -130,7 +138,7 @@ fn feed_all<R: Threads + Wait + Sync, I: Input + Send, G: Gate + Sync>(
     ensures read { IfErr result (λ f. (host : ℕ) → f ≡ RunFault.File host feed_fault_of.Read
         → (s : Source _) → I.can_fail (slice_index_or sources.items host s).input ≡ true) }
 {
-    let (desk, passes) = open(alloc, sources.len(), job.askers)?;
+    let (desk, passes) = open(alloc, keys, sources.len(), job.askers)?;
     let feeders = job.feeders as usize;
     entries_are_posts();
     let until = job.until;
@@ -195,6 +203,7 @@ fn finish<O: Output>(out: &mut O) -> Result<(), RunFault>
 pub fn run<R: Threads + Wait + Sync, I: Input + Send, G: Gate + Sync, O: Output>(
     rt: &R,
     alloc: Global,
+    keys: RandomState,
     job: &Job,
     sources: Vec<Source<I>>,
     gate: &G,
@@ -225,7 +234,7 @@ pub fn run<R: Threads + Wait + Sync, I: Input + Send, G: Gate + Sync, O: Output>
     ensures stays { O.tells out.new ≡ O.tells out.old }
 {
     let kinds = kinds_of(alloc, sources.as_slice())?;
-    let book = feed_all(rt, alloc, job, sources, gate)?;
+    let book = feed_all(rt, alloc, keys, job, sources, gate)?;
     host_order_is_enough();
     report(alloc, job, kinds.as_slice(), book, out)?;
     finish(out)

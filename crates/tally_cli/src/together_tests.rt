@@ -4,6 +4,7 @@ ghost use Rattle.std.specs.Prelude.{◌≤◌};
 use crate::run_tests::put_at;
 use crate::{Job, Report, RunFault, Source, run};
 use std::alloc::{AllocError, Global};
+use std::hash::RandomState;
 use std::sync::Wait;
 use std::sync::atomic::{AtomicU64, Ordering};
 use std::test::Fail;
@@ -55,6 +56,7 @@ fn two_blocks(alloc: Global, user: &[u8], logout: &[u8]) -> Result<Vec<u8>, Allo
 fn all_of_two<R: Threads + Wait + Sync, G: Gate + Sync>(
     rt: &R,
     alloc: Global,
+    keys: RandomState,
     feeders: u32,
     askers: u32,
     gate: &G,
@@ -75,7 +77,7 @@ fn all_of_two<R: Threads + Wait + Sync, G: Gate + Sync>(
         until: None,
     };
     let mut out = Kept::new(alloc);
-    let outcome = run(rt, alloc, &job, sources, gate, &mut out);
+    let outcome = run(rt, alloc, keys, &job, sources, gate, &mut out);
     Ok((outcome, out))
 }
 
@@ -99,7 +101,7 @@ fn two_feeders_and_an_asker_go_on_together(rt: HostRuntime) -> Result<(), Fail> 
         arrived: AtomicU64::new(0),
         late: AtomicU64::new(0),
     };
-    let (outcome, out) = all_of_two(&rt, rt.alloc(), 2, 1, &gate)?;
+    let (outcome, out) = all_of_two(&rt, rt.alloc(), RandomState::new(&rt)?, 2, 1, &gate)?;
     assert!(rt; outcome == Ok(()) && gate.late.load(Ordering::SeqCst) == 0);
     assert!(rt; out.bytes() == ALL_OF_TWO);
     Ok(())
@@ -107,7 +109,7 @@ fn two_feeders_and_an_asker_go_on_together(rt: HostRuntime) -> Result<(), Fail> 
 
 #[test]
 fn one_feeder_alone_gives_the_same(rt: HostRuntime) -> Result<(), Fail> {
-    let (outcome, out) = all_of_two(&rt, rt.alloc(), 1, 0, &OpenGate)?;
+    let (outcome, out) = all_of_two(&rt, rt.alloc(), RandomState::new(&rt)?, 1, 0, &OpenGate)?;
     assert!(rt; outcome == Ok(()) && out.bytes() == ALL_OF_TWO);
     Ok(())
 }

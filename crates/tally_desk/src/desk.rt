@@ -17,6 +17,7 @@ ghost use Rattle.tally_desk.specs.Views.{newcomers};
 
 use crate::lock::{Seat, TicketLock};
 use std::alloc::Global;
+use std::hash::RandomState;
 use std::marker::Model;
 use std::sync::Wait;
 use tally_book::{AskFault, Book, PostFault, Question, Receipt, Served};
@@ -145,8 +146,13 @@ fn gather_all(lock: &TicketLock, mut passes: Vec<Pass>) -> Seat
 }
 
 impl Desk {
-    /// A desk with an empty book, and a pass for each of 1 to 128 callers, in order.
-    pub fn open(alloc: Global, callers: u32) -> Result<(Desk, Vec<Pass>), OpenFault>
+    /// A desk with an empty book, and a pass for each of 1 to 128 callers, in order. The book's
+    /// tables are hashed by the keys.
+    pub fn open(
+        alloc: Global,
+        keys: RandomState,
+        callers: u32,
+    ) -> Result<(Desk, Vec<Pass>), OpenFault>
         ensures callers { IfOk result (λ r. r.0.callers ≡ callers) }
         ensures passes { IfOk result (λ r. r.1.items ≡ first_passes r.0.id callers) }
         ensures desk { IfOk result (λ r. All (λ p. p.desk ≡ r.0.id) r.1.items) }
@@ -159,7 +165,7 @@ impl Desk {
         let mut passes = Vec::with_capacity(alloc, callers as usize).map_err(
             |_| OpenFault::Memory,
         )?;
-        let (lock, seat) = TicketLock::open(alloc, callers).map_err(|_| OpenFault::Memory)?;
+        let (lock, seat) = TicketLock::open(alloc, keys, callers).map_err(|_| OpenFault::Memory)?;
         deal_all(&lock, seat, callers, &mut passes);
         Ok((Desk { lock, callers }, passes))
     }

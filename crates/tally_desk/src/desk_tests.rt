@@ -5,6 +5,7 @@ ghost use Rattle.tally_book.specs.Books.{IsLegal};
 
 use crate::{CloseFault, Desk, OpenFault, Pass};
 use std::alloc::Global;
+use std::hash::RandomState;
 use std::sync::Wait;
 use std::test::Fail;
 use std::thread::{Threads, join};
@@ -66,11 +67,11 @@ const TOTAL: Question = Question::Connect {
 };
 
 /// A desk of two callers, and their passes.
-fn pair(alloc: Global) -> Result<(Desk, Pass, Pass), Fail>
+fn pair(alloc: Global, keys: RandomState) -> Result<(Desk, Pass, Pass), Fail>
     ensures first { IfOk result (λ r. r.1.desk ≡ r.0.id) }
     ensures second { IfOk result (λ r. r.2.desk ≡ r.0.id) }
 {
-    let (desk, mut passes) = Desk::open(alloc, 2)?;
+    let (desk, mut passes) = Desk::open(alloc, keys, 2)?;
     let second = passes.pop().ok_or("a second pass")?;
     let first = passes.pop().ok_or("a first pass")?;
     Ok((desk, first, second))
@@ -93,16 +94,17 @@ fn commands_of(answer: &Answer) -> Option<(usize, u64)> {
 }
 
 #[test]
-fn a_desk_has_1_to_128_callers(rt: HostRuntime) {
-    let none = Desk::open(rt.alloc(), 0);
+fn a_desk_has_1_to_128_callers(rt: HostRuntime) -> Result<(), Fail> {
+    let none = Desk::open(rt.alloc(), RandomState::new(&rt)?, 0);
     assert_eq!(rt; none.err(), Some(OpenFault::Callers(0)));
-    let many = Desk::open(rt.alloc(), 129);
+    let many = Desk::open(rt.alloc(), RandomState::new(&rt)?, 129);
     assert_eq!(rt; many.err(), Some(OpenFault::Callers(129)));
+    Ok(())
 }
 
 #[test]
 fn passes_are_numbered_from_0(rt: HostRuntime) -> Result<(), Fail> {
-    let (desk, first, second) = pair(rt.alloc())?;
+    let (desk, first, second) = pair(rt.alloc(), RandomState::new(&rt)?)?;
     assert_eq!(rt; desk.callers(), 2);
     assert_eq!(rt; (first.number(), second.number()), (0, 1));
     Ok(())
@@ -110,7 +112,7 @@ fn passes_are_numbered_from_0(rt: HostRuntime) -> Result<(), Fail> {
 
 #[test]
 fn a_desk_is_closed_with_all_its_passes(rt: HostRuntime) -> Result<(), Fail> {
-    let (desk, mut passes) = Desk::open(rt.alloc(), 2)?;
+    let (desk, mut passes) = Desk::open(rt.alloc(), RandomState::new(&rt)?, 2)?;
     let second = passes.pop().ok_or("a second pass")?;
     let Err((fault, desk, mut passes)) = desk.close(passes) else {
         panic!(rt; "a pass is missing")
@@ -124,7 +126,7 @@ fn a_desk_is_closed_with_all_its_passes(rt: HostRuntime) -> Result<(), Fail> {
 
 #[test]
 fn the_last_of_128_passes_is_missed(rt: HostRuntime) -> Result<(), Fail> {
-    let (desk, mut passes) = Desk::open(rt.alloc(), 128)?;
+    let (desk, mut passes) = Desk::open(rt.alloc(), RandomState::new(&rt)?, 128)?;
     let last = passes.pop().ok_or("a last pass")?;
     let Err((fault, desk, mut passes)) = desk.close(passes) else {
         panic!(rt; "a pass is missing")
@@ -140,7 +142,7 @@ fn the_last_of_128_passes_is_missed(rt: HostRuntime) -> Result<(), Fail> {
 
 #[test]
 fn an_empty_post_is_a_call(rt: HostRuntime) -> Result<(), Fail> {
-    let (desk, mut passes) = Desk::open(rt.alloc(), 1)?;
+    let (desk, mut passes) = Desk::open(rt.alloc(), RandomState::new(&rt)?, 1)?;
     let mut pass = passes.pop().ok_or("a pass")?;
     assert_eq!(rt; desk.stored(&mut pass), 0);
     let empty = Batch::procs(rt.alloc(), &[])?;
@@ -152,7 +154,7 @@ fn an_empty_post_is_a_call(rt: HostRuntime) -> Result<(), Fail> {
 
 #[test]
 fn stored_tells_the_calls_of_others(rt: HostRuntime) -> Result<(), Fail> {
-    let (desk, mut first, mut second) = pair(rt.alloc())?;
+    let (desk, mut first, mut second) = pair(rt.alloc(), RandomState::new(&rt)?)?;
     let empty = Batch::procs(rt.alloc(), &[])?;
     desk.post(&rt, &mut first, &empty)?;
     assert_eq!(rt; desk.stored(&mut second), 1);
@@ -160,11 +162,15 @@ fn stored_tells_the_calls_of_others(rt: HostRuntime) -> Result<(), Fail> {
 }
 
 /// The desk after the first post and the first report of the script, and what these answered.
-fn begun<R: Wait>(rt: &R, alloc: Global) -> Result<(Desk, Pass, Pass, Receipt, Served), Fail>
+fn begun<R: Wait>(
+    rt: &R,
+    alloc: Global,
+    keys: RandomState,
+) -> Result<(Desk, Pass, Pass, Receipt, Served), Fail>
     ensures first { IfOk result (λ r. r.1.desk ≡ r.0.id) }
     ensures second { IfOk result (λ r. r.2.desk ≡ r.0.id) }
 {
-    let (desk, mut first, mut second) = pair(alloc)?;
+    let (desk, mut first, mut second) = pair(alloc, keys)?;
     let receipt = desk.post(rt, &mut first, &hour(alloc)?)?;
     let served = desk.ask(rt, alloc, &mut second, &TOTAL)?;
     Ok((desk, first, second, receipt, served))
@@ -172,7 +178,7 @@ fn begun<R: Wait>(rt: &R, alloc: Global) -> Result<(Desk, Pass, Pass, Receipt, S
 
 #[test]
 fn a_report_is_of_what_another_posted(rt: HostRuntime) -> Result<(), Fail> {
-    let (_, _, _, receipt, served) = begun(&rt, rt.alloc())?;
+    let (_, _, _, receipt, served) = begun(&rt, rt.alloc(), RandomState::new(&rt)?)?;
     assert_eq!(rt;
         (receipt.call, receipt.before, receipt.after),
         (1, counts(0, 0), counts(2, 0))
@@ -184,7 +190,7 @@ fn a_report_is_of_what_another_posted(rt: HostRuntime) -> Result<(), Fail> {
 
 #[test]
 fn a_refused_report_is_no_call(rt: HostRuntime) -> Result<(), Fail> {
-    let (desk, _, mut second, _, _) = begun(&rt, rt.alloc())?;
+    let (desk, _, mut second, _, _) = begun(&rt, rt.alloc(), RandomState::new(&rt)?)?;
     let question = Question::Last {
         host: 2,
         limit: None,
@@ -198,7 +204,7 @@ fn a_refused_report_is_no_call(rt: HostRuntime) -> Result<(), Fail> {
 
 #[test]
 fn both_callers_stand_in_one_history(rt: HostRuntime) -> Result<(), Fail> {
-    let (desk, mut first, mut second, _, _) = begun(&rt, rt.alloc())?;
+    let (desk, mut first, mut second, _, _) = begun(&rt, rt.alloc(), RandomState::new(&rt)?)?;
     let batch = makes(rt.alloc())?;
     let receipt = desk.post(&rt, &mut second, &batch)?;
     assert_eq!(rt;
@@ -231,12 +237,13 @@ fn post_as<R: Wait>(rt: &R, desk: &Desk, mut pass: Pass, batch: &Batch) -> (Pass
 fn two_posts<R: Threads + Wait + Sync>(
     rt: &R,
     alloc: Global,
+    keys: RandomState,
     one: &Batch,
     other: &Batch,
 ) -> Result<Book, Fail>
     ensures legal { IfOk result IsLegal }
 {
-    let (desk, first, second) = pair(alloc)?;
+    let (desk, first, second) = pair(alloc, keys)?;
     let ((first, _), (second, _)) = join(
         rt,
         || post_as(rt, &desk, first, one),
@@ -250,7 +257,13 @@ fn two_posts<R: Threads + Wait + Sync>(
 
 #[test]
 fn two_threads_post_to_one_book(rt: HostRuntime) -> Result<(), Fail> {
-    let book = two_posts(&rt, rt.alloc(), &hour(rt.alloc())?, &makes(rt.alloc())?)?;
+    let book = two_posts(
+        &rt,
+        rt.alloc(),
+        RandomState::new(&rt)?,
+        &hour(rt.alloc())?,
+        &makes(rt.alloc())?,
+    )?;
     assert_eq!(rt;
         (book.logins().len(), book.procs().len(), book.calls().len()),
         (2, 3, 2)

@@ -5,6 +5,7 @@ ghost use Rattle.std.specs.Prelude.{◌≡◌, ◌+◌, ◌-◌, ◌^◌, ◌<�
 use crate::fakes::{Trickle, Turns, twos};
 use crate::{Bytes, Desk, Fed, FeedFault, Input, OpenGate, Pass, Reading, ask_rounds, feed};
 use std::alloc::Global;
+use std::hash::RandomState;
 use std::sync::Wait;
 use std::sync::atomic::{AtomicU64, Ordering};
 use std::test::Fail;
@@ -12,10 +13,10 @@ use tally_book::{Answer, Book, Call, PostFault, Question};
 use tally_records::{Batch, Kind, RecordFault};
 
 /// A desk of one caller, and its pass.
-fn opened(alloc: Global) -> Result<(Desk, Pass), Fail>
+fn opened(alloc: Global, keys: RandomState) -> Result<(Desk, Pass), Fail>
     ensures { IfOk result (λ r. r.1.desk ≡ r.0.id) }
 {
-    let (desk, mut passes) = Desk::open(alloc, 1)?;
+    let (desk, mut passes) = Desk::open(alloc, keys, 1)?;
     let Some(pass) = passes.pop() else {
         unreachable!()
     };
@@ -35,12 +36,13 @@ fn closed(alloc: Global, desk: Desk, pass: Pass) -> Result<Option<Book>, Fail>
 fn fed<R: Wait, I: Input>(
     rt: &R,
     alloc: Global,
+    keys: RandomState,
     kind: Kind,
     input: &mut I,
 ) -> Result<(Result<Fed, FeedFault>, Option<usize>), Fail>
     requires { I.failures input.old < 2 ^ 64 - 1 }
 {
-    let (desk, mut pass) = opened(alloc)?;
+    let (desk, mut pass) = opened(alloc, keys)?;
     let outcome = feed(rt, alloc, &desk, &mut pass, kind, input, &OpenGate);
     let stored = closed(alloc, desk, pass)?.map(|book| book
         .logins()
@@ -52,23 +54,31 @@ fn fed<R: Wait, I: Input>(
 fn fed_bytes<R: Wait>(
     rt: &R,
     alloc: Global,
+    keys: RandomState,
     kind: Kind,
     bytes: Vec<u8>,
 ) -> Result<(Result<Fed, FeedFault>, Option<usize>), Fail> {
-    fed(rt, alloc, kind, &mut Bytes::new(bytes))
+    fed(rt, alloc, keys, kind, &mut Bytes::new(bytes))
 }
 
 fn fed_reader<R: Wait>(
     rt: &R,
     alloc: Global,
+    keys: RandomState,
     reader: Trickle,
 ) -> Result<(Result<Fed, FeedFault>, Option<usize>), Fail> {
-    fed(rt, alloc, Kind::Proc, &mut Reading::new(reader))
+    fed(rt, alloc, keys, Kind::Proc, &mut Reading::new(reader))
 }
 
 #[test]
 fn three_records_are_one_batch(rt: HostRuntime) -> Result<(), Fail> {
-    let (outcome, stored) = fed_bytes(&rt, rt.alloc(), Kind::Proc, twos(rt.alloc(), 192)?)?;
+    let (outcome, stored) = fed_bytes(
+        &rt,
+        rt.alloc(),
+        RandomState::new(&rt)?,
+        Kind::Proc,
+        twos(rt.alloc(), 192)?,
+    )?;
     let want = Fed {
         records: 3,
         batches: 1,
@@ -79,7 +89,13 @@ fn three_records_are_one_batch(rt: HostRuntime) -> Result<(), Fail> {
 
 #[test]
 fn an_empty_input_posts_nothing(rt: HostRuntime) -> Result<(), Fail> {
-    let (outcome, stored) = fed_bytes(&rt, rt.alloc(), Kind::Login, Vec::new(rt.alloc()))?;
+    let (outcome, stored) = fed_bytes(
+        &rt,
+        rt.alloc(),
+        RandomState::new(&rt)?,
+        Kind::Login,
+        Vec::new(rt.alloc()),
+    )?;
     let want = Fed {
         records: 0,
         batches: 0,
@@ -93,6 +109,7 @@ fn an_end_inside_a_record_is_torn(rt: HostRuntime) -> Result<(), Fail> {
     let (outcome, stored) = fed_bytes(
         &rt,
         rt.alloc(),
+        RandomState::new(&rt)?,
         Kind::Login,
         vec![in rt.alloc(); 0u8; 385]?,
     )?;
@@ -110,7 +127,7 @@ fn a_bad_record_keeps_its_whole_block_out(rt: HostRuntime) -> Result<(), Fail> {
     if let Some(version) = bytes.get_mut(65_665) {
         *version = 0x82;
     }
-    let (outcome, stored) = fed_bytes(&rt, rt.alloc(), Kind::Proc, bytes)?;
+    let (outcome, stored) = fed_bytes(&rt, rt.alloc(), RandomState::new(&rt)?, Kind::Proc, bytes)?;
     let want = FeedFault::Bad {
         at: 1026,
         fault: RecordFault::ProcVersion(0x82),
@@ -127,7 +144,7 @@ fn bytes_may_come_one_at_a_time(rt: HostRuntime) -> Result<(), Fail> {
         fails: false,
         interrupts: 3,
     };
-    let (outcome, stored) = fed_reader(&rt, rt.alloc(), reader)?;
+    let (outcome, stored) = fed_reader(&rt, rt.alloc(), RandomState::new(&rt)?, reader)?;
     let want = Fed {
         records: 3,
         batches: 1,
@@ -144,13 +161,14 @@ fn a_first_read_that_fails_posts_nothing(rt: HostRuntime) -> Result<(), Fail> {
         fails: true,
         interrupts: 0,
     };
-    let (outcome, stored) = fed_reader(&rt, rt.alloc(), reader)?;
+    let (outcome, stored) = fed_reader(&rt, rt.alloc(), RandomState::new(&rt)?, reader)?;
     assert!(rt; outcome == Err(FeedFault::Read) && stored == Some(0));
     Ok(())
 }
 
 #[test]
 fn whichever_read_fails_posts_nothing(rt: HostRuntime) -> Result<(), Fail> {
+    let keys = RandomState::new(&rt)?;
     for left in 0..769 {
         let reader = Trickle {
             step: 1,
@@ -159,17 +177,21 @@ fn whichever_read_fails_posts_nothing(rt: HostRuntime) -> Result<(), Fail> {
             interrupts: 0,
         };
         let input = &mut Reading::new(reader);
-        let (outcome, stored) = fed(&rt, rt.alloc(), Kind::Login, input)?;
-        assert!(rt; outcome == Err(FeedFault::Read) && stored == Some(0), "after {left} bytes");
+        let (outcome, stored) = fed(&rt, rt.alloc(), keys, Kind::Login, input)?;
+        assert!(rt;
+            outcome == Err(FeedFault::Read) && stored == Some(0),
+            "after {left} bytes"
+        );
     }
     Ok(())
 }
 
 #[test]
 fn wherever_a_record_is_torn_nothing_is_posted(rt: HostRuntime) -> Result<(), Fail> {
+    let keys = RandomState::new(&rt)?;
     for len in 1u64..768 {
         let bytes = vec![in rt.alloc(); 0u8; len as usize]?;
-        let (outcome, stored) = fed_bytes(&rt, rt.alloc(), Kind::Login, bytes)?;
+        let (outcome, stored) = fed_bytes(&rt, rt.alloc(), keys, Kind::Login, bytes)?;
         let torn = FeedFault::Torn {
             records: len / 384,
             rest: len % 384,
@@ -183,7 +205,7 @@ fn wherever_a_record_is_torn_nothing_is_posted(rt: HostRuntime) -> Result<(), Fa
 #[test]
 fn zeros_are_no_process_records(rt: HostRuntime) -> Result<(), Fail> {
     let zeros = vec![in rt.alloc(); 0u8; 131_072]?;
-    let (outcome, stored) = fed_bytes(&rt, rt.alloc(), Kind::Proc, zeros)?;
+    let (outcome, stored) = fed_bytes(&rt, rt.alloc(), RandomState::new(&rt)?, Kind::Proc, zeros)?;
     let want = FeedFault::Bad {
         at: 0,
         fault: RecordFault::ProcVersion(0),
@@ -200,7 +222,7 @@ fn a_later_read_that_fails_keeps_the_blocks_before(rt: HostRuntime) -> Result<()
         fails: true,
         interrupts: 0,
     };
-    let (outcome, stored) = fed_reader(&rt, rt.alloc(), reader)?;
+    let (outcome, stored) = fed_reader(&rt, rt.alloc(), RandomState::new(&rt)?, reader)?;
     assert!(rt; outcome == Err(FeedFault::Read) && stored == Some(1024));
     Ok(())
 }
@@ -213,7 +235,7 @@ fn endless_interrupts_are_a_failed_read(rt: HostRuntime) -> Result<(), Fail> {
         fails: false,
         interrupts: 10_000,
     };
-    let (outcome, stored) = fed_reader(&rt, rt.alloc(), reader)?;
+    let (outcome, stored) = fed_reader(&rt, rt.alloc(), RandomState::new(&rt)?, reader)?;
     assert!(rt; outcome == Err(FeedFault::Read) && stored == Some(0));
     Ok(())
 }
@@ -226,7 +248,7 @@ fn a_record_past_the_limit_is_too_long(rt: HostRuntime) -> Result<(), Fail> {
         fails: false,
         interrupts: 0,
     };
-    let (outcome, stored) = fed_reader(&rt, rt.alloc(), reader)?;
+    let (outcome, stored) = fed_reader(&rt, rt.alloc(), RandomState::new(&rt)?, reader)?;
     assert!(rt; outcome == Err(FeedFault::TooLong) && stored == Some(1_048_576));
     Ok(())
 }
@@ -234,7 +256,7 @@ fn a_record_past_the_limit_is_too_long(rt: HostRuntime) -> Result<(), Fail> {
 #[test]
 fn the_gate_is_told_of_each_post(rt: HostRuntime) -> Result<(), Fail> {
     let alloc = rt.alloc();
-    let (desk, mut pass) = opened(alloc)?;
+    let (desk, mut pass) = opened(alloc, RandomState::new(&rt)?)?;
     let gate = Turns {
         digits: AtomicU64::new(0),
     };
@@ -270,7 +292,7 @@ fn is_report_of_none(call: &Call) -> bool {
 #[test]
 fn each_round_asks_again(rt: HostRuntime) -> Result<(), Fail> {
     let alloc = rt.alloc();
-    let (desk, mut pass) = opened(alloc)?;
+    let (desk, mut pass) = opened(alloc, RandomState::new(&rt)?)?;
     let gate = Turns {
         digits: AtomicU64::new(0),
     };
@@ -293,7 +315,7 @@ fn each_round_asks_again(rt: HostRuntime) -> Result<(), Fail> {
 #[test]
 fn nothing_is_asked_without_questions_or_rounds(rt: HostRuntime) -> Result<(), Fail> {
     let alloc = rt.alloc();
-    let (desk, mut pass) = opened(alloc)?;
+    let (desk, mut pass) = opened(alloc, RandomState::new(&rt)?)?;
     let idle = ask_rounds(&rt, alloc, &desk, &mut pass, &[], 5, &OpenGate);
     let brief = ask_rounds(&rt, alloc, &desk, &mut pass, &[TOTAL], 0, &OpenGate);
     assert!(rt; idle == Ok(0) && brief == Ok(0));
@@ -322,7 +344,7 @@ fn post_until_refused<R: Wait>(
 #[test]
 fn a_full_history_refuses_a_feed(rt: HostRuntime) -> Result<(), Fail> {
     let alloc = rt.alloc();
-    let (desk, mut pass) = opened(alloc)?;
+    let (desk, mut pass) = opened(alloc, RandomState::new(&rt)?)?;
     let empty = Batch::procs(alloc, &[])?;
     let refused = post_until_refused(&rt, &desk, &mut pass, &empty);
     assert!(rt; refused == Some(PostFault::CallsFull));

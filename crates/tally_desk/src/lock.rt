@@ -13,6 +13,7 @@ use crate::rule::{Count, Deal, Draw, Gather, Leave, Look, Order, Tell};
 use crate::view::View;
 use atomic_table::{Refused, Table};
 use std::alloc::Global;
+use std::hash::RandomState;
 use std::hint;
 use std::sync::Wait;
 use std::thread::Parker;
@@ -47,13 +48,17 @@ pub struct TicketLock {
 
 impl TicketLock {
     /// The lock of a new book, and the seat of all callers.
-    pub fn open(alloc: Global, callers: u32) -> Result<(TicketLock, Seat), Memory>
+    pub fn open(
+        alloc: Global,
+        keys: RandomState,
+        callers: u32,
+    ) -> Result<(TicketLock, Seat), Memory>
         requires some { 1 ≤ callers }
         requires few { callers ≤ 128 }
         ensures { IfOk result (λ t. (t.0.table.shared.key ≡ callers) × (t.1.table_id ≡ t.0.table.shared.table_id) × (t.1.me ≡ (opening_view callers, []))) }
     {
         let mut slots = Vec::with_capacity(alloc, 1)?;
-        slots.push_reserved(Book::new(alloc, callers)?);
+        slots.push_reserved(Book::new(alloc, keys, callers)?);
         match Table::new(alloc, &[0, 0, 0], slots, &callers) {
             Ok((table, seat)) => Ok((TicketLock { table }, seat)),
             Err(Refused { slots: _ }) => Err(Memory),

@@ -4,6 +4,7 @@ ghost use Rattle.std.specs.Prelude.{◌≡◌, IfOk};
 use crate::fakes::{Meeting, twos};
 use crate::{Bytes, Desk, Pass, ask_rounds, feed};
 use std::alloc::Global;
+use std::hash::RandomState;
 use std::sync::Wait;
 use std::test::Fail;
 use std::thread::{Threads, join};
@@ -93,9 +94,10 @@ fn parts_of_two<R: Threads + Wait + Sync>(
 fn book_of_two<R: Threads + Wait + Sync>(
     rt: &R,
     alloc: Global,
+    keys: RandomState,
     gate: &Meeting,
 ) -> Result<Book, Fail> {
-    let (desk, mut passes) = Desk::open(alloc, 2)?;
+    let (desk, mut passes) = Desk::open(alloc, keys, 2)?;
     let second = passes.pop().ok_or("a second pass")?;
     let first = passes.pop().ok_or("a first pass")?;
     let (first, second, taken) = parts_of_two(rt, alloc, &desk, first, second, gate);
@@ -114,9 +116,10 @@ fn book_of_two<R: Threads + Wait + Sync>(
 fn book_of_four<R: Threads + Wait + Sync>(
     rt: &R,
     alloc: Global,
+    keys: RandomState,
     gate: &Meeting,
 ) -> Result<Book, Fail> {
-    let (desk, mut passes) = Desk::open(alloc, 4)?;
+    let (desk, mut passes) = Desk::open(alloc, keys, 4)?;
     let fourth = passes.pop().ok_or("a fourth pass")?;
     let third = passes.pop().ok_or("a third pass")?;
     let second = passes.pop().ok_or("a second pass")?;
@@ -164,7 +167,7 @@ fn all_asked_at(book: &Book, last: usize, procs: u64) -> bool {
 #[test]
 fn two_callers_feed_and_ask_side_by_side(rt: HostRuntime) -> Result<(), Fail> {
     let gate = Meeting::of(2);
-    let book = book_of_two(&rt, rt.alloc(), &gate)?;
+    let book = book_of_two(&rt, rt.alloc(), RandomState::new(&rt)?, &gate)?;
     assert_eq!(rt; gate.late(), 0);
     assert_eq!(rt; book.calls().len(), 8);
     assert_eq!(rt; share_of(&book, 0), (1025, 2, 2));
@@ -176,7 +179,7 @@ fn two_callers_feed_and_ask_side_by_side(rt: HostRuntime) -> Result<(), Fail> {
 #[test]
 fn four_callers_feed_and_ask_side_by_side(rt: HostRuntime) -> Result<(), Fail> {
     let gate = Meeting::of(4);
-    let book = book_of_four(&rt, rt.alloc(), &gate)?;
+    let book = book_of_four(&rt, rt.alloc(), RandomState::new(&rt)?, &gate)?;
     assert_eq!(rt; gate.late(), 0);
     assert_eq!(rt; book.calls().len(), 16);
     for number in 0..4 {

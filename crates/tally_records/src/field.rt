@@ -1,5 +1,5 @@
 ghost use Rattle.std.specs.Prelude.{◌≡◌, ◌≤◌, ◌==◌, length, position};
-ghost use Rattle.tally_records.specs.Text.{text_of};
+ghost use Rattle.tally_records.specs.Text.{text_of, whole_words};
 
 /// A line or a user, `ut_line` and `ut_user` of utmp(5): the text's bytes, then zeros.
 pub type Name = [u8; 32];
@@ -15,6 +15,18 @@ fn first_nul(field: &[u8]) -> Option<usize>
     ensures { result ≡ position (λ b. b == 0) field.now }
 {
     field.iter().position(|byte| *byte == 0)
+}
+
+/// The words of eight bytes of a field up to that with its first NUL, or the whole field: what
+/// differs between two fields that hold texts and then zeros, in as few words as that takes.
+pub fn whole_words(field: &[u8]) -> &[u8]
+    ensures { result.now ≡ whole_words field.now }
+{
+    let end = first_nul(field).unwrap_or(field.len());
+    match field.get(..end / 8 * 8 + 8) {
+        Some(words) => words,
+        None => field,
+    }
 }
 
 /// The text of a field, which ends at its first NUL or fills the field.

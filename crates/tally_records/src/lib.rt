@@ -15,7 +15,7 @@ mod telling;
 pub use crate::batch::{BATCH_LIMIT, Batch, Kind};
 pub use crate::compressed::comp;
 pub use crate::fault::{BatchFault, Memory, RecordFault};
-pub use crate::field::{Comm, Name, Remote};
+pub use crate::field::{Comm, Name, Remote, whole_words};
 pub use crate::laws::{ordered_items_are_all, ordered_items_ascend};
 pub use crate::list::List;
 pub use crate::login::{Event, LOGIN_SIZE, LoginRecord, read_login};

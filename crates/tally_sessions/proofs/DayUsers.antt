@@ -1,5 +1,5 @@
 -- Users on days: their order, their sums and their rows.
-use Rattle.std.proofs.Common.{◌≡◌, ℕ, ◌+◌, ◌<◌, ◌≢◌, ◌⊎◌, inl, inr, Option, Bool, true, false, cond, List, [], ◌∷◌, ℤ, map, filter, length, take, get_or, All, refl, sym, ap, subst, ◌∙◌, arith}
+use Rattle.std.proofs.Common.{◌≡◌, ℕ, ◌+◌, ◌<◌, ◌≢◌, ◌⊎◌, inl, inr, Bool, true, false, cond, List, [], ◌∷◌, ℤ, pos, map, filter, length, take, get_or, All, refl, sym, ap, subst, ◌∙◌, arith}
 use Rattle.std.proofs.lemmas.Bool.{cases_eq}
 use Rattle.std.proofs.lemmas.Bool.Decides.{Decides-int_eq}
 use Rattle.std.proofs.lemmas.Cmp.{int_cmp_total, nat_list_cmp_total, on_total, then_total}
@@ -17,30 +17,25 @@ use Rattle.std.specs.Prelude.{bytes_eq, sum_by}
 use Rattle.std.specs.declared.cmp.Ordering.{Ordering}
 use Rattle.std.specs.declared.cmp.Ordering.TheVariants.{Less, Equal, Greater}
 use Rattle.tally_records.proofs.Members.{Member, Member-append_left, Member-append_right, Member-map}
-use Rattle.tally_sessions.specs.declared.day_user_sums.DayUser.{DayUser}
-use Rattle.tally_sessions.specs.declared.entry.Entry.{Entry}
+use Rattle.tally_sessions.specs.declared.day_user_rows.DayUser.{DayUser}
 use Rattle.tally_sessions.specs.declared.sums.Session.{Session}
 use Rattle.tally_sessions.specs.declared.times.DayUserTime.{DayUserTime}
+use Rattle.tally_sessions.specs.Changes.{session_rows}
 use Rattle.tally_sessions.specs.Days.{days_between, IsDay, seconds_on}
-use Rattle.tally_sessions.specs.Rows.{above_zero, day_user_time_of, day_user_times, day_users_of}
-use Rattle.tally_sessions.specs.Sums.{day_user_cmp, seconds_of_day, seconds_of_day_user, sessions_of, sum_at}
+use Rattle.tally_sessions.specs.Rows.{above_zero, day_user_time_of, day_users_of}
+use Rattle.tally_sessions.specs.Sums.{day_user_cmp, seconds_of_day, seconds_of_day_user, sum_at}
 use Rattle.tally_sessions.proofs.DayWalk.{day_among, day_with_time}
 use Rattle.tally_sessions.proofs.RowLemmas.{rows_are, each_row}
 use Rattle.tally_sessions.proofs.SumLemmas.{no_session}
 
--- nothing, whoever the user is
-pub no_more_if : (b : Bool) (n : ℕ) → n ≡ 0 → cond b n 0 ≡ 0
-no_more_if true n h = h
-no_more_if false n h = refl
-
-both_equal : (r s : Ordering) (n : ℕ) → cond (is_eq (ordering_then r s)) n 0 ≡ cond (is_eq r) (cond (is_eq s) n 0) 0
+both_equal : (r s : Ordering) (n : ℤ) → cond (is_eq (ordering_then r s)) n (pos 0) ≡ cond (is_eq r) (cond (is_eq s) n (pos 0)) (pos 0)
 both_equal Less s n = refl
 both_equal Equal s n = refl
 both_equal Greater s n = refl
 
 -- what is added at a key, by day and user
-pub one_day_of_user : (day d : ℤ) (name user : List ℕ) (n : ℕ) → cond (is_eq (ordering_then (int_cmp day d) (slice_cmp nat_cmp name user))) n 0 ≡ cond (is_eq (int_cmp day d)) (cond (bytes_eq name user) n 0) 0
-one_day_of_user day d name user n = both_equal (int_cmp day d) (slice_cmp nat_cmp name user) n ∙ ap (λ b. cond (is_eq (int_cmp day d)) (cond b n 0) 0) (is_eq-slice_cmp name user)
+pub one_day_of_user : (day d : ℤ) (name user : List ℕ) (n : ℤ) → cond (is_eq (ordering_then (int_cmp day d) (slice_cmp nat_cmp name user))) n (pos 0) ≡ cond (is_eq (int_cmp day d)) (cond (bytes_eq name user) n (pos 0)) (pos 0)
+one_day_of_user day d name user n = both_equal (int_cmp day d) (slice_cmp nat_cmp name user) n ∙ ap (λ b. cond (is_eq (int_cmp day d)) (cond b n (pos 0)) (pos 0)) (is_eq-slice_cmp name user)
 
 pub day_user_total : IsTotalOrder day_user_cmp
 day_user_total = then_total (on_total (λ (k : DayUser). k.day) int_cmp_total) (on_total (λ (k : DayUser). k.user) nat_list_cmp_total)
@@ -103,11 +98,11 @@ row k n = record { day = k.day; user = k.user; seconds = n }
 abbrev key : DayUserTime → DayUser
 key r = record { day = r.day; user = r.user }
 
-pub day_user_rows_are : (offset : ℤ) (entries : List Entry) (until : Option ℤ) (sums : List (DayUser × ℕ)) → IsStrictlySortedBy day_user_cmp (keys_of sums) → ((k : DayUser) → sum_at day_user_cmp sums k ≡ seconds_of_day_user offset k.day k.user (sessions_of entries until))
-    → map day_user_time_of (filter above_zero sums) ≡ day_user_times offset entries until
-day_user_rows_are offset entries until sums up at =
+pub day_user_rows_are : (offset : ℤ) (ss : List Session) (sums : List (DayUser × ℕ)) → IsStrictlySortedBy day_user_cmp (keys_of sums) → ((k : DayUser) → sum_at day_user_cmp sums k ≡ seconds_of_day_user offset k.day k.user ss)
+    → map day_user_time_of (filter above_zero sums) ≡ session_rows offset ss
+day_user_rows_are offset ss sums up at =
     rows_are day_user_total same_day_user row key (λ (r : DayUserTime). r.seconds) (λ k n. refl) (λ k n. refl)
-    sums (λ (k : DayUser). seconds_of_day_user offset k.day k.user (sessions_of entries until)) (day_users_of offset (sessions_of entries until)) up at (λ k lt. day_user_counted offset k (sessions_of entries until) lt)
+    sums (λ (k : DayUser). seconds_of_day_user offset k.day k.user ss) (day_users_of offset ss) up at (λ k lt. day_user_counted offset k ss lt)
 
 pub day_user_rows_days : (sums : List (DayUser × ℕ)) → IsStrictlySortedBy day_user_cmp (keys_of sums) → ((k : DayUser) → 0 < sum_at day_user_cmp sums k → IsDay k.day) → All (λ (r : DayUserTime). IsDay r.day) (map day_user_time_of (filter above_zero sums))
 day_user_rows_days sums up days =

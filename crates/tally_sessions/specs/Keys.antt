@@ -3,10 +3,11 @@ use Rattle.std.proofs.Common.{◌≡◌, ◌∷◌, [], ℕ, List, true, sym}
 use Rattle.std.specs.Cmp.Lexicographic.{same_text}
 use Rattle.std.specs.Hash as fed
 use Rattle.std.specs.Str.{bytes_eq}
+use Rattle.tally_records.specs.Text.{whole_words}
 
--- what hashes a name: its bytes at once
+-- what hashes a name: its words at once
 abbrev pub writes_of : List ℕ → fed.HashWrites
-writes_of name = name ∷ []
+writes_of name = whole_words name ∷ []
 
 -- the same name is hashed by the same write
 pub same_writes : (a b : List ℕ) → bytes_eq a b ≡ true → writes_of a ≡ writes_of b

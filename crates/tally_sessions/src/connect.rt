@@ -8,7 +8,7 @@ ghost use Rattle.tally_sessions.specs.Rows.{above_zero, day_time_of, day_times, 
 ghost use Rattle.tally_sessions.specs.Sums.{day_user_cmp, sessions_of};
 
 use crate::day_sums::day_sums;
-use crate::day_user_sums::{DayUser, day_user_sums};
+use crate::day_user_rows::day_user_rows;
 use crate::sessions::{ENTRY_LIMIT, HOST_LIMIT, Sessions};
 use crate::sums::{Session, user_sums};
 use crate::times::{DayTime, DayUserTime, UserTime};
@@ -39,24 +39,6 @@ fn day_rows(alloc: Global, sums: &BTreeMap<i32, u64>) -> Result<Vec<DayTime>, Al
         .filter(|(_day, seconds)| **seconds > 0)
         .map(|(day, seconds)| DayTime {
             day: *day,
-            seconds: *seconds,
-        })
-        .collect(alloc)
-}
-
-/// The rows of the users on days whose sum is above 0.
-fn day_user_rows(
-    alloc: Global,
-    sums: &BTreeMap<DayUser, u64>,
-) -> Result<Vec<DayUserTime>, AllocError>
-    ensures rows { IfOk result (λ rows. rows.items ≡ map day_user_time_of (filter above_zero sums.now.entries)) }
-    ensures ordered { IsOrdered day_user_cmp sums.now }
-{
-    sums.iter()
-        .filter(|(_key, seconds)| **seconds > 0)
-        .map(|(key, seconds)| DayUserTime {
-            day: key.day,
-            user: key.user,
             seconds: *seconds,
         })
         .collect(alloc)
@@ -120,7 +102,6 @@ impl Sessions {
         ensures days { IfOk result (All (λ row. IsDay row.day)) }
     {
         let sessions = self.sessions(alloc, until)?;
-        let sums = day_user_sums(alloc, offset, &sessions)?;
-        Ok(List::from_vec(day_user_rows(alloc, &sums)?))
+        Ok(List::from_vec(day_user_rows(alloc, offset, &sessions)?))
     }
 }

@@ -6,7 +6,7 @@ ghost use Rattle.tally_sessions.specs.Keys.{same_writes, writes_of};
 
 use std::hash::{Hash, Hasher};
 use std::marker::Model;
-use tally_records::Name;
+use tally_records::{Name, whole_words};
 
 /// The name of a line or a user, as a key.
 #[derive(Clone, Copy)]
@@ -47,13 +47,13 @@ impl Eq for Key {
     ghost laws = { nat_list_eq_equiv };
 }
 
-/// The name is hashed in one write, which costs less than a write for each byte.
+/// The words of the name up to its first NUL are hashed in one write.
 impl Hash for Key {
     ghost hash_input = { writes_of };
 
     ghost respects_eq = { same_writes };
 
     fn hash<H: Hasher>(&self, state: &mut H) {
-        state.write(&self.name);
+        state.write(whole_words(&self.name));
     }
 }

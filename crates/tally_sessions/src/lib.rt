@@ -4,7 +4,7 @@
 mod answers;
 mod connect;
 mod day_sums;
-mod day_user_sums;
+mod day_user_rows;
 mod days;
 mod ended;
 mod ending;

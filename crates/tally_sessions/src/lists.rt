@@ -5,6 +5,7 @@ use crate::scan;
 use crate::scripts::{post_below, utmp};
 use crate::sessions::Sessions;
 use std::alloc::Global;
+use std::hash::RandomState;
 use std::test::Fail;
 
 /// Numbers that follow no rule that a session knows.
@@ -58,10 +59,14 @@ impl Numbers {
 }
 
 /// The sessions of up to 60 records.
-pub(crate) fn drawn(alloc: Global, numbers: &mut Numbers) -> Result<Sessions, Fail>
+pub(crate) fn drawn(
+    alloc: Global,
+    keys: RandomState,
+    numbers: &mut Numbers,
+) -> Result<Sessions, Fail>
     ensures { IfOk result (λ s. s.hosts ≡ 3) }
 {
-    let mut sessions = Sessions::new(alloc, 3)?;
+    let mut sessions = Sessions::new(alloc, keys, 3)?;
     let mut now = 0i32;
     for _record in 0..numbers.below(61) {
         now = numbers.time_after(now);

@@ -3,6 +3,7 @@ ghost use Rattle.std.specs.Prelude.{◌≡◌, ◌≤◌, ◌<◌, ◌+◌, IfOk
 
 use crate::sessions::Sessions;
 use std::alloc::Global;
+use std::hash::RandomState;
 use std::test::Fail;
 use tally_records::{Batch, Name};
 
@@ -96,10 +97,10 @@ pub(crate) fn post_below(
 }
 
 /// The sessions of three hosts after a script, each record in a batch of its own.
-pub(crate) fn played(alloc: Global, script: &str) -> Result<Sessions, Fail>
+pub(crate) fn played(alloc: Global, keys: RandomState, script: &str) -> Result<Sessions, Fail>
     ensures { IfOk result (λ s. s.hosts ≡ 3) }
 {
-    let mut sessions = Sessions::new(alloc, 3)?;
+    let mut sessions = Sessions::new(alloc, keys, 3)?;
     for line in script.split(';') {
         post_below(alloc, &mut sessions, &record_of(line)?)?;
     }

@@ -2,14 +2,15 @@
 use crate::scripts::{name, played, text_of};
 use std::alloc::Global;
 use std::fmt::Write;
+use std::hash::RandomState;
 use std::test::Fail;
 
 const TWO_HOSTS: &str =
     "0 in tty1 a 100;0 in tty2 b 200;0 in tty3 c 300;1 in tty1 d 150;0 boot ~ reboot 1000";
 
 /// Begin, end time and length of each stay of host 0 after a script, the latest first, and the total.
-fn stays_until(alloc: Global, script: &str, until: Option<i32>) -> Result<String, Fail> {
-    let sessions = played(alloc, script)?;
+fn stays_until(alloc: Global, keys: RandomState, script: &str, until: Option<i32>) -> Result<String, Fail> {
+    let sessions = played(alloc, keys, script)?;
     let mut text = String::new(alloc);
     for stay in sessions.stays(alloc, 0, None, until)?.as_slice() {
         write!(text, "{} {} {};", stay.begin, stay.end_time, stay.length)?;
@@ -44,7 +45,7 @@ fn a_moment_counts_for_open_stays_alone(rt: HostRuntime) -> Result<(), Fail> {
         ),
     ] {
         assert_eq!(rt;
-            stays_until(rt.alloc(), script, until)?.as_str(),
+            stays_until(rt.alloc(), RandomState::new(&rt)?, script, until)?.as_str(),
             told,
             "{script} until {until:?}"
         );
@@ -53,8 +54,8 @@ fn a_moment_counts_for_open_stays_alone(rt: HostRuntime) -> Result<(), Fail> {
 }
 
 /// The connect time of ann, and the rows by user, by day, and by day and user.
-fn rows_until(alloc: Global, script: &str, until: Option<i32>) -> Result<String, Fail> {
-    let sessions = played(alloc, script)?;
+fn rows_until(alloc: Global, keys: RandomState, script: &str, until: Option<i32>) -> Result<String, Fail> {
+    let sessions = played(alloc, keys, script)?;
     let mut text = String::new(alloc);
     write!(text, "{};", sessions.connect(&name("ann"), until))?;
     for row in sessions.connect_by_user(alloc, until)?.as_slice() {
@@ -86,7 +87,7 @@ fn every_sum_counts_up_to_the_moment(rt: HostRuntime) -> Result<(), Fail> {
         ),
     ] {
         assert_eq!(rt;
-            rows_until(rt.alloc(), script, until)?.as_str(),
+            rows_until(rt.alloc(), RandomState::new(&rt)?, script, until)?.as_str(),
             told,
             "until {until:?}"
         );

@@ -8,16 +8,17 @@ use crate::printing::{print_receipt, print_served};
 use crate::stopped::Stopped;
 use crate::window::{grant_growths, refuse_growths};
 use std::alloc::Global;
+use std::hash::RandomState;
 use tally_book::{AskFault, Book, PostFault, Question, Receipt, Served};
 use tally_records::{Batch, Memory};
 use tally_usage::Order;
 
 /// A book of two callers.
-pub(crate) fn new_book(alloc: Global) -> Result<Book, Memory>
+pub(crate) fn new_book(alloc: Global, keys: RandomState) -> Result<Book, Memory>
     ensures { IfOk result (λ b. b.callers ≡ 2) }
 {
-    match Book::new(alloc, 2) {
-        Err(_) => Book::new(alloc, 2),
+    match Book::new(alloc, keys, 2) {
+        Err(_) => Book::new(alloc, keys, 2),
         made => made,
     }
 }
@@ -151,8 +152,8 @@ fn print_parts<R: Print + AllocGlobal>(rt: &R, book: Book) -> Result<(), Stopped
 }
 
 /// Prints what each call of the script answers.
-pub(crate) fn script<R: Print + AllocGlobal>(rt: &R) -> Result<(), Stopped> {
-    let mut book = new_book(rt.alloc())?;
+pub(crate) fn script<R: Print + AllocGlobal>(rt: &R, keys: RandomState) -> Result<(), Stopped> {
+    let mut book = new_book(rt.alloc(), keys)?;
     let hour = hour(rt.alloc())?;
     let makes = makes(rt.alloc())?;
     print_receipt(rt, post(rt.alloc(), &mut book, 0, &hour)?)?;

@@ -7,18 +7,19 @@ use crate::printing::{print_receipt, print_served};
 use crate::stopped::Stopped;
 use crate::window::{grant_growths, refuse_growths};
 use std::alloc::Global;
+use std::hash::RandomState;
 use std::sync::Wait;
 use tally_book::{AskFault, Book, PostFault, Question, Receipt, Served};
 use tally_desk::{Desk, OpenFault, Pass};
 use tally_records::Batch;
 
 /// A desk of two callers and their passes, opened again where memory was refused.
-pub(crate) fn open(alloc: Global) -> Result<(Desk, Pass, Pass), Stopped>
+pub(crate) fn open(alloc: Global, keys: RandomState) -> Result<(Desk, Pass, Pass), Stopped>
     ensures first { IfOk result (λ r. r.1.desk ≡ r.0.id) }
     ensures second { IfOk result (λ r. r.2.desk ≡ r.0.id) }
 {
-    let opened = match Desk::open(alloc, 2) {
-        Err(OpenFault::Memory) => Desk::open(alloc, 2),
+    let opened = match Desk::open(alloc, keys, 2) {
+        Err(OpenFault::Memory) => Desk::open(alloc, keys, 2),
         opened => opened,
     };
     let (desk, mut passes) = opened?;
@@ -139,11 +140,14 @@ fn print_book<R: Print>(rt: &R, book: Book) -> Result<(), Stopped> {
 }
 
 /// Prints what each call of the script answers, and how many calls a pass is told of between them.
-pub(crate) fn script<R: Print + AllocGlobal + Wait>(rt: &R) -> Result<(), Stopped> {
+pub(crate) fn script<R: Print + AllocGlobal + Wait>(
+    rt: &R,
+    keys: RandomState,
+) -> Result<(), Stopped> {
     let alloc = rt.alloc();
     let hour = hour(alloc)?;
     let makes = makes(alloc)?;
-    let (desk, mut first, mut second) = open(alloc)?;
+    let (desk, mut first, mut second) = open(alloc, keys)?;
     print_receipt(rt, post(rt, &desk, &mut first, &hour)?)?;
     print_stored(rt, &desk, &mut second)?;
     print_served(rt, &ask(rt, alloc, &desk, &mut second, &TOTAL)?)?;

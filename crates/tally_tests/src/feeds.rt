@@ -5,6 +5,7 @@ use crate::book::{TOTAL, hour, make_bytes};
 use crate::desk::{close, open, post};
 use crate::stopped::Stopped;
 use std::alloc::{AllocError, Global};
+use std::hash::RandomState;
 use std::sync::Wait;
 use tally_book::{Answer, AskFault, Book, Call};
 use tally_desk::{Bytes, Desk, Fed, FeedFault, OpenGate, Pass, ask_rounds, feed};
@@ -65,10 +66,13 @@ fn print_last_totals<R: Print>(rt: &R, book: &Book) -> Result<(), Stopped> {
 
 /// Prints what was fed, how many questions were answered and what was answered. A refused round
 /// leaves those before it, so the number of calls is not printed.
-pub(crate) fn script<R: Print + AllocGlobal + Wait>(rt: &R) -> Result<(), Stopped> {
+pub(crate) fn script<R: Print + AllocGlobal + Wait>(
+    rt: &R,
+    keys: RandomState,
+) -> Result<(), Stopped> {
     let alloc = rt.alloc();
     let hour = hour(alloc)?;
-    let (desk, mut first, mut second) = open(alloc)?;
+    let (desk, mut first, mut second) = open(alloc, keys)?;
     post(rt, &desk, &mut first, &hour)?;
     let Fed { records, batches } = feed_makes(rt, alloc, &desk, &mut second)?;
     println!(rt; "fed: {records} records in {batches} batches")?;

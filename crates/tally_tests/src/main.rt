@@ -21,21 +21,26 @@ mod window;
 mod words;
 
 use crate::stopped::Stopped;
+use std::hash::RandomState;
 use std::process::ExitCode;
+use std::random::RandomSource;
 use std::sync::Wait;
 use std::thread::Threads;
 
 /// Runs the scripts, each of which prints what its calls answer.
-fn scripts<R: Print + AllocGlobal + Threads + Wait + Sync>(rt: &R) -> Result<(), Stopped> {
-    sessions::script(rt)?;
-    summary::script(rt)?;
-    book::script(rt)?;
-    reports::script(rt)?;
-    reports::nights(rt)?;
-    desk::script(rt)?;
-    feeds::script(rt)?;
-    quiet::script(rt)?;
-    runs::script(rt)?;
+fn scripts<R: Print + AllocGlobal + RandomSource + Threads + Wait + Sync>(
+    rt: &R,
+) -> Result<(), Stopped> {
+    let keys = RandomState::new(rt).map_err(|_| Stopped::Refused("random bytes"))?;
+    sessions::script(rt, keys)?;
+    summary::script(rt, keys)?;
+    book::script(rt, keys)?;
+    reports::script(rt, keys)?;
+    reports::nights(rt, keys)?;
+    desk::script(rt, keys)?;
+    feeds::script(rt, keys)?;
+    quiet::script(rt, keys)?;
+    runs::script(rt, keys)?;
     words::script(rt)
 }
 

@@ -5,6 +5,7 @@ use crate::desk::{close, open};
 use crate::stopped::Stopped;
 use crate::window::{grant_growths, refuse_growths};
 use std::alloc::{AllocError, Global};
+use std::hash::RandomState;
 use tally_desk::{Bytes, Input};
 use tally_print::{Kept, Output};
 use tally_records::{List, comp};
@@ -61,8 +62,8 @@ fn print_bytes<R: Print + AllocGlobal>(rt: &R) -> Result<(), Stopped> {
 }
 
 /// Prints the numbers of a desk and its passes.
-fn print_numbers<R: Print + AllocGlobal>(rt: &R) -> Result<(), Stopped> {
-    let (desk, first, second) = open(rt.alloc())?;
+fn print_numbers<R: Print + AllocGlobal>(rt: &R, keys: RandomState) -> Result<(), Stopped> {
+    let (desk, first, second) = open(rt.alloc(), keys)?;
     refuse_growths(rt.alloc());
     let (callers, least, greatest) = (desk.callers(), first.number(), second.number());
     grant_growths(rt.alloc());
@@ -72,9 +73,9 @@ fn print_numbers<R: Print + AllocGlobal>(rt: &R) -> Result<(), Stopped> {
 }
 
 /// Prints what the calls answer.
-pub(crate) fn script<R: Print + AllocGlobal>(rt: &R) -> Result<(), Stopped> {
+pub(crate) fn script<R: Print + AllocGlobal>(rt: &R, keys: RandomState) -> Result<(), Stopped> {
     print_list(rt)?;
     print_batches(rt)?;
     print_bytes(rt)?;
-    print_numbers(rt)
+    print_numbers(rt, keys)
 }

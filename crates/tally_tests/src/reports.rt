@@ -4,6 +4,7 @@ use crate::book::{hour, makes, new_book, post, report};
 use crate::bytes::{login_record, logins, put};
 use crate::stopped::Stopped;
 use std::alloc::Global;
+use std::hash::RandomState;
 use tally_book::Question;
 use tally_records::Batch;
 use tally_usage::Order;
@@ -72,8 +73,8 @@ fn night(alloc: Global) -> Result<Batch, Stopped> {
 }
 
 /// Prints reports on running times and on a night.
-pub(crate) fn nights<R: Print + AllocGlobal>(rt: &R) -> Result<(), Stopped> {
-    let mut book = new_book(rt.alloc())?;
+pub(crate) fn nights<R: Print + AllocGlobal>(rt: &R, keys: RandomState) -> Result<(), Stopped> {
+    let mut book = new_book(rt.alloc(), keys)?;
     let reboots = reboots(rt.alloc())?;
     let night = night(rt.alloc())?;
     post(rt.alloc(), &mut book, 0, &reboots)?;
@@ -84,8 +85,8 @@ pub(crate) fn nights<R: Print + AllocGlobal>(rt: &R) -> Result<(), Stopped> {
 }
 
 /// Prints each report.
-pub(crate) fn script<R: Print + AllocGlobal>(rt: &R) -> Result<(), Stopped> {
-    let mut book = new_book(rt.alloc())?;
+pub(crate) fn script<R: Print + AllocGlobal>(rt: &R, keys: RandomState) -> Result<(), Stopped> {
+    let mut book = new_book(rt.alloc(), keys)?;
     let hour = hour(rt.alloc())?;
     let makes = makes(rt.alloc())?;
     post(rt.alloc(), &mut book, 0, &hour)?;

@@ -5,6 +5,7 @@ use crate::bytes::{login_record, put};
 use crate::stopped::Stopped;
 use crate::watched::Watched;
 use std::alloc::{AllocError, Global};
+use std::hash::RandomState;
 use std::io::{self, Write};
 use std::sync::Wait;
 use std::thread::Threads;
@@ -48,13 +49,14 @@ fn two_files(alloc: Global) -> Result<Vec<Source<Bytes>>, AllocError> {
 fn run_once<R: Threads + Wait + Sync>(
     rt: &R,
     alloc: Global,
+    keys: RandomState,
 ) -> Result<(Result<(), RunFault>, Watched), AllocError> {
     let files = match two_files(alloc) {
         Err(_) => two_files(alloc)?,
         Ok(files) => files,
     };
     let mut out = Watched::new(alloc);
-    let outcome = run(rt, alloc, &JOB, files, &OpenGate, &mut out);
+    let outcome = run(rt, alloc, keys, &JOB, files, &OpenGate, &mut out);
     Ok((outcome, out))
 }
 
@@ -79,13 +81,14 @@ fn is_refusal(fault: RunFault, out: &Watched, whole: &Watched) -> bool {
 /// Prints what a run writes, begun again where memory was refused.
 pub(crate) fn script<R: Print + AllocGlobal + Threads + Wait + Sync>(
     rt: &R,
+    keys: RandomState,
 ) -> Result<(), Stopped> {
-    let (first, out) = run_once(rt, rt.alloc())?;
+    let (first, out) = run_once(rt, rt.alloc(), keys)?;
     let Err(fault) = first else {
         io::writer(rt).write_all(out.kept.bytes())?;
         return Ok(());
     };
-    let (second, whole) = run_once(rt, rt.alloc())?;
+    let (second, whole) = run_once(rt, rt.alloc(), keys)?;
     if second.is_err() {
         return Err(Stopped::Memory);
     }

@@ -7,17 +7,18 @@ use crate::session_answers::{Seen, answers_of, are_same, seen_of};
 use crate::stopped::Stopped;
 use crate::window::{grant_growths, refuse_growths};
 use std::alloc::Global;
+use std::hash::RandomState;
 use tally_records::{Batch, BatchFault, Memory};
 use tally_sessions::{DayTime, DayUserTime, Sessions, Stay, UserTime};
 
 /// The most entries of sessions.
 const ENTRY_LIMIT: usize = 1_048_576;
 
-fn new_sessions(alloc: Global) -> Result<Sessions, Memory>
+fn new_sessions(alloc: Global, keys: RandomState) -> Result<Sessions, Memory>
     ensures { IfOk result (λ s. s.hosts ≡ 2) }
 {
-    match Sessions::new(alloc, 2) {
-        Err(_) => Sessions::new(alloc, 2),
+    match Sessions::new(alloc, keys, 2) {
+        Err(_) => Sessions::new(alloc, keys, 2),
         made => made,
     }
 }
@@ -116,8 +117,8 @@ fn print_both<R: Print>(rt: &R, times: &[DayUserTime]) -> Result<(), Stopped> {
 }
 
 /// Prints what the sessions answer once both batches are added.
-pub(crate) fn script<R: Print + AllocGlobal>(rt: &R) -> Result<(), Stopped> {
-    let mut sessions = new_sessions(rt.alloc())?;
+pub(crate) fn script<R: Print + AllocGlobal>(rt: &R, keys: RandomState) -> Result<(), Stopped> {
+    let mut sessions = new_sessions(rt.alloc(), keys)?;
     let hour = hour(rt.alloc())?;
     let three = three(rt.alloc())?;
     add(rt.alloc(), &mut sessions, 0, &hour)?;

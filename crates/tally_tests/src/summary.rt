@@ -7,6 +7,7 @@ use crate::bytes::procs;
 use crate::stopped::Stopped;
 use crate::window::{grant_growths, refuse_growths};
 use std::alloc::Global;
+use std::hash::RandomState;
 use tally_records::{Batch, List, Memory};
 use tally_usage::{CommandRow, Order, ProcEntry, Summary, UidRow, Usage};
 
@@ -76,10 +77,10 @@ fn add(alloc: Global, summary: &mut Summary, host: u32, batch: &Batch) -> Result
 }
 
 /// Prints what the summary answers once both batches are added.
-pub(crate) fn script<R: Print + AllocGlobal>(rt: &R) -> Result<(), Stopped> {
+pub(crate) fn script<R: Print + AllocGlobal>(rt: &R, keys: RandomState) -> Result<(), Stopped> {
     let alloc = rt.alloc();
     let makes = procs(alloc, &make_bytes())?;
-    let mut summary = Summary::new(alloc);
+    let mut summary = Summary::new(alloc, keys);
     println!(rt; "summary: {} entries", add(alloc, &mut summary, 0, &makes)?)?;
     println!(rt; "summary: {} entries", add(alloc, &mut summary, 1, &makes)?)?;
     let answers = answers_of(alloc, &summary)?;

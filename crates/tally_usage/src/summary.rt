@@ -15,6 +15,7 @@ use crate::usage::Usage;
 use crate::user::{self, UidRow};
 use indexmap::IndexMap;
 use std::alloc::Global;
+use std::hash::RandomState;
 use std::marker::Model;
 use tally_records::{Batch, List, Memory};
 
@@ -27,8 +28,8 @@ pub struct Summary {
     stored: usize,
     /// The host that the summary is ready for.
     ready: Option<u32>,
-    commands: IndexMap<Command, Usage>,
-    users: IndexMap<u32, Usage>,
+    commands: IndexMap<Command, Usage, RandomState>,
+    users: IndexMap<u32, Usage, RandomState>,
     total: Usage,
 }
 
@@ -45,8 +46,8 @@ impl Model for Summary {
 }
 
 impl Summary {
-    /// A summary of no records.
-    pub fn new(alloc: Global) -> Summary
+    /// A summary of no records. Its tables are hashed by the keys.
+    pub fn new(alloc: Global, keys: RandomState) -> Summary
         ensures entries { result.entries ≡ [] }
         ensures ready { result.ready ≡ None }
     {
@@ -54,8 +55,8 @@ impl Summary {
             entries: Vec::new(alloc),
             stored: 0,
             ready: None,
-            commands: IndexMap::new(alloc),
-            users: IndexMap::new(alloc),
+            commands: IndexMap::with_hasher(alloc, keys),
+            users: IndexMap::with_hasher(alloc, keys),
             total: Usage::none(),
         }
     }

@@ -1,6 +1,7 @@
 //! Worked examples, and each growth refused in turn.
 use crate::{CommandRow, ENTRY_LIMIT, Order, Summary, UidRow, Usage};
 use std::alloc::Global;
+use std::hash::RandomState;
 use std::process::Abort;
 use std::test::Fail;
 use tally_records::{Batch, BatchFault, Comm, Kind, List, Memory, PROC_SIZE};
@@ -99,9 +100,10 @@ fn users_of(
 fn summary_of(
     rt: &impl Abort,
     alloc: Global,
+    keys: RandomState,
     records: &[[u8; PROC_SIZE]],
 ) -> Result<Summary, Fail> {
-    let mut summary = Summary::new(alloc);
+    let mut summary = Summary::new(alloc, keys);
     post(rt, alloc, &mut summary, 1, records)?;
     Ok(summary)
 }
@@ -143,11 +145,12 @@ fn row(name: Comm, forked: bool, other: bool, usage: Usage) -> CommandRow {
 fn expect_commands(
     rt: &impl Abort,
     alloc: Global,
+    keys: RandomState,
     order: Order,
     flags: [bool; 2],
     rows: &[CommandRow],
 ) -> Result<(), Fail> {
-    let summary = summary_of(rt, alloc, &makes())?;
+    let summary = summary_of(rt, alloc, keys, &makes())?;
     let found = commands_of(alloc, &summary, order, flags)?;
     assert!(rt; found.as_slice() == rows);
     Ok(())
@@ -159,7 +162,14 @@ fn a_command_of_one_run_is_joined_to_the_others(rt: HostRuntime) -> Result<(), F
         row(OTHER, false, true, EXECUTED),
         row(MAKE, true, false, FORKED),
     ];
-    expect_commands(&rt, rt.alloc(), Order::Cpu, [false, false], &rows)
+    expect_commands(
+        &rt,
+        rt.alloc(),
+        RandomState::new(&rt)?,
+        Order::Cpu,
+        [false, false],
+        &rows,
+    )
 }
 
 #[test]
@@ -168,7 +178,14 @@ fn the_command_of_most_calls_comes_first(rt: HostRuntime) -> Result<(), Fail> {
         row(MAKE, true, false, FORKED),
         row(OTHER, false, true, EXECUTED),
     ];
-    expect_commands(&rt, rt.alloc(), Order::Calls, [false, false], &rows)
+    expect_commands(
+        &rt,
+        rt.alloc(),
+        RandomState::new(&rt)?,
+        Order::Calls,
+        [false, false],
+        &rows,
+    )
 }
 
 #[test]
@@ -177,7 +194,14 @@ fn a_reversed_answer_is_the_reversed_list(rt: HostRuntime) -> Result<(), Fail> {
         row(MAKE, true, false, FORKED),
         row(OTHER, false, true, EXECUTED),
     ];
-    expect_commands(&rt, rt.alloc(), Order::Cpu, [false, true], &rows)
+    expect_commands(
+        &rt,
+        rt.alloc(),
+        RandomState::new(&rt)?,
+        Order::Cpu,
+        [false, true],
+        &rows,
+    )
 }
 
 #[test]
@@ -186,12 +210,19 @@ fn all_commands_keep_their_names(rt: HostRuntime) -> Result<(), Fail> {
         row(MAKE, false, false, EXECUTED),
         row(MAKE, true, false, FORKED),
     ];
-    expect_commands(&rt, rt.alloc(), Order::Cpu, [true, false], &rows)
+    expect_commands(
+        &rt,
+        rt.alloc(),
+        RandomState::new(&rt)?,
+        Order::Cpu,
+        [true, false],
+        &rows,
+    )
 }
 
 #[test]
 fn a_user_has_the_sum_of_all_commands(rt: HostRuntime) -> Result<(), Fail> {
-    let summary = summary_of(&rt, rt.alloc(), &makes())?;
+    let summary = summary_of(&rt, rt.alloc(), RandomState::new(&rt)?, &makes())?;
     assert!(rt; summary.total() == TOTAL);
     let found = users_of(rt.alloc(), &summary, Order::Cpu, false)?;
     let row = UidRow {
@@ -205,7 +236,7 @@ fn a_user_has_the_sum_of_all_commands(rt: HostRuntime) -> Result<(), Fail> {
 #[test]
 fn commands_that_do_not_print_are_joined(rt: HostRuntime) -> Result<(), Fail> {
     let bell = proc_record(0, 0, [0, 0, 1, 7, 2], BELL);
-    let summary = summary_of(&rt, rt.alloc(), &[bell, bell])?;
+    let summary = summary_of(&rt, rt.alloc(), RandomState::new(&rt)?, &[bell, bell])?;
     let usage = Usage {
         count: 2,
         real: 2,
@@ -220,7 +251,7 @@ fn commands_that_do_not_print_are_joined(rt: HostRuntime) -> Result<(), Fail> {
 
 #[test]
 fn no_records_have_no_rows(rt: HostRuntime) -> Result<(), Fail> {
-    let summary = summary_of(&rt, rt.alloc(), &[])?;
+    let summary = summary_of(&rt, rt.alloc(), RandomState::new(&rt)?, &[])?;
     let commands = commands_of(rt.alloc(), &summary, Order::Cpu, [false, false])?;
     let users = users_of(rt.alloc(), &summary, Order::Cpu, false)?;
     assert!(rt; commands.len() == 0 && users.len() == 0);
@@ -229,7 +260,7 @@ fn no_records_have_no_rows(rt: HostRuntime) -> Result<(), Fail> {
 
 #[test]
 fn entries_are_the_batches_in_order(rt: HostRuntime) -> Result<(), Fail> {
-    let mut summary = summary_of(&rt, rt.alloc(), &makes())?;
+    let mut summary = summary_of(&rt, rt.alloc(), RandomState::new(&rt)?, &makes())?;
     post(&rt, rt.alloc(), &mut summary, 4_294_967_295, &makes())?;
     post(&rt, rt.alloc(), &mut summary, 1, &makes())?;
     let shown = summary.entries().len();

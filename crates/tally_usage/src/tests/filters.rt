@@ -3,6 +3,7 @@ use super::{BELL, MAKE, OTHER, commands_of, post, proc_record, users_of};
 use crate::{CommandRow, Order, ProcEntry, Summary, UidRow, Usage};
 use std::alloc::{AllocError, Global};
 use std::cmp::Ordering;
+use std::hash::RandomState;
 use std::process::Abort;
 use std::test::Fail;
 use tally_records::{Comm, PROC_SIZE, ProcRecord};
@@ -183,7 +184,7 @@ fn generated(alloc: Global, seed: u32, count: usize) -> Result<Vec<[u8; PROC_SIZ
 #[test]
 fn answers_are_those_of_plain_filters(rt: HostRuntime) -> Result<(), Fail> {
     for seed in 0..12 {
-        let mut summary = Summary::new(rt.alloc());
+        let mut summary = Summary::new(rt.alloc(), RandomState::new(&rt)?);
         for count in [0, 1, 2, 4, 9] {
             let records = generated(rt.alloc(), seed, count)?;
             post(&rt, rt.alloc(), &mut summary, seed, records.as_slice())?;

@@ -2,9 +2,9 @@ use Rattle.std.proofs.Common.{◌≡◌, ◌∙◌, List, All, sym, subst, rules
 use Rattle.std.proofs.lemmas.Int.{to_z-of_z}
 use Rattle.tally_sessions.specs.declared.entry.Entry.{Entry}
 use Rattle.tally_sessions.specs.declared.times.DayUserTime.{DayUserTime}
+use Rattle.tally_sessions.specs.Changes.{session_rows}
 use Rattle.tally_sessions.specs.Days.{IsDay}
-use Rattle.tally_sessions.specs.Sums.{seconds_of_day_user, sessions_of}
-use Rattle.tally_sessions.proofs.DayUsers.{day_user_rows_are, day_user_rows_days}
+use Rattle.tally_sessions.specs.Sums.{sessions_of}
 use Rattle.tally_sessions.proofs.sessions.Sessions.connect_by_day_user.Goals as goal
 
 pub returns-clause-value : goal.returns-clause-value
@@ -12,11 +12,7 @@ returns-clause-value c =
     let es : List Entry = c.args.self.now.entries in
     let offset = to_z-of_z w32 c.args.offset (search rules) in
     let sessions : c.deref.result.now ≡ sessions_of es c.args.until = c.deref.ensures.value ∙ c.in_ok-sessions.ensures.value in
-    c.from_vec.ensures ∙ c.in_ok-day_user_rows.ensures.rows
-    ∙ day_user_rows_are c.args.offset es c.args.until c.in_ok-sums.sums.entries c.in_ok-day_user_rows.ensures.ordered
-    (λ k. c.in_ok-sums.ensures.value k ∙ (λ i. seconds_of_day_user (offset i) k.day k.user (sessions i)))
+    c.from_vec.ensures ∙ c.in_ok-day_user_rows.ensures.rows ∙ (λ i. session_rows (offset i) (sessions i))
 
 pub returns-clause-days : goal.returns-clause-days
-returns-clause-days c =
-    subst (All (λ (r : DayUserTime). IsDay r.day)) (sym (c.from_vec.ensures ∙ c.in_ok-day_user_rows.ensures.rows))
-    (day_user_rows_days c.in_ok-sums.sums.entries c.in_ok-day_user_rows.ensures.ordered c.in_ok-sums.ensures.days)
+returns-clause-days c = subst (All (λ (r : DayUserTime). IsDay r.day)) (sym c.from_vec.ensures) c.in_ok-day_user_rows.ensures.days
