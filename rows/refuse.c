@@ -117,24 +117,6 @@ ssize_t read(int fd, void *to, size_t size) {
     return real(fd, to, size && (is("short") || is("read-last")) ? 1 : size);
 }
 
-int getentropy(void *to, size_t size) {
-    static int (*real)(void *, size_t);
-    if (!real)
-        real = (int (*)(void *, size_t))dlsym(RTLD_NEXT, "getentropy");
-    if (refused("random", ++randoms))
-        return errno = EIO, -1;
-    return real(to, size);
-}
-
-ssize_t getrandom(void *to, size_t size, unsigned flags) {
-    static ssize_t (*real)(void *, size_t, unsigned);
-    if (!real)
-        real = (ssize_t (*)(void *, size_t, unsigned))dlsym(RTLD_NEXT, "getrandom");
-    if (refused("random", ++randoms))
-        return errno = EIO, -1;
-    return real(to, size, flags);
-}
-
 ssize_t write(int fd, const void *from, size_t size) {
     static ssize_t (*real)(int, const void *, size_t);
     if (!real)
