@@ -204,6 +204,34 @@ fn a_torn_file_writes_nothing(rt: HostRuntime) -> Result<(), Fail> {
     Ok(())
 }
 
+#[test]
+fn a_torn_second_file_is_named(rt: HostRuntime) -> Result<(), Fail> {
+    let mut sources = Vec::new(rt.alloc());
+    let kind = Kind::Login;
+    let whole = Bytes::new(one_hour(rt.alloc(), 768)?);
+    sources.push(Source { kind, input: whole })?;
+    let torn = Bytes::new(one_hour(rt.alloc(), 385)?);
+    sources.push(Source { kind, input: torn })?;
+    let mut out = Kept::new(rt.alloc());
+    let keys = RandomState::new(&rt)?;
+    let outcome = run(
+        &rt,
+        rt.alloc(),
+        keys,
+        &plain(Report::All),
+        sources,
+        &OpenGate,
+        &mut out,
+    );
+    let fault = FeedFault::Torn {
+        records: 1,
+        rest: 1,
+    };
+    assert!(rt; outcome == Err(RunFault::File { host: 1, fault }));
+    assert!(rt; out.bytes().is_empty());
+    Ok(())
+}
+
 // An output that takes so many bytes, one by one, and then fails.
 #[derive(Drop)]
 struct Narrow {

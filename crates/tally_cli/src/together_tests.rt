@@ -17,11 +17,22 @@ use tally_records::Kind;
 /// The most turns of the processor that a caller gives up while it waits for the others.
 const PATIENCE: u32 = 1_000_000;
 
-/// A gate that lets the second call of three callers go on only when all have come to it.
+/// A gate that lets the second call of so many callers go on only when all have come to it.
 #[derive(Drop)]
 struct Meeting {
+    callers: u64,
     arrived: AtomicU64,
     late: AtomicU64,
+}
+
+impl Meeting {
+    fn of(callers: u64) -> Meeting {
+        Meeting {
+            callers,
+            arrived: AtomicU64::new(0),
+            late: AtomicU64::new(0),
+        }
+    }
 }
 
 impl Gate for Meeting {
@@ -31,7 +42,7 @@ impl Gate for Meeting {
         }
         self.arrived.fetch_add(1, Ordering::SeqCst);
         for _ in 0..PATIENCE {
-            if self.arrived.load(Ordering::SeqCst) >= 3 {
+            if self.arrived.load(Ordering::SeqCst) >= self.callers {
                 return;
             }
             thread::yield_now();
@@ -97,11 +108,17 @@ total                        3.00
 
 #[test]
 fn two_feeders_and_an_asker_go_on_together(rt: HostRuntime) -> Result<(), Fail> {
-    let gate = Meeting {
-        arrived: AtomicU64::new(0),
-        late: AtomicU64::new(0),
-    };
+    let gate = Meeting::of(3);
     let (outcome, out) = all_of_two(&rt, rt.alloc(), RandomState::new(&rt)?, 2, 1, &gate)?;
+    assert!(rt; outcome == Ok(()) && gate.late.load(Ordering::SeqCst) == 0);
+    assert!(rt; out.bytes() == ALL_OF_TWO);
+    Ok(())
+}
+
+#[test]
+fn two_feeders_go_on_together(rt: HostRuntime) -> Result<(), Fail> {
+    let gate = Meeting::of(2);
+    let (outcome, out) = all_of_two(&rt, rt.alloc(), RandomState::new(&rt)?, 2, 0, &gate)?;
     assert!(rt; outcome == Ok(()) && gate.late.load(Ordering::SeqCst) == 0);
     assert!(rt; out.bytes() == ALL_OF_TWO);
     Ok(())

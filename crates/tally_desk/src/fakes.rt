@@ -1,5 +1,7 @@
-//! A reader and gates for tests.
-use crate::Gate;
+//! Inputs and gates for tests.
+ghost use Rattle.std.specs.Prelude.{None, false};
+
+use crate::{Gate, Input, InputFault};
 use std::alloc::{AllocError, Global};
 use std::io::{ErrorKind, Read};
 use std::sync::atomic::{AtomicU64, Ordering};
@@ -33,6 +35,23 @@ impl Read for Trickle {
         buf[..count].fill(2);
         self.left -= count;
         Ok(count)
+    }
+}
+
+/// An input of zeros that never ends.
+#[derive(Drop)]
+pub(crate) struct Zeros;
+
+impl Input for Zeros {
+    ghost to_come = { λ _. None };
+
+    ghost can_fail = { λ _. false };
+
+    ghost failures = { λ _. 0 };
+
+    fn take(&mut self, buf: &mut [u8]) -> Result<usize, InputFault> {
+        buf.fill(0);
+        Ok(buf.len())
     }
 }
 

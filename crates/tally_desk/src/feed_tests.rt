@@ -2,7 +2,7 @@
 //! questions that are asked in rounds.
 ghost use Rattle.std.specs.Prelude.{◌≡◌, ◌+◌, ◌-◌, ◌^◌, ◌<◌, IfOk};
 
-use crate::fakes::{Trickle, Turns, twos};
+use crate::fakes::{Trickle, Turns, Zeros, twos};
 use crate::{Bytes, Desk, Fed, FeedFault, Input, OpenGate, Pass, Reading, ask_rounds, feed};
 use std::alloc::Global;
 use std::hash::RandomState;
@@ -199,6 +199,14 @@ fn wherever_a_record_is_torn_nothing_is_posted(rt: HostRuntime) -> Result<(), Fa
         let want = (Err(torn), Some(0));
         assert!(rt; len == 384 || (outcome, stored) == want, "{len} bytes");
     }
+    Ok(())
+}
+
+#[test]
+fn endless_zeros_are_the_most_login_records(rt: HostRuntime) -> Result<(), Fail> {
+    let keys = RandomState::new(&rt)?;
+    let (outcome, stored) = fed(&rt, rt.alloc(), keys, Kind::Login, &mut Zeros)?;
+    assert!(rt; outcome == Err(FeedFault::TooLong) && stored == Some(1_048_576));
     Ok(())
 }
 

@@ -2,7 +2,7 @@
 ghost use Rattle.std.specs.Prelude.{◌≡◌, IfOk};
 
 use crate::fakes::{Meeting, twos};
-use crate::{Bytes, Desk, Pass, ask_rounds, feed};
+use crate::{Bytes, Desk, Gate, Pass, feed};
 use std::alloc::Global;
 use std::hash::RandomState;
 use std::sync::Wait;
@@ -18,7 +18,8 @@ const TOTAL: Question = Question::Connect {
     until: None,
 };
 
-/// Asks one question together with the others' calls. Tells how many calls the desk then had.
+/// Asks one question together with the others' calls, and says how many calls the desk then had,
+/// where that is at least the number of this one.
 fn ask_once<R: Wait>(
     rt: &R,
     alloc: Global,
@@ -29,8 +30,10 @@ fn ask_once<R: Wait>(
     requires { pass.old.desk ≡ desk.now.id }
     ensures { pass.new.desk ≡ pass.old.desk }
 {
-    ask_rounds(rt, alloc, desk, pass, &[TOTAL], 1, gate).ok()?;
-    Some(desk.stored(pass))
+    gate.before(pass.number(), 0);
+    let served = desk.ask(rt, alloc, pass, &TOTAL).ok()?;
+    let stored = desk.stored(pass);
+    (stored >= served.call).then_some(stored)
 }
 
 /// Feeds 1,025 records as two posts and asks two questions, each call made together with the
