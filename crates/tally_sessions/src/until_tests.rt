@@ -9,7 +9,12 @@ const TWO_HOSTS: &str =
     "0 in tty1 a 100;0 in tty2 b 200;0 in tty3 c 300;1 in tty1 d 150;0 boot ~ reboot 1000";
 
 /// Begin, end time and length of each stay of host 0 after a script, the latest first, and the total.
-fn stays_until(alloc: Global, keys: RandomState, script: &str, until: Option<i32>) -> Result<String, Fail> {
+fn stays_until(
+    alloc: Global,
+    keys: RandomState,
+    script: &str,
+    until: Option<i32>,
+) -> Result<String, Fail> {
     let sessions = played(alloc, keys, script)?;
     let mut text = String::new(alloc);
     for stay in sessions.stays(alloc, 0, None, until)?.as_slice() {
@@ -54,7 +59,12 @@ fn a_moment_counts_for_open_stays_alone(rt: HostRuntime) -> Result<(), Fail> {
 }
 
 /// The connect time of ann, and the rows by user, by day, and by day and user.
-fn rows_until(alloc: Global, keys: RandomState, script: &str, until: Option<i32>) -> Result<String, Fail> {
+fn rows_until(
+    alloc: Global,
+    keys: RandomState,
+    script: &str,
+    until: Option<i32>,
+) -> Result<String, Fail> {
     let sessions = played(alloc, keys, script)?;
     let mut text = String::new(alloc);
     write!(text, "{};", sessions.connect(&name("ann"), until))?;
