@@ -1,5 +1,5 @@
 //! The files of the command line, opened.
-ghost use Rattle.std.specs.Prelude.{◌≡◌, IfOk, length};
+ghost use Rattle.std.specs.Prelude.{◌≡◌, IfOk, length, map};
 ghost use Rattle.std.specs.List.{All};
 ghost use Rattle.tally_cli.specs.Deals.{IsReadable};
 
@@ -112,6 +112,7 @@ pub(crate) fn open_all<'a, R: Files + Input>(
 where
     R::File: Drop,
     ensures count { IfOk result (λ sources. length sources.items ≡ length files.now) }
+    ensures kinds { IfOk result (λ sources. map (λ s. s.kind) sources.items ≡ map (λ f. f.kind) files.now) }
     ensures readable { IfOk result (λ sources. All (IsReadable (λ input. input.failures)) sources.items) }
 {
     let mut sources = Vec::new(alloc);
