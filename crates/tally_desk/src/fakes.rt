@@ -1,11 +1,34 @@
-//! Inputs and gates for tests.
-ghost use Rattle.std.specs.Prelude.{None, false};
+//! Desks, inputs and gates for tests.
+ghost use Rattle.std.specs.Prelude.{◌≡◌, IfOk, None, false};
 
-use crate::{Gate, Input, InputFault};
+use crate::{Desk, Gate, Input, InputFault, Pass};
 use std::alloc::{AllocError, Global};
+use std::hash::RandomState;
 use std::io::{ErrorKind, Read};
 use std::sync::atomic::{AtomicU64, Ordering};
+use std::test::Fail;
 use std::{io, thread};
+use tally_book::Book;
+
+/// A desk of one caller, and its pass.
+pub(crate) fn opened(alloc: Global, keys: RandomState) -> Result<(Desk, Pass), Fail>
+    ensures { IfOk result (λ r. r.1.desk ≡ r.0.id) }
+{
+    let (desk, mut passes) = Desk::open(alloc, keys, 1)?;
+    let Some(pass) = passes.pop() else {
+        unreachable!()
+    };
+    Ok((desk, pass))
+}
+
+/// The book of a desk of one caller.
+pub(crate) fn closed(alloc: Global, desk: Desk, pass: Pass) -> Result<Option<Book>, Fail>
+    requires { pass.desk ≡ desk.id }
+{
+    let mut passes = Vec::new(alloc);
+    passes.push(pass)?;
+    Ok(desk.close(passes).ok())
+}
 
 /// Process records of version 2.
 pub(crate) fn twos(alloc: Global, count: usize) -> Result<Vec<u8>, AllocError> {

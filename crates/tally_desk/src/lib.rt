@@ -30,4 +30,6 @@ mod fakes;
 #[cfg(test)]
 mod feed_tests;
 #[cfg(test)]
+mod round_tests;
+#[cfg(test)]
 mod thread_tests;
