@@ -45,7 +45,7 @@ fn help<R: Print + Eprint>(rt: &R, text: &str) -> ExitCode {
     }
 }
 
-/// Tells the text of a refused command line. For a terminal it is the text for the words as they are
+/// Prints the text of a refused command line. For a terminal it is the text for the words as they are
 /// shown, which are refused too.
 fn refused<R: Eprint + AllocGlobal>(
     rt: &R,
