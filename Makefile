@@ -1,13 +1,14 @@
 # The worked rows that `make test` runs are those whose needs are all listed here.
-ROWS = ac,ac -d,ac -p,all,askers,clock,feeders,files,full-device,last,last -n,offset,sa,sa -a,sa -m,sa -n,sa -r,until,version3
+ROWS = ac,ac -d,ac -p,all,askers,clock,csv,feeders,files,full-device,last,last -n,offset,sa,sa -a,sa -m,sa -n,sa -r,until,version3
 PREFIX ?= /usr/local
 PROGRAM = crates/tally/out/tally
+INTO = $(DESTDIR)$(PREFIX)
 
-.PHONY: build test test-big install clean
+.PHONY: build test test-big install uninstall clean
 
 # Proves every crate that the program stands on, and builds it.
 build:
-	cd crates/tally && rt run -- --help > /dev/null
+	@.ci/build
 
 # The gate from nothing, then the worked rows over the program as both compilers built it.
 test:
@@ -15,13 +16,22 @@ test:
 
 # The rows and the cases with inputs of 402 MB. `make test` or `make build` comes first.
 test-big:
-	rows/run --only "$(ROWS),big" $(PROGRAM) endless-zeros-ac
-	rows/surroundings --big $(PROGRAM)
+	rows/tools/run --only "$(ROWS),big" $(PROGRAM) endless-zeros-ac
+	rows/tools/surroundings --big $(PROGRAM)
 
+# The program, its manual, and completions for bash, zsh and fish.
 install: build
-	install -d $(DESTDIR)$(PREFIX)/bin
-	install -m 755 $(PROGRAM) $(DESTDIR)$(PREFIX)/bin/tally
-	if [ -f man/tally.1 ]; then install -d $(DESTDIR)$(PREFIX)/share/man/man1 && install -m 644 man/tally.1 $(DESTDIR)$(PREFIX)/share/man/man1/; fi
+	install -d "$(INTO)/bin" "$(INTO)/share/man/man1" "$(INTO)/share/bash-completion/completions"
+	install -d "$(INTO)/share/zsh/site-functions" "$(INTO)/share/fish/vendor_completions.d"
+	install -m 755 $(PROGRAM) "$(INTO)/bin/tally"
+	install -m 644 man/tally.1 "$(INTO)/share/man/man1/tally.1"
+	install -m 644 completions/tally.bash "$(INTO)/share/bash-completion/completions/tally"
+	install -m 644 completions/_tally "$(INTO)/share/zsh/site-functions/_tally"
+	install -m 644 completions/tally.fish "$(INTO)/share/fish/vendor_completions.d/tally.fish"
+
+uninstall:
+	rm -f "$(INTO)/bin/tally" "$(INTO)/share/man/man1/tally.1" "$(INTO)/share/bash-completion/completions/tally"
+	rm -f "$(INTO)/share/zsh/site-functions/_tally" "$(INTO)/share/fish/vendor_completions.d/tally.fish"
 
 clean:
 	rm -rf crates/*/out

@@ -98,7 +98,7 @@ CASES = [
     ('colliding commands', ['sa', '-a'], commands(colliding), commands(plain)),
     ('sessions over all days', ['ac', '-d'], sessions(LEAST, MOST), sessions(0, 3600)),
     ('sessions over all days, by user', ['ac', '-d', '-p'], sessions(LEAST, MOST), sessions(0, 3600)),
-    ('boots behind many lines', ['ac'], open_lines(boot), open_lines(message)),
+    ('boots after many lines', ['ac'], open_lines(boot), open_lines(message)),
     ('clock changes in many sessions', ['ac'], open_lines(clock), open_lines(message)),
 ]
 
@@ -138,7 +138,7 @@ def main():
         sys.exit(__doc__)
     passed = failed = 0
 
-    def tell(name, hostile, ordinary, rows):
+    def print_case(name, hostile, ordinary, rows):
         nonlocal passed, failed
         well = hostile <= most * ordinary + 0.002
         passed, failed = passed + well, failed + (not well)
@@ -152,11 +152,11 @@ def main():
             fast, _ = seconds(binary, report, written(other, ordinary(records)))
             # a report of all days has 49,713 lines to print, however few the records are
             days = seconds(binary, report, written(other, hostile(2)))[0] if lines > 1000 and fast < slow else 0
-            tell(name, slow, fast + days, lines)
+            print_case(name, slow, fast + days, lines)
         few = max(records // 10000, 1)
         once, lines = seconds(binary, ['ac', '-d', '-p'], written(one, users_on_all_days(few)))
         twice, _ = seconds(binary, ['ac', '-d', '-p'], written(one, users_on_all_days(2 * few)))
-        tell('rows of every user on every day', twice / 2, once, lines)
+        print_case('rows of every user on every day', twice / 2, once, lines)
     print('%d passed, %d failed' % (passed, failed))
     return 1 if failed else 0
 

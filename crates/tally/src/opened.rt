@@ -1,7 +1,8 @@
 //! The files of the command line, opened.
 ghost use Rattle.std.specs.Prelude.{◌≡◌, IfOk, length, map};
 ghost use Rattle.std.specs.List.{All};
-ghost use Rattle.tally_cli.specs.Deals.{IsReadable};
+ghost use Rattle.tally.specs.Bytes.{bytes_left};
+ghost use Rattle.tally_cli.specs.Runs.{IsReadable};
 
 use std::alloc::{AllocFailed, Global};
 use std::fs;
@@ -66,6 +67,8 @@ pub(crate) enum Opened<F: Read + Drop, S: Read + Drop> {
 }
 
 impl<F: Read + Drop, S: Read + Drop> Read for Opened<F, S> {
+    ghost remaining = { bytes_left F.remaining S.remaining };
+
     fn read(&mut self, buf: &mut [u8]) -> io::Result<usize> {
         match self {
             Opened::File(file) => file.read(buf),
@@ -103,6 +106,26 @@ where
     }
 }
 
+/// What is read of a file.
+fn source_of<'a, R: Files + Input>(
+    rt: &R,
+    file: &'a FileArg,
+) -> Result<Source<Reading<Opened<R::File, R::Reader>>>, OpenFault<'a>>
+where
+    R::File: Drop,
+    ensures kind { IfOk result (λ source. source.kind ≡ file.now.kind) }
+    ensures unfailed { IfOk result (λ source. source.input.failures ≡ 0) }
+{
+    let path = file.path.as_str();
+    let Some(opened) = open(rt, path) else {
+        return Err(OpenFault::NotOpened(path));
+    };
+    Ok(Source {
+        kind: file.kind,
+        input: Reading::new(opened),
+    })
+}
+
 /// Opens the files in order, up to the first that cannot be opened.
 pub(crate) fn open_all<'a, R: Files + Input>(
     rt: &R,
@@ -117,14 +140,8 @@ where
 {
     let mut sources = Vec::new(alloc);
     for at in 0..files.len() {
-        let file = &files[at];
-        let path = file.path.as_str();
-        let Some(opened) = open(rt, path) else {
-            return Err(OpenFault::NotOpened(path));
-        };
-        let kind = file.kind;
-        let input = Reading::new(opened);
-        sources.push(Source { kind, input })?;
+        let source = source_of(rt, &files[at])?;
+        sources.push(source)?;
     }
     Ok(sources)
 }

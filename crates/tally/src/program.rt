@@ -1,7 +1,7 @@
 //! The program over a runtime.
 ghost use Rattle.tally_cli.specs.Jobs.{IsRunnable};
 
-use crate::faults::{FAULT, REFUSED, fault, file_fault, run_fault, usage};
+use crate::faults::{FAULT, REFUSED, fault, file_fault, not_opened, run_fault, usage};
 use crate::opened::{OpenFault, ROOT, hold_closed_streams, open_all};
 use crate::shown::{ErrorsTo, Shown, printable};
 use crate::words::{WordsFault, words};
@@ -13,9 +13,10 @@ use std::random::RandomSource;
 use std::rt::{Env, Files};
 use std::sync::Wait;
 use std::thread::Threads;
-use tally_cli::{FileArg, Job, Line, LineFault, file_word, job_of, run};
+use tally_cli::{FileArg, Job, Line, LineFault, RunFault, file_word, job_of, run};
 use tally_desk::OpenGate;
 use tally_print::Writing;
+use tally_records::Memory;
 
 /// Runs the program, and says how it went.
 pub(crate) fn tally<R>(rt: &R, to: ErrorsTo) -> ExitCode
@@ -26,13 +27,13 @@ where
 {
     let words = match words(rt) {
         Ok(words) => words,
-        Err(WordsFault::Memory) => return fault(rt, FAULT, "out of memory"),
+        Err(WordsFault::Memory) => return fault(rt, FAULT, Memory),
         Err(WordsFault::NoText) => return fault(rt, REFUSED, "a word is no UTF-8 text"),
     };
     match job_of(rt.alloc(), words.as_slice()) {
         Ok(Line::Run { job, files }) => hold_and_report(rt, to, &job, files.as_slice()),
         Ok(Line::Help { text }) => help(rt, text.as_str()),
-        Err(LineFault::Memory) => fault(rt, FAULT, "out of memory"),
+        Err(LineFault::Memory) => fault(rt, FAULT, Memory),
         Err(LineFault::Usage { text }) => refused(rt, to, words.as_slice(), text.as_str()),
         Err(LineFault::Prefix { index }) => no_prefix(rt, to, words.as_slice(), index),
     }
@@ -41,7 +42,7 @@ where
 fn help<R: Print + Eprint>(rt: &R, text: &str) -> ExitCode {
     match rt.print(text) {
         Ok(()) => ExitCode::SUCCESS,
-        Err(_) => fault(rt, FAULT, "write failed"),
+        Err(_) => fault(rt, FAULT, RunFault::Write),
     }
 }
 
@@ -57,11 +58,11 @@ fn refused<R: Eprint + AllocGlobal>(
         return usage(rt, text);
     };
     let Ok(shown) = printable(rt.alloc(), words) else {
-        return fault(rt, FAULT, "out of memory");
+        return fault(rt, FAULT, Memory);
     };
     match job_of(rt.alloc(), shown.as_slice()) {
         Err(LineFault::Usage { text }) => usage(rt, text.as_str()),
-        Err(LineFault::Memory) => fault(rt, FAULT, "out of memory"),
+        Err(LineFault::Memory) => fault(rt, FAULT, Memory),
         _ => fault(rt, REFUSED, "the command line is refused"),
     }
 }
@@ -75,9 +76,9 @@ fn no_prefix<R: Eprint + AllocGlobal>(
     match file_word(rt.alloc(), words, index) {
         Ok(word) => {
             let shown = Shown::new(word.as_str(), to);
-            file_fault(rt, REFUSED, shown, "no prefix w: or p:")
+            file_fault(rt, REFUSED, shown, LineFault::Prefix { index })
         }
-        Err(_) => fault(rt, FAULT, "out of memory"),
+        Err(_) => fault(rt, FAULT, Memory),
     }
 }
 
@@ -95,10 +96,8 @@ where
     };
     let sources = match open_all(rt, rt.alloc(), files) {
         Ok(sources) => sources,
-        Err(OpenFault::Memory) => return fault(rt, FAULT, "out of memory"),
-        Err(OpenFault::NotOpened(path)) => {
-            return file_fault(rt, FAULT, Shown::new(path, to), "cannot be opened");
-        }
+        Err(OpenFault::Memory) => return fault(rt, FAULT, Memory),
+        Err(OpenFault::NotOpened(path)) => return not_opened(rt, Shown::new(path, to)),
     };
     let mut out = Writing::new(io::writer(rt));
     match run(rt, rt.alloc(), keys, job, sources, &OpenGate, &mut out) {
@@ -117,6 +116,6 @@ where
 {
     match hold_closed_streams(rt) {
         Ok(_held) => report(rt, to, job, files),
-        Err(_) => file_fault(rt, FAULT, Shown::new(ROOT, to), "cannot be opened"),
+        Err(_) => not_opened(rt, Shown::new(ROOT, to)),
     }
 }

@@ -1,4 +1,4 @@
--- When a call is refused. The causes are told in their order, so that no cause passes for another.
+-- When a call is refused. The causes are named in their order, so that no cause passes for another.
 use Rattle.std.specs.Prelude.{◌≡◌, ℕ, ◌+◌, ◌<◌, ◌≤◌, length}
 use Rattle.tally_book.specs.declared.fault.PostFault.{PostFault}
 use Rattle.tally_book.specs.declared.fault.PostFault.TheVariants as post
@@ -14,7 +14,7 @@ pub record HasRoom (stored : Counts) (batch : Records) : Type 0 where
   pub logins : stored.logins + length (logins_in batch) ≤ 1048576
   pub procs : stored.procs + length (procs_in batch) ≤ 1048576
 
--- the fault of a post names its cause, and the causes told before it do not hold
+-- the fault of a post names its cause, and the causes before it do not hold
 abbrev pub IsPostRefusal : Counts → ℕ → Records → PostFault → Type 0
 IsPostRefusal stored calls batch (post.LoginsFull told) =
     (told ≡ stored.logins) × (1048576 < stored.logins + length (logins_in batch))
@@ -23,13 +23,7 @@ IsPostRefusal stored calls batch (post.ProcsFull told) =
 IsPostRefusal stored calls batch post.CallsFull = HasRoom stored batch × (calls ≡ 65536)
 IsPostRefusal stored calls batch post.Memory = HasRoom stored batch × (calls < 65536)
 
--- why a question has no answer: its host is none of so many, or memory ran out
-abbrev pub IsUnanswered : ℕ → Question → AskFault → Type 0
-IsUnanswered callers question ask.CallsFull = ⊥
-IsUnanswered callers question (ask.NoSuchHost host) = (callers ≤ host) × NamesHost question host
-IsUnanswered callers question ask.Memory = NamesHostBelow callers question
-
--- the fault of a report names its cause, and the causes told before it do not hold
+-- the fault of a report names its cause, and the causes before it do not hold
 abbrev pub IsAskRefusal : ℕ → ℕ → Question → AskFault → Type 0
 IsAskRefusal callers calls question ask.CallsFull = calls ≡ 65536
 IsAskRefusal callers calls question (ask.NoSuchHost host) =

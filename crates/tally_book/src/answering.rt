@@ -1,7 +1,7 @@
 //! Answers of sessions and a summary to questions.
 ghost use Rattle.std.specs.Prelude.{◌≡◌, ◌≢◌, ◌<◌, IfOk, IfErr};
 ghost use Rattle.tally_book.specs.Answers.{answer_of, HasDays, IsAskable, NamesHostBelow};
-ghost use Rattle.tally_book.specs.Refusals.{IsUnanswered};
+ghost use Rattle.tally_book.specs.inside.Refusals.{IsUnanswered};
 
 use crate::connect::connect_rows;
 use crate::fault::AskFault;

@@ -3,6 +3,8 @@ ghost use Rattle.tally_book.specs.Answers.{answer_of, HasDays, IsAskable};
 ghost use Rattle.tally_book.specs.Books.{IsLegal, IsReceipt, IsServed, counts_of, empty, posted, asked};
 ghost use Rattle.tally_book.specs.Refusals.{HasRoom, IsPostRefusal, IsAskRefusal};
 ghost use Rattle.tally_sessions.specs.Hosts.{posted_by};
+ghost use Rattle.tally_sessions.specs.Lent.{entries_in as lent_logins};
+ghost use Rattle.tally_usage.specs.Entries.{entries_in};
 ghost use Rattle.tally_usage.specs.Summary.{entries_of};
 ghost use Rattle.tally_records.specs.Records.{logins_in, procs_in, record_count};
 
@@ -14,14 +16,11 @@ use std::alloc::Global;
 use std::hash::RandomState;
 use std::marker::Model;
 use tally_records::{Batch, Kind, Memory};
-use tally_sessions::{Entry, Sessions};
-use tally_usage::{ProcEntry, Summary};
+use tally_sessions::{ENTRY_LIMIT as LOGIN_LIMIT, Entries, EntryList, Sessions};
+use tally_usage::{ENTRY_LIMIT as PROC_LIMIT, ProcEntries, ProcList, Summary};
 
 /// The most calls of a history.
 pub const CALL_LIMIT: usize = 65_536;
-
-/// The most login records of a book, and the most process records.
-const ENTRY_LIMIT: usize = 1_048_576;
 
 /// The stored records of some callers, and the history of the calls that stored them or asked
 /// reports of them. Each caller is one host.
@@ -38,7 +37,7 @@ impl Model for Book {
 
     ghost Value = { Contents };
 
-    ghost use Rattle.tally_book.specs.Kept.{contents_of, IsSound};
+    ghost use Rattle.tally_book.specs.inside.Kept.{contents_of, IsSound};
 
     ghost view = { contents_of };
 
@@ -58,8 +57,8 @@ fn counts(sessions: &Sessions, summary: &Summary) -> Counts
 
 /// Sees that the batch and the call fit.
 fn check_room(stored: Counts, calls: usize, batch: &Batch) -> Result<(), PostFault>
-    requires few_logins { stored.logins ≤ ENTRY_LIMIT }
-    requires few_procs { stored.procs ≤ ENTRY_LIMIT }
+    requires few_logins { stored.logins ≤ LOGIN_LIMIT }
+    requires few_procs { stored.procs ≤ PROC_LIMIT }
     requires few_calls { calls ≤ CALL_LIMIT }
     ensures room { OnOk result (HasRoom stored batch.now) }
     ensures calls { OnOk result (calls < CALL_LIMIT) }
@@ -69,12 +68,12 @@ fn check_room(stored: Counts, calls: usize, batch: &Batch) -> Result<(), PostFau
 {
     let count = batch.len() as u64;
     match batch.kind() {
-        Kind::Login if stored.logins + count > ENTRY_LIMIT as u64 => {
+        Kind::Login if stored.logins + count > LOGIN_LIMIT as u64 => {
             return Err(PostFault::LoginsFull {
                 stored: stored.logins,
             });
         }
-        Kind::Proc if stored.procs + count > ENTRY_LIMIT as u64 => {
+        Kind::Proc if stored.procs + count > PROC_LIMIT as u64 => {
             return Err(PostFault::ProcsFull {
                 stored: stored.procs,
             });
@@ -95,8 +94,8 @@ fn store(
     batch: &Batch,
 ) -> Result<(), Memory>
     requires host { host < sessions.old.hosts }
-    requires logins { length sessions.old.entries + length (logins_in batch.now) ≤ ENTRY_LIMIT }
-    requires procs { length summary.old.entries + length (procs_in batch.now) ≤ ENTRY_LIMIT }
+    requires logins { length sessions.old.entries + length (logins_in batch.now) ≤ LOGIN_LIMIT }
+    requires procs { length summary.old.entries + length (procs_in batch.now) ≤ PROC_LIMIT }
     ensures hosts { sessions.new.hosts ≡ sessions.old.hosts }
     ensures logins { sessions.new.entries ≡ (if is_ok result then sessions.old.entries ++ posted_by host (logins_in batch.now) else sessions.old.entries) }
     ensures procs { summary.new.entries ≡ (if is_ok result then summary.old.entries ++ entries_of host (procs_in batch.now) else summary.old.entries) }
@@ -148,15 +147,15 @@ impl Book {
     }
 
     /// The stored login entries, in stored order.
-    pub fn logins(&self) -> &[Entry]
-        ensures { result.now ≡ self.now.logins }
+    pub fn logins(&self) -> Entries<'_>
+        ensures { lent_logins result ≡ self.now.logins }
     {
         self.sessions.entries()
     }
 
     /// The stored process entries, in stored order.
-    pub fn procs(&self) -> &[ProcEntry]
-        ensures { result.now ≡ self.now.procs }
+    pub fn procs(&self) -> ProcEntries<'_>
+        ensures { entries_in result ≡ self.now.procs }
     {
         self.summary.entries()
     }
@@ -169,9 +168,9 @@ impl Book {
     }
 
     /// Hands out the entries and the calls.
-    pub fn into_parts(self) -> (Vec<Entry>, Vec<ProcEntry>, Vec<Call>)
-        ensures logins { result.0.items ≡ self.logins }
-        ensures procs { result.1.items ≡ self.procs }
+    pub fn into_parts(self) -> (EntryList, ProcList, Vec<Call>)
+        ensures logins { result.0 ≡ self.logins }
+        ensures procs { result.1 ≡ self.procs }
         ensures calls { result.2.items ≡ self.calls }
     {
         let Book {

@@ -64,15 +64,15 @@ pub(crate) fn connect_rows(
         (false, false) => Ok(List::new(alloc)),
         (false, true) => {
             let times = sessions.connect_by_user(alloc, until)?;
-            Ok(List::from_vec(user_rows(alloc, times.as_slice())?))
+            List::from_vec(alloc, user_rows(alloc, times.as_slice())?)
         }
         (true, false) => {
             let times = sessions.connect_by_day(alloc, offset, until)?;
-            Ok(List::from_vec(day_rows(alloc, times.as_slice())?))
+            List::from_vec(alloc, day_rows(alloc, times.as_slice())?)
         }
         (true, true) => {
             let times = sessions.connect_by_day_user(alloc, offset, until)?;
-            Ok(List::from_vec(day_user_rows(alloc, times.as_slice())?))
+            List::from_vec(alloc, day_user_rows(alloc, times.as_slice())?)
         }
     }
 }

@@ -6,7 +6,7 @@ use std::alloc::AllocError;
 use tally_records::Memory;
 use thiserror::Error;
 
-/// Why a post was refused. The first cause is told, in this order but with `Memory` last.
+/// Why a post was refused. The first cause is named, in this order but with `Memory` last.
 #[derive(Debug, PartialEq, Eq, Drop, Error)]
 pub enum PostFault {
     #[error("out of memory")]
@@ -22,7 +22,7 @@ pub enum PostFault {
     CallsFull,
 }
 
-/// Why a report was refused. The first cause is told, in this order but with `Memory` last.
+/// Why a report was refused. The first cause is named, in this order but with `Memory` last.
 #[derive(Debug, PartialEq, Eq, Drop, Error)]
 pub enum AskFault {
     #[error("out of memory")]

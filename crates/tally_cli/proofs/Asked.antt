@@ -1,13 +1,11 @@
 -- The questions of a report can be asked of the book.
 use Rattle.std.proofs.Common.{◌≡◌, ℕ, ◌+◌, ◌<◌, ◌≤◌, ℤ, Bool, true, false, cond, List, [], ◌∷◌, Option, Some, None, length, map, filter, ap, ◌∙◌, arith, length-append}
 use Rattle.std.proofs.lemmas.List.Elements.{All-append, All-cons, All-nil}
-use Rattle.std.proofs.lemmas.Simd.{map-map}
 use Rattle.std.specs.List.{All, enumerate_from}
 use Rattle.tally_book.specs.declared.question.Answer.{Answer}
 use Rattle.tally_book.specs.declared.question.Question.{Question}
 use Rattle.tally_book.specs.declared.question.Question.TheVariants as questions
 use Rattle.tally_book.specs.Answers.{answer_of}
-use Rattle.tally_print.specs.AnswerText.{answer_text}
 use Rattle.tally_records.specs.declared.batch.Kind.{Kind}
 use Rattle.tally_records.specs.declared.batch.Kind.TheVariants.{Login}
 use Rattle.tally_sessions.specs.declared.entry.Entry.{Entry}
@@ -16,7 +14,7 @@ use Rattle.tally_usage.specs.declared.order.Order.TheVariants as order
 use Rattle.tally_cli.specs.declared.job.Job.{Job}
 use Rattle.tally_cli.specs.declared.job.Report.{Report}
 use Rattle.tally_cli.specs.declared.job.Report.TheVariants as report
-use Rattle.tally_cli.specs.Output.{is_wanted, questions_of, report_text, section, sections, stays_asked}
+use Rattle.tally_cli.specs.Output.{form_text, is_wanted, questions_of, report_text, stays_asked}
 
 kept_first : {X Y : Type 0} (P : Y → Type 0) (f : X → Y) (x : X) (rest : List X) (b : Bool) → P (f x) → All P (map f rest) → All P (map f (cond b (x ∷ rest) rest))
 kept_first P f x rest true p h = All-cons P (f x) (map f rest) p h
@@ -66,8 +64,7 @@ question_count report.All offset until kinds =
 
 -- the text of the answers is that of the report
 pub report_is : (job : Job) (kinds : List Kind) (asked : List Question) (answers : List Answer) (logins : List Entry) (procs : List ProcEntry)
-    → asked ≡ questions_of job.report job.offset kinds job.until → answers ≡ map (λ q. answer_of q logins procs) asked → sections (map (λ a. answer_text a job.offset job.until) answers) ≡ report_text job kinds logins procs
+    → asked ≡ questions_of job.report job.offset kinds job.until → answers ≡ map (λ q. answer_of q logins procs) asked
+    → form_text job.form job.report job.offset job.until answers ≡ report_text job kinds logins procs
 report_is job kinds asked answers logins procs e f =
-    ap (λ l. sections (map (λ a. answer_text a job.offset job.until) l)) f
-    ∙ ap sections (map-map (λ a. answer_text a job.offset job.until) (λ q. answer_of q logins procs) asked)
-    ∙ ap (λ l. sections (map (section job.offset job.until logins procs) l)) e
+    ap (form_text job.form job.report job.offset job.until) (f ∙ ap (map (λ q. answer_of q logins procs)) e)

@@ -9,11 +9,11 @@ use Rattle.tally_book.specs.Deeds.{Ask as AskDeed, Deed, logins_added, procs_add
 use Rattle.tally_desk.specs.Feeds.{IsFull, post_of}
 use Rattle.tally_desk.specs.Passes.{PassState, deeds}
 use Rattle.tally_records.specs.Records.{Records, Logins, Procs, logins_in, procs_in, record_count}
-use Rattle.tally_cli.specs.declared.sources.Source.{Source}
-use Rattle.tally_cli.specs.declared.task.Outcome.{Outcome}
-use Rattle.tally_cli.specs.declared.task.Outcome.TheVariants as outcome
-use Rattle.tally_cli.specs.Deals.{work_of}
-use Rattle.tally_cli.specs.Tasks.{IsOutcome, asker_questions}
+use Rattle.tally_cli.specs.declared.running.source.Source.{Source}
+use Rattle.tally_cli.specs.declared.running.task.Outcome.{Outcome}
+use Rattle.tally_cli.specs.declared.running.task.Outcome.TheVariants as outcome
+use Rattle.tally_cli.specs.inside.Deals.{work_of}
+use Rattle.tally_cli.specs.inside.Tasks.{IsOutcome, asker_questions}
 
 -- deeds are few for the records that they added
 abbrev pub AreFew : List Deed → Type 0

@@ -5,10 +5,10 @@ use Rattle.std.proofs.lemmas.List.Elements.{All-nil, All-cons, All-append, All-c
 use Rattle.std.proofs.lemmas.List.Sums.{sum_by-cons}
 use Rattle.std.specs.List.{All, Contains, flat_map, sum_by}
 use Rattle.tally_desk.specs.Passes.{PassState}
-use Rattle.tally_cli.specs.declared.sources.Source.{Source}
-use Rattle.tally_cli.specs.declared.task.Task.{Task}
-use Rattle.tally_cli.specs.Deals.{AreCarriedOut, AreDealt, CameOf, IsIn, IsTaskOf}
-use Rattle.tally_cli.specs.Tasks.{EachWorks, IsExplained, Works}
+use Rattle.tally_cli.specs.declared.running.source.Source.{Source}
+use Rattle.tally_cli.specs.declared.running.task.Task.{Task}
+use Rattle.tally_cli.specs.inside.Deals.{AreCarriedOut, AreDealt, CameOf, IsIn, IsTaskOf}
+use Rattle.tally_cli.specs.inside.Tasks.{EachWorks, IsExplained, Works}
 use Rattle.tally_cli.proofs.Dealt.{at_map}
 
 pub all_unmap : {V A : Type 0} (P : A → Type 0) (f : V → A) (vs : List V) → All P (map f vs) → All (λ v. P (f v)) vs

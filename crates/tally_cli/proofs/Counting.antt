@@ -3,7 +3,7 @@ use Rattle.std.proofs.Common.{◌≡◌, ◌≢◌, ℕ, zero, suc, ◌+◌, ◌
 use Rattle.std.proofs.lemmas.Bool.{cases_eq, cases_lt}
 use Rattle.std.proofs.lemmas.List.Elements.{All-head, All-tail}
 use Rattle.std.specs.List.{All, filter}
-use Rattle.tally_desk.specs.Totals.{below}
+use Rattle.tally_desk.specs.inside.Totals.{below}
 
 pub below_nothing : (n : ℕ) → below (λ h. 0) n ≡ 0
 below_nothing zero = refl

@@ -7,10 +7,11 @@ use Rattle.std.proofs.lemmas.List.Sums.{sum_by-set, sum_by-cons}
 use Rattle.std.specs.List.{All, sum_by, remove}
 use Rattle.std.specs.Prelude.{slice_get}
 use Rattle.tally_desk.specs.Passes.{DeskState}
-use Rattle.tally_cli.specs.declared.sources.Source.{Source}
-use Rattle.tally_cli.specs.declared.task.Task.{Task}
-use Rattle.tally_cli.specs.Deals.{IsIn, IsReadable, work_of}
-use Rattle.tally_cli.specs.Tasks.{AreReady, IsCountable, IsNew}
+use Rattle.tally_cli.specs.declared.running.source.Source.{Source}
+use Rattle.tally_cli.specs.declared.running.task.Task.{Task}
+use Rattle.tally_cli.specs.inside.Deals.{IsIn, work_of}
+use Rattle.tally_cli.specs.Runs.{IsReadable}
+use Rattle.tally_cli.specs.inside.Tasks.{AreReady, IsCountable, IsNew}
 
 pub in_old : {A : Type 0} (xss : List (List A)) (w : ℕ) (x t : A) → w < length xss → IsIn xss t → IsIn (set xss w (get_or xss w [] ++ x ∷ [])) t
 in_old {A} xss w x t near h =

@@ -20,13 +20,14 @@ use Rattle.tally_records.specs.declared.batch.Kind.TheVariants.{Login}
 use Rattle.tally_sessions.specs.declared.entry.Entry.{Entry}
 use Rattle.tally_sessions.specs.Hosts.{of_host}
 use Rattle.tally_usage.specs.declared.entry.ProcEntry.{ProcEntry}
-use Rattle.tally_cli.specs.declared.gather.Failure.{Failure}
-use Rattle.tally_cli.specs.declared.sources.Source.{Source}
-use Rattle.tally_cli.specs.declared.task.Task.{Task}
-use Rattle.tally_cli.specs.Deals.{work_of}
+use Rattle.tally_cli.specs.declared.running.gather.Failure.{Failure}
+use Rattle.tally_cli.specs.declared.running.source.Source.{Source}
+use Rattle.tally_cli.specs.declared.running.task.Task.{Task}
+use Rattle.tally_cli.specs.inside.Deals.{work_of}
 use Rattle.tally_cli.specs.Output.{login_entries, proc_entries}
-use Rattle.tally_cli.specs.Runs.{AreWorkedThrough, IsGood, Tell, Told, records_told}
-use Rattle.tally_cli.specs.Tasks.{IsOutcome}
+use Rattle.tally_cli.specs.Runs.{IsGood, Tell, Told, records_told}
+use Rattle.tally_cli.specs.inside.RunSteps.{AreWorkedThrough}
+use Rattle.tally_cli.specs.inside.Tasks.{IsOutcome}
 use Rattle.tally_cli.proofs.Outcomes.{IsBefore, done_before}
 use Rattle.tally_cli.proofs.Calls.{AreFew, outcome_few}
 use Rattle.tally_cli.proofs.Limits.{few_calls}

@@ -1,4 +1,4 @@
--- What the failure of a caller tells of the files.
+-- What the failure of a caller shows of the files.
 use Rattle.std.proofs.Common.{◌≡◌, ℕ, ◌<◌, ◌≤◌, Bool, List, [], Option, Some, None, length, get_or, sym, refl, ap, ◌∙◌, subst, arith, ⊎_elim, true, ℤ}
 use Rattle.std.proofs.lemmas.List.{get_or_default}
 use Rattle.std.proofs.lemmas.Option.{slice_get_within, get_or_from_slice_get}
@@ -16,15 +16,16 @@ use Rattle.tally_desk.specs.declared.fault.FeedFault.TheVariants as feed
 use Rattle.tally_cli.specs.declared.fault.RunFault.TheVariants as run
 use Rattle.tally_sessions.specs.declared.entry.Entry.{Entry}
 use Rattle.tally_usage.specs.declared.entry.ProcEntry.{ProcEntry}
-use Rattle.tally_cli.specs.declared.gather.Failure.{Failure}
-use Rattle.tally_cli.specs.declared.sources.Source.{Source}
-use Rattle.tally_cli.specs.declared.task.Task.{Task}
-use Rattle.tally_cli.specs.Deals.{CameOf, task_of, work_of}
-use Rattle.tally_cli.specs.Failures.{IsOfOne, failure_of}
-use Rattle.tally_cli.specs.Runs.{IsAllowed, IsFileCause, IsGood, IsNamed, IsReadCause, Tell, Told, run_fault}
-use Rattle.tally_cli.specs.Tasks.{FailedToFeed, IsOutcome}
+use Rattle.tally_cli.specs.declared.running.gather.Failure.{Failure}
+use Rattle.tally_cli.specs.declared.running.source.Source.{Source}
+use Rattle.tally_cli.specs.declared.running.task.Task.{Task}
+use Rattle.tally_cli.specs.inside.Deals.{CameOf, task_of, work_of}
+use Rattle.tally_cli.specs.inside.Failures.{IsOfOne, failure_of}
+use Rattle.tally_cli.specs.Runs.{IsAllowed, IsFileCause, IsFullList, IsGood, IsNamed, Tell, Told}
+use Rattle.tally_cli.specs.inside.RunSteps.{IsReadCause, run_fault}
+use Rattle.tally_cli.specs.inside.Tasks.{FailedToFeed, IsOutcome}
 use Rattle.tally_cli.proofs.Outcomes.{IsBefore}
-use Rattle.tally_cli.proofs.Limits.{ask_allowed, feed_allowed, few_seen, not_full, prefix_length}
+use Rattle.tally_cli.proofs.Limits.{ask_allowed, feed_allowed, feed_full, few_seen, not_full, prefix_length}
 use Rattle.tally_cli.proofs.Shares.{refused_much}
 use Rattle.tally_cli.proofs.Faults.{IsAskFailure, IsFailureOf, IsFeedFailure, caller_is, failure_is, file_cause, file_is, no_asker}
 use Rattle.tally_cli.proofs.Ended.{Ended, few, good_before, no_input, source_or_none, told_at}
@@ -149,4 +150,20 @@ module _ {I : Type 0} {to_come : I → Option (List ℕ)} {can_fail : I → Bool
       (λ (never : (slice_get sources own.host ≡ None) × (length sources ≤ own.host)).
       let ask : IsAskFailure until own.old own.new own.host f = subst (λ o. IsFailureOf to_come can_fail until o own.old own.new own.host f) never.0 own.failure_is in
       subst (λ (x : Failure). IsNamed (length sources) callers (run_fault x)) ask.is (never.1, omega (arith, own.near, is)))
+      (source_or_none sources own.host)
+
+  -- a full list is that of the file's kind
+  pub full_list : (f : Failure) → failure ≡ Some f → IsFullList sources (run_fault f)
+  full_list f e =
+      let own = failed f e in
+      ⊎_elim
+      (λ (found : (s : Source I) × (slice_get sources own.host ≡ Some s)).
+      let fed : IsFeedFailure to_come can_fail found.0 own.old own.new own.host f = subst (λ o. IsFailureOf to_come can_fail until o own.old own.new own.host f) found.1 own.failure_is in
+      let logins : length own.new.seen.logins ≤ 1048576 = omega (arith, prefix_length own.new.seen.logins b.logins own.stands.seen.logins, ended.legal.few_logins) in
+      let procs : length own.new.seen.procs ≤ 1048576 = omega (arith, prefix_length own.new.seen.procs b.procs own.stands.seen.procs, ended.legal.few_procs) in
+      subst (λ (x : Failure). IsFullList sources (run_fault x)) fed.is
+      (feed_full sources own.host found.0 (λ s. get_or_from_slice_get sources own.host found.0 s found.1) own.new.seen fed.fault fed.failed.full logins procs))
+      (λ (never : (slice_get sources own.host ≡ None) × (length sources ≤ own.host)).
+      let ask : IsAskFailure until own.old own.new own.host f = subst (λ o. IsFailureOf to_come can_fail until o own.old own.new own.host f) never.0 own.failure_is in
+      subst (λ (x : Failure). IsFullList sources (run_fault x)) ask.is tt)
       (source_or_none sources own.host)

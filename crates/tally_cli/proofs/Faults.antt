@@ -1,4 +1,4 @@
--- What a failure tells of the caller's work.
+-- What a failure shows of the caller's work.
 use Rattle.std.proofs.Common.{◌≡◌, ℕ, ◌<◌, Bool, List, Option, Some, None, refl, sym, ap, ◌∙◌, subst, ℤ}
 use Rattle.tally_book.specs.declared.fault.AskFault.{AskFault}
 use Rattle.tally_desk.specs.Passes.{PassState}
@@ -7,15 +7,16 @@ use Rattle.tally_desk.specs.declared.fault.FeedFault.{FeedFault}
 use Rattle.tally_desk.specs.declared.fault.FeedFault.TheVariants as feed
 use Rattle.tally_cli.specs.declared.fault.RunFault.{RunFault}
 use Rattle.tally_cli.specs.declared.fault.RunFault.TheVariants as run
-use Rattle.tally_cli.specs.declared.gather.Cause.TheVariants as cause
-use Rattle.tally_cli.specs.declared.gather.Failure.{Failure}
-use Rattle.tally_cli.specs.declared.sources.Source.{Source}
-use Rattle.tally_cli.specs.declared.task.Outcome.{Outcome}
-use Rattle.tally_cli.specs.declared.task.Outcome.TheVariants as outcome
-use Rattle.tally_cli.specs.Deals.{work_of}
-use Rattle.tally_cli.specs.Failures.{failure_of}
-use Rattle.tally_cli.specs.Runs.{IsFileCause, Told, good_logins, good_procs, run_fault}
-use Rattle.tally_cli.specs.Tasks.{FailedToFeed, IsOutcome, asker_questions}
+use Rattle.tally_cli.specs.declared.running.gather.Cause.TheVariants as cause
+use Rattle.tally_cli.specs.declared.running.gather.Failure.{Failure}
+use Rattle.tally_cli.specs.declared.running.source.Source.{Source}
+use Rattle.tally_cli.specs.declared.running.task.Outcome.{Outcome}
+use Rattle.tally_cli.specs.declared.running.task.Outcome.TheVariants as outcome
+use Rattle.tally_cli.specs.inside.Deals.{work_of}
+use Rattle.tally_cli.specs.inside.Failures.{failure_of}
+use Rattle.tally_cli.specs.Runs.{IsFileCause, Told, good_logins, good_procs}
+use Rattle.tally_cli.specs.inside.RunSteps.{run_fault}
+use Rattle.tally_cli.specs.inside.Tasks.{FailedToFeed, IsOutcome, asker_questions}
 
 abbrev IsNone : Option Failure → Type 0
 IsNone None = Unit {0}

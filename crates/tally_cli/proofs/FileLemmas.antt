@@ -8,7 +8,7 @@ use Rattle.std.proofs.lemmas.List.Elements.{All-nil, All-cons, All-push}
 use Rattle.clap.specs.Walk.{texts}
 use Rattle.clap.specs.Words.{Text}
 use Rattle.tally_cli.specs.FileWords.{HasPrefix, IsFirstBare, NamesFiles, Reads, word_of}
-use Rattle.tally_cli.specs.declared.files.FileArg.{FileArg}
+use Rattle.tally_cli.specs.declared.line.files.FileArg.{FileArg}
 use Rattle.tally_cli.specs.declared.job.Report.{Report}
 use Rattle.tally_cli.specs.declared.job.Report.TheVariants as report
 

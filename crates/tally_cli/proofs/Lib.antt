@@ -1,3 +1,4 @@
+pub mod Accepted
 pub mod Asked
 pub mod Calls
 pub mod Carried
@@ -9,6 +10,7 @@ pub mod Ended
 pub mod Failing
 pub mod Faults
 pub mod FileLemmas
+pub mod FilledRows
 pub mod FirstPasses
 pub mod Limits
 pub mod LineLemmas
@@ -20,3 +22,5 @@ pub mod Shares
 pub mod Taken
 pub mod Texts
 pub mod TooMany
+pub mod WalkSteps
+pub mod WorkedRows

@@ -1,5 +1,5 @@
 -- A run has few calls, so that no call is refused for their number.
-use Rattle.std.proofs.Common.{◌≡◌, ℕ, ◌+◌, ◌*◌, ◌<◌, ◌≤◌, List, [], ◌∷◌, ◌++◌, Some, false, length, pos, sym, refl, ap, ◌∙◌, subst, arith, length-append, Option, ℤ}
+use Rattle.std.proofs.Common.{◌≡◌, ℕ, ◌+◌, ◌*◌, ◌<◌, ◌≤◌, List, [], ◌∷◌, ◌++◌, Some, false, length, get_or, pos, sym, refl, ap, ◌∙◌, subst, arith, length-append, Option, ℤ}
 use Rattle.std.proofs.lemmas.List.{get_or_at, length-map}
 use Rattle.std.proofs.lemmas.List.Elements.{All-cons, All-nil}
 use mathlib.Core.List.{IsPrefix}
@@ -21,8 +21,10 @@ use Rattle.tally_desk.specs.declared.fault.FeedFault.TheVariants as feed
 use Rattle.tally_records.specs.declared.batch.Kind.{Kind}
 use Rattle.tally_usage.specs.declared.order.Order.TheVariants as order
 use Rattle.tally_cli.specs.declared.fault.RunFault.TheVariants as run
-use Rattle.tally_cli.specs.Runs.{IsAllowed}
-use Rattle.tally_cli.specs.Tasks.{asker_questions}
+use Rattle.tally_records.specs.Records.{Records, Logins, Procs, logins_in, procs_in, record_count}
+use Rattle.tally_cli.specs.declared.running.source.Source.{Source}
+use Rattle.tally_cli.specs.Runs.{IsAllowed, IsFullList}
+use Rattle.tally_cli.specs.inside.Tasks.{asker_questions}
 use Rattle.tally_sessions.specs.declared.entry.Entry.{Entry}
 use Rattle.tally_usage.specs.declared.entry.ProcEntry.{ProcEntry}
 use Rattle.tally_cli.proofs.Calls.{AreFew}
@@ -73,6 +75,28 @@ feed_allowed n host kind seen feed.CallsFull h few = let full = h.cause.1 in ome
 -- no feed was refused for the number of calls
 pub not_full : (kind : Kind) (seen : Contents) (fault : FeedFault) → IsFeedRefusal kind seen fault → length seen.calls ≤ 4224 → fault ≡ feed.CallsFull → ⊥
 not_full kind seen fault h few e = let full = (subst (IsFeedRefusal kind seen) e h).cause.1 in omega (arith, full, few)
+
+few_logins : (batch : Records) → record_count batch ≤ 1024 → length (logins_in batch) ≤ 1024
+few_logins (Logins records) few = few
+few_logins (Procs records) few = omega arith
+
+few_procs : (batch : Records) → record_count batch ≤ 1024 → length (procs_in batch) ≤ 1024
+few_procs (Logins records) few = omega arith
+few_procs (Procs records) few = few
+
+-- a full list is that of the source's kind
+pub feed_full : {I : Type 0} (sources : List (Source I)) (host : ℕ) (source : Source I) → ((s : Source I) → get_or sources host s ≡ source) → (seen : Contents) (fault : FeedFault)
+    → IsFeedRefusal source.kind seen fault → length seen.logins ≤ 1048576 → length seen.procs ≤ 1048576 → IsFullList sources (run.File host fault)
+feed_full sources host source is seen feed.Memory h logins procs = tt
+feed_full sources host source is seen feed.Read h logins procs = tt
+feed_full sources host source is seen (feed.Torn records rest) h logins procs = tt
+feed_full sources host source is seen feed.TooLong h logins procs = tt
+feed_full sources host source is seen (feed.Bad at fault) h logins procs = tt
+feed_full sources host source is seen (feed.LoginsFull stored) h logins procs =
+    let full = h.1 in ((omega (arith, full.cause.0, logins), omega (arith, full.cause.0, full.cause.1, few_logins full.batch full.few)), λ s. ap (λ (x : Source _). x.kind) (is s) ∙ h.0)
+feed_full sources host source is seen (feed.ProcsFull stored) h logins procs =
+    let full = h.1 in ((omega (arith, full.cause.0, procs), omega (arith, full.cause.0, full.cause.1, few_procs full.batch full.few)), λ s. ap (λ (x : Source _). x.kind) (is s) ∙ h.0)
+feed_full sources host source is seen feed.CallsFull h logins procs = tt
 
 -- askers ask of the first host alone
 abbrev NamesFirst : Question → Type 0

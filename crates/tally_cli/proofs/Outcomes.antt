@@ -1,13 +1,13 @@
--- What is known of a task by the failure that was told.
+-- What is known of a task by the failure that was named.
 use Rattle.std.proofs.Common.{ℕ, ◌<◌, List, Option, Some, None, arith, refl}
 use Rattle.std.proofs.lemmas.List.Elements.{All-contains}
 use Rattle.std.specs.List.{All, Contains}
-use Rattle.tally_cli.specs.declared.gather.Failure.{Failure}
-use Rattle.tally_cli.specs.declared.task.Task.{Task}
-use Rattle.tally_cli.specs.declared.task.Outcome.{Outcome}
-use Rattle.tally_cli.specs.declared.task.Outcome.TheVariants as outcome
-use Rattle.tally_cli.specs.Failures.{AtMost, IsLeast, failure_of}
-use Rattle.tally_cli.specs.Tasks.{HasFailed, IsDone, IsExplained, IsUntried}
+use Rattle.tally_cli.specs.declared.running.gather.Failure.{Failure}
+use Rattle.tally_cli.specs.declared.running.task.Task.{Task}
+use Rattle.tally_cli.specs.declared.running.task.Outcome.{Outcome}
+use Rattle.tally_cli.specs.declared.running.task.Outcome.TheVariants as outcome
+use Rattle.tally_cli.specs.inside.Failures.{AtMost, IsLeast, failure_of}
+use Rattle.tally_cli.specs.inside.Tasks.{HasFailed, IsDone, IsExplained, IsUntried}
 
 done_of : (o : Outcome) → (HasFailed o → ⊥) → (IsUntried o → ⊥) → IsDone o
 done_of outcome.Untried unfailed tried = absurd (tried refl)

@@ -13,12 +13,12 @@ use Rattle.tally_records.specs.declared.process.ProcRecord.{ProcRecord}
 use Rattle.tally_sessions.specs.declared.entry.Entry.{Entry}
 use Rattle.tally_sessions.specs.Hosts.{of_host}
 use Rattle.tally_usage.specs.declared.entry.ProcEntry.{ProcEntry}
-use Rattle.tally_cli.specs.declared.sources.Source.{Source}
-use Rattle.tally_cli.specs.declared.task.Outcome.{Outcome}
-use Rattle.tally_cli.specs.declared.task.Outcome.TheVariants as outcome
-use Rattle.tally_cli.specs.Deals.{work_of}
+use Rattle.tally_cli.specs.declared.running.source.Source.{Source}
+use Rattle.tally_cli.specs.declared.running.task.Outcome.{Outcome}
+use Rattle.tally_cli.specs.declared.running.task.Outcome.TheVariants as outcome
+use Rattle.tally_cli.specs.inside.Deals.{work_of}
 use Rattle.tally_cli.specs.Output.{login_entries, proc_entries}
-use Rattle.tally_cli.specs.Tasks.{IsDone, IsOutcome, asker_questions}
+use Rattle.tally_cli.specs.inside.Tasks.{IsDone, IsOutcome, asker_questions}
 use Rattle.tally_cli.proofs.Numbered.{of_file, of_no_file}
 
 abbrev login_of_parts : ℕ → LoginRecord → Entry

@@ -3,14 +3,13 @@ use Rattle.std.proofs.Common.{◌≡◌, ℕ, zero, suc, List, [], ◌∷◌, �
 use Rattle.std.specs.Prelude.{OnOk}
 use Rattle.tally_book.specs.declared.question.Question.{Question}
 use Rattle.tally_book.specs.Answers.{answer_of}
-use Rattle.tally_print.specs.AnswerText.{answer_text}
 use Rattle.tally_print.specs.Output.{AppendsPrefix}
 use Rattle.tally_records.specs.declared.batch.Kind.{Kind}
 use Rattle.tally_sessions.specs.declared.entry.Entry.{Entry}
 use Rattle.tally_usage.specs.declared.entry.ProcEntry.{ProcEntry}
 use Rattle.tally_cli.specs.declared.job.Job.{Job}
-use Rattle.tally_cli.specs.declared.sources.Source.{Source}
-use Rattle.tally_cli.specs.Output.{login_entries, proc_entries, questions_of, report_text, sections}
+use Rattle.tally_cli.specs.declared.running.source.Source.{Source}
+use Rattle.tally_cli.specs.Output.{form_text, login_entries, proc_entries, questions_of, report_text}
 use Rattle.tally_cli.specs.Runs.{Tell, Told, output_told, records_told}
 
 -- the kinds that the sources tell
@@ -25,7 +24,7 @@ pub report_same : (job : Job) (inputs : List Told) (kinds : List Kind) (logins :
     → ((q : Question) → answer_of q logins procs ≡ answer_of q (login_entries (map records_told inputs)) (proc_entries (map records_told inputs)))
     → report_text job kinds logins procs ≡ output_told job inputs
 report_same job inputs kinds logins procs kinds_is same =
-    (λ j. sections (map (λ q. answer_text (same q j) job.offset job.until) (questions_of job.report job.offset kinds job.until)))
+    (λ j. form_text job.form job.report job.offset job.until (map (λ q. same q j) (questions_of job.report job.offset kinds job.until)))
     ∙ ap (λ ks. report_text job ks (login_entries (map records_told inputs)) (proc_entries (map records_told inputs))) kinds_is
 
 -- a text that was written whole

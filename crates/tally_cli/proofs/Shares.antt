@@ -10,16 +10,16 @@ use Rattle.tally_desk.specs.Batches.{records_in}
 use Rattle.tally_desk.specs.Blocks.{good_blocks}
 use Rattle.tally_desk.specs.Feeds.{IsCut, good_batches, post_of}
 use Rattle.tally_desk.specs.Passes.{PassState, deeds}
-use Rattle.tally_desk.specs.Totals.{below}
+use Rattle.tally_desk.specs.inside.Totals.{below}
 use Rattle.tally_desk.specs.declared.fault.FeedFault.{FeedFault}
 use Rattle.tally_desk.specs.declared.fault.FeedFault.TheVariants as feed
 use Rattle.tally_records.specs.Records.{Records}
 use Rattle.tally_records.specs.declared.batch.Kind.{Kind}
-use Rattle.tally_cli.specs.declared.sources.Source.{Source}
-use Rattle.tally_cli.specs.declared.task.Outcome.{Outcome}
-use Rattle.tally_cli.specs.declared.task.Outcome.TheVariants as outcome
-use Rattle.tally_cli.specs.Deals.{work_of}
-use Rattle.tally_cli.specs.Tasks.{FailedToFeed, IsOutcome, asker_questions}
+use Rattle.tally_cli.specs.declared.running.source.Source.{Source}
+use Rattle.tally_cli.specs.declared.running.task.Outcome.{Outcome}
+use Rattle.tally_cli.specs.declared.running.task.Outcome.TheVariants as outcome
+use Rattle.tally_cli.specs.inside.Deals.{work_of}
+use Rattle.tally_cli.specs.inside.Tasks.{FailedToFeed, IsOutcome, asker_questions}
 use Rattle.tally_cli.proofs.Counting.{below_nothing, of_key}
 
 below_least : (f g : ℕ → ℕ) (n : ℕ) → ((h : ℕ) → h < n → f h ≤ g h) → below f n ≤ below g n

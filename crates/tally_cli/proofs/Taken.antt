@@ -7,9 +7,9 @@ use Rattle.std.proofs.lemmas.List.Elements.{All-nil, All-cons, All-push, All-wea
 use Rattle.std.specs.List.{Contains, flat_map, sum_by}
 use Rattle.std.specs.Prelude.{IfSome}
 use Rattle.tally_desk.specs.Passes.{PassState}
-use Rattle.tally_cli.specs.declared.gather.Failure.{Failure}
-use Rattle.tally_cli.specs.declared.task.Task.{Task}
-use Rattle.tally_cli.specs.Failures.{AreTaken, AtMost, IsLeast, IsOfOne, IsPassOfOne, failure_of}
+use Rattle.tally_cli.specs.declared.running.gather.Failure.{Failure}
+use Rattle.tally_cli.specs.declared.running.task.Task.{Task}
+use Rattle.tally_cli.specs.inside.Failures.{AreTaken, AtMost, IsLeast, IsOfOne, IsPassOfOne, failure_of}
 
 contains_push : {A : Type 0} (xs : List A) (y x : A) → Contains xs x → Contains (xs ++ y ∷ []) x
 contains_push xs y x h = (h.0, omega (arith, length-append xs (y ∷ []), h.1), get_or_append_left xs (y ∷ []) x h.0 h.1 ∙ h.2)

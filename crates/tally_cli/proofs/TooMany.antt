@@ -11,11 +11,11 @@ use Rattle.tally_book.specs.Deeds.{Ask as AskDeed, Deed, deed, deeds_of}
 use Rattle.tally_desk.specs.Feeds.{good_batches, post_of}
 use Rattle.tally_desk.specs.Passes.{PassState, deeds}
 use Rattle.tally_records.specs.Records.{Records}
-use Rattle.tally_cli.specs.declared.gather.Failure.{Failure}
-use Rattle.tally_cli.specs.declared.sources.Source.{Source}
-use Rattle.tally_cli.specs.Deals.{work_of}
+use Rattle.tally_cli.specs.declared.running.gather.Failure.{Failure}
+use Rattle.tally_cli.specs.declared.running.source.Source.{Source}
+use Rattle.tally_cli.specs.inside.Deals.{work_of}
 use Rattle.tally_cli.specs.Runs.{Tell, Told}
-use Rattle.tally_cli.specs.Tasks.{IsOutcome}
+use Rattle.tally_cli.specs.inside.Tasks.{IsOutcome}
 use Rattle.tally_cli.proofs.Counting.{of_key, shares}
 use Rattle.tally_cli.proofs.Shares.{all_below, asker_much, below_list, below_more, file_much}
 use Rattle.tally_cli.proofs.Ended.{Ended, did, no_calls, no_input, source_or_none, told_at}

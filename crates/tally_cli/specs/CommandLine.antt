@@ -1,11 +1,9 @@
 -- The command line of the program, as `clap` reads it.
-use Rattle.std.specs.Prelude.{◌≡◌, ◌∷◌, ℕ, [], Some, true, false, codes, pos}
+use Rattle.std.specs.Prelude.{◌∷◌, ℕ, [], Some, true, codes, pos}
 use Rattle.clap.specs.Lexer.{usize_max}
 use Rattle.clap.specs.Simple.{on_top}
-use Rattle.clap.specs.Words.{App, Rule, Text, app_of, new_app, new_rule, with_rule, with_subcommand}
+use Rattle.clap.specs.Words.{App, Rule, Text, new_app, new_rule, with_rule, with_subcommand}
 use Rattle.clap.specs.declared.builder.action.ArgAction.TheVariants.{SetTrue}
-use Rattle.clap.specs.declared.builder.command.Command.{Command}
-use Rattle.clap.specs.declared.builder.command.Command.TheViews.{out-Command}
 use Rattle.clap.specs.declared.builder.value_parser.ValueParser.{ValueParser}
 use Rattle.clap.specs.declared.builder.value_parser.ValueParser.TheVariants.{Signed}
 
@@ -33,6 +31,10 @@ limit_rule = record (new_rule (codes "limit")) {
   value_names = 1;
   parser = Some (between 1 1048576);
 }
+
+-- `--csv`
+abbrev pub csv_rule : Rule
+csv_rule = record (new_rule (codes "csv")) { long = Some (codes "csv"); action = Some SetTrue }
 
 -- threads that read files
 abbrev pub feeders_rule : Rule
@@ -72,38 +74,35 @@ with_common app = with_rule (with_rule (with_rule (with_rule app feeders_rule) e
 
 -- `last`
 abbrev pub last_app : App
-last_app = with_common (with_rule (with_rule (new_app (codes "last")) limit_rule) until_rule)
+last_app = with_common (with_rule (with_rule (with_rule (new_app (codes "last")) limit_rule) until_rule) csv_rule)
 
 -- `ac`
 abbrev pub connect_app : App
-connect_app = with_common (with_rule (with_rule (with_rule (new_app (codes "ac"))
+connect_app = with_common (with_rule (with_rule (with_rule (with_rule (new_app (codes "ac"))
     (flag_rule (codes "by_day") 100))
     (flag_rule (codes "by_user") 112))
     until_rule)
+    csv_rule)
 
 -- `sa`
 abbrev pub usage_app : App
-usage_app = with_common (with_rule (with_rule (with_rule (with_rule (new_app (codes "sa"))
+usage_app = with_common (with_rule (with_rule (with_rule (with_rule (with_rule (new_app (codes "sa"))
     (flag_rule (codes "keep_all") 97))
     (flag_rule (codes "by_user") 109))
     (flag_rule (codes "by_calls") 110))
     (flag_rule (codes "reverse") 114))
+    csv_rule)
 
 -- `all`
 abbrev pub all_app : App
 all_app = with_common (with_rule (with_rule (new_app (codes "all")) askers_rule) until_rule)
 
--- words without a program's name, of which one names a subcommand
+-- words without a program's name, of which one names a subcommand; `--version` is taken too
 abbrev pub top_app : App
-top_app = on_top (λ s. record s { no_binary_name = true; subcommand_required = true })
+top_app = on_top (λ s. record s { no_binary_name = true; subcommand_required = true; has_version = true })
     (new_app (codes "tally"))
 
 -- the whole command line
 unfoldable pub tally_app : App
 tally_app = with_subcommand (with_subcommand (with_subcommand (with_subcommand top_app
     last_app.top) connect_app.top) usage_app.top) all_app.top
-
--- `clap` reads the command as this one, and no argument of it is global
-pub record IsCommand (app : App) (command : Command) : Type 0 where
-  pub shape : app_of command ≡ app
-  pub local : (out-Command command).has_globals ≡ false

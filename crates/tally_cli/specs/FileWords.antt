@@ -4,11 +4,11 @@ use Rattle.std.specs.List.{All}
 use Rattle.clap.specs.Words.{Text}
 use Rattle.tally_records.specs.declared.batch.Kind.{Kind}
 use Rattle.tally_records.specs.declared.batch.Kind.TheVariants.{Login, Proc}
-use Rattle.tally_cli.specs.declared.files.FileArg.{FileArg}
+use Rattle.tally_cli.specs.declared.line.files.FileArg.{FileArg}
 use Rattle.tally_cli.specs.declared.job.Report.{Report}
 use Rattle.tally_cli.specs.declared.job.Report.TheVariants as report
 
--- the prefix that tells the kind of a file where all reports are asked for
+-- the prefix that names the kind of a file where all reports are asked for
 abbrev pub prefix_of : Kind → Text
 prefix_of Login = codes "w:"
 prefix_of Proc = codes "p:"

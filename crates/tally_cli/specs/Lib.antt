@@ -1,9 +1,7 @@
 pub mod CommandLine
-pub mod Deals
-pub mod Failures
 pub mod FileWords
 pub mod Jobs
 pub mod Lines
 pub mod Output
 pub mod Runs
-pub mod Tasks
+pub mod inside

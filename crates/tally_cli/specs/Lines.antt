@@ -1,11 +1,15 @@
 -- What a command line asks for.
-use Rattle.std.specs.Prelude.{◌≡◌, ◌≢◌, ◌⊎◌, ◌≤◌, ◌<◌, List, [], Option, Some, None, ⊤, codes, length}
+use Rattle.std.specs.Prelude.{◌≡◌, ◌⊎◌, ◌≤◌, ◌<◌, List, [], Option, Some, None, ⊤, codes, length}
 use Rattle.std.specs.Prelude.{option_map, unwrap_or}
-use Rattle.clap.specs.Words.{Row, Text, all_of, fault_of, subcommand_of}
+use Rattle.clap.specs.Words.{IsAmong, Row, Text, all_of, fault_of, one_of, subcommand_of}
+use Rattle.clap.specs.declared.error.kind.ErrorKind.{ErrorKind}
+use Rattle.clap.specs.declared.error.kind.ErrorKind.TheVariants as kind
 use Rattle.tally_cli.specs.CommandLine.{tally_app}
 use Rattle.tally_cli.specs.FileWords.{IsFirstBare, NamesFiles}
 use Rattle.tally_cli.specs.Jobs.{IsRunnable}
-use Rattle.tally_cli.specs.declared.files.FileArg.{FileArg}
+use Rattle.tally_cli.specs.declared.line.files.FileArg.{FileArg}
+use Rattle.tally_cli.specs.declared.job.Form.{Form}
+use Rattle.tally_cli.specs.declared.job.Form.TheVariants as form
 use Rattle.tally_cli.specs.declared.job.Job.{Job}
 use Rattle.tally_cli.specs.declared.job.Report.{Report}
 use Rattle.tally_cli.specs.declared.job.Report.TheVariants as report
@@ -31,6 +35,22 @@ abbrev pub file_words : Met → List Text
 file_words None = []
 file_words (Some found) = words_in found.1
 
+-- the matches of the subcommand
+abbrev pub rows_met : Met → List Row
+rows_met None = []
+rows_met (Some found) = found.1
+
+-- the form is CSV where the matches have the flag, and text where they have it not
+pub record IsFormOf (rows : List Row) (f : Form) : Type 0 where
+  pub csv : one_of (codes "csv") rows ≡ Some (codes "true") → f ≡ form.Csv
+  pub text : one_of (codes "csv") rows ≡ Some (codes "false") → f ≡ form.Text
+  pub none : one_of (codes "csv") rows ≡ None → f ≡ form.Text
+
+-- the form that a report's matches ask for; that of all is text
+abbrev pub AsksForm : Report → List Row → Form → Type 0
+AsksForm report.All rows f = f ≡ form.Text
+AsksForm r rows f = IsFormOf rows f
+
 -- the subcommand of a report
 abbrev pub name_of : Report → Text
 name_of (report.Last limit) = codes "last"
@@ -47,55 +67,46 @@ AsksFor r met = option_map (λ found. found.0) met ≡ Some (name_of r)
 pub record IsRunOf (met : Met) (job : Job) (files : List FileArg) : Type 0 where
   pub named : AsksFor job.report met
   pub runnable : IsRunnable job
+  pub form : AsksForm job.report (rows_met met) job.form
   pub few_askers : job.askers ≤ 64
   pub all_is_asked : (job.askers ≡ 0) ⊎ (job.report ≡ report.All)
   pub some_file : 0 < length files
   pub names_files : NamesFiles job.report (file_words met) files
 
--- the matches name no report, or no file
-abbrev pub IsIncomplete : Met → Type 0
-IsIncomplete met = ((r : Report) → ¬ AsksFor r met) ⊎ (file_words met ≡ [])
+-- `clap` answers with a text of its own: help, or the version
+abbrev pub IsShown : ErrorKind → Type 0
+IsShown k = (k ≡ kind.DisplayHelp) ⊎ (k ≡ kind.DisplayVersion)
 
--- the answer to matches
-abbrev pub IsLineOf : Met → Line → Type 0
-IsLineOf met (line.Run job files) = IsRunOf met job files.items
-IsLineOf met (line.Help text) = ⊥
+-- `clap` ends the words so
+abbrev pub EndSo : (ErrorKind → Type 0) → List Text → Type 0
+EndSo Is words = (k : ErrorKind) × IsAmong k (fault_of tally_app words) × Is k
 
--- why matches are refused
-abbrev pub IsFaultOf : Met → LineFault → Type 0
-IsFaultOf met fault.Memory = ⊤
-IsFaultOf met (fault.Usage text) = IsIncomplete met
-IsFaultOf met (fault.Prefix index) = AsksFor report.All met × IsFirstBare (file_words met) index
+-- the words ask for help or the version
+abbrev pub AskForHelp : List Text → Type 0
+AskForHelp words = EndSo IsShown words
 
--- why words name no files to a report
-abbrev pub IsFileFault : Report → List Text → LineFault → Type 0
-IsFileFault r words fault.Memory = ⊤
-IsFileFault r words (fault.Usage text) = ⊥
-IsFileFault r words (fault.Prefix index) = (r ≡ report.All) × IsFirstBare words index
+-- something is wrong with the words
+abbrev pub AreMistaken : List Text → Type 0
+AreMistaken words = EndSo (λ k. ¬ IsShown k) words
 
--- `clap` refuses the words, or answers them with help
-abbrev pub IsRefused : List Text → Type 0
-IsRefused words = fault_of tally_app words ≢ []
+-- nothing is wrong with the words, and they ask for no help
+abbrev pub AreAccepted : List Text → Type 0
+AreAccepted words = fault_of tally_app words ≡ []
 
 -- the answer to words
 abbrev pub Answers : List Text → Line → Type 0
-Answers words (line.Run job files) =
-    (fault_of tally_app words ≡ []) × IsRunOf (met_in words) job files.items
-Answers words (line.Help text) = IsRefused words
+Answers words (line.Run job files) = AreAccepted words × IsRunOf (met_in words) job files.items
+Answers words (line.Help text) = AskForHelp words
 
 -- why words are refused
 abbrev pub Refuses : List Text → LineFault → Type 0
 Refuses words fault.Memory = ⊤
-Refuses words (fault.Usage text) = IsRefused words ⊎ IsIncomplete (met_in words)
-Refuses words (fault.Prefix index) = AsksFor report.All (met_in words) × IsFirstBare (file_words (met_in words)) index
+Refuses words (fault.Usage text) = AreMistaken words
+Refuses words (fault.Prefix index) =
+    AreAccepted words × AsksFor report.All (met_in words) × IsFirstBare (file_words (met_in words)) index
 
--- an answer without a run
-abbrev pub IsHelp : Line → Type 0
-IsHelp (line.Run job files) = ⊥
-IsHelp (line.Help text) = ⊤
-
--- a fault of no file
-abbrev pub IsMemoryOrUsage : LineFault → Type 0
-IsMemoryOrUsage fault.Memory = ⊤
-IsMemoryOrUsage (fault.Usage text) = ⊤
-IsMemoryOrUsage (fault.Prefix index) = ⊥
+-- why there is no word at a place: memory, or `clap` does not accept the words
+abbrev pub HasNoWord : List Text → LineFault → Type 0
+HasNoWord words fault.Memory = ⊤
+HasNoWord words (fault.Usage text) = EndSo (λ k. ⊤) words
+HasNoWord words (fault.Prefix index) = ⊥

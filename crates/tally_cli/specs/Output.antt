@@ -4,7 +4,11 @@ use Rattle.std.specs.List.{enumerate_from, flat_map}
 use Rattle.tally_book.specs.declared.question.Question.{Question}
 use Rattle.tally_book.specs.declared.question.Question.TheVariants as questions
 use Rattle.tally_book.specs.Answers.{answer_of}
+use Rattle.tally_book.specs.declared.question.Answer.{Answer}
 use Rattle.tally_print.specs.AnswerText.{answer_text}
+use Rattle.tally_print.specs.ReportTable.{table_text}
+use Rattle.tally_print.specs.declared.report_table.Table.{Table}
+use Rattle.tally_print.specs.declared.report_table.Table.TheVariants as tables
 use Rattle.tally_records.specs.Records.{Records, logins_in, procs_in}
 use Rattle.tally_records.specs.declared.batch.Kind.{Kind}
 use Rattle.tally_records.specs.declared.batch.Kind.TheVariants.{Login, Proc}
@@ -13,6 +17,8 @@ use Rattle.tally_sessions.specs.declared.entry.Entry.{Entry}
 use Rattle.tally_usage.specs.Summary.{entries_of}
 use Rattle.tally_usage.specs.declared.entry.ProcEntry.{ProcEntry}
 use Rattle.tally_usage.specs.declared.order.Order.TheVariants as order
+use Rattle.tally_cli.specs.declared.job.Form.{Form}
+use Rattle.tally_cli.specs.declared.job.Form.TheVariants.{Text, Csv}
 use Rattle.tally_cli.specs.declared.job.Job.{Job}
 use Rattle.tally_cli.specs.declared.job.Report.{Report}
 use Rattle.tally_cli.specs.declared.job.Report.TheVariants.{Last, Connect, Commands, Users, All}
@@ -50,14 +56,33 @@ abbrev pub sections : List (List ℕ) → List ℕ
 sections [] = []
 sections (text ∷ texts) = text ++ flat_map (λ t. 10 ∷ t) texts
 
--- the text of the answer to a question
-abbrev pub section : ℤ → Option ℤ → List Entry → List ProcEntry → Question → List ℕ
-section offset until logins procs question = answer_text (answer_of question logins procs) offset until
+-- the table that a report is as CSV; a report of all is none
+abbrev pub table_of : Report → Option Table
+table_of (Last limit) = Some tables.Stays
+table_of (Connect by_day by_user) = Some (tables.Connect by_day by_user)
+table_of (Commands by reverse all) = Some tables.Commands
+table_of (Users by reverse) = Some tables.Users
+table_of All = None
 
--- the text of a job's report over login and process entries, of which each file of these kinds is a host
+-- the text of answers as that table
+abbrev pub csv_of : Option Table → ℤ → List Answer → List ℕ
+csv_of (Some table) offset answers = table_text table offset answers
+csv_of None offset answers = []
+
+-- the text of a report's answers in a form
+abbrev pub form_text : Form → Report → ℤ → Option ℤ → List Answer → List ℕ
+form_text Text report offset until answers = sections (map (λ a. answer_text a offset until) answers)
+form_text Csv report offset until answers = csv_of (table_of report) offset answers
+
+-- the answers to a report's questions over login and process entries, of which each file of these kinds is a host
+abbrev pub answers_of : Job → List Kind → List Entry → List ProcEntry → List Answer
+answers_of job kinds logins procs =
+    map (λ q. answer_of q logins procs) (questions_of job.report job.offset kinds job.until)
+
+-- the text of a job's report over these entries
 abbrev pub report_text : Job → List Kind → List Entry → List ProcEntry → List ℕ
 report_text job kinds logins procs =
-    sections (map (section job.offset job.until logins procs) (questions_of job.report job.offset kinds job.until))
+    form_text job.form job.report job.offset job.until (answers_of job kinds logins procs)
 
 -- the output of a job over files, each a kind and its records
 abbrev pub output : Job → List Kind → List Records → List ℕ

@@ -1,31 +1,22 @@
 -- What is known when a run ends.
-use Rattle.std.specs.Prelude.{◌≡◌, ◌⊎◌, ◌<◌, ◌≤◌, ℕ, Bool, List, Option, None, Some, ℤ, Result, Ok, Err, ⊤, length, map, min, slice_index_or, sum_by}
+use Rattle.std.specs.Prelude.{◌≡◌, ◌⊎◌, ◌+◌, ◌<◌, ◌≤◌, ℕ, List, Option, None, Some, Result, Ok, Err, ⊤, length, map, min, slice_index_or, sum_by, ◌-◌, ◌^◌}
 use Rattle.std.specs.List.{All}
-use Rattle.tally_book.specs.Contents.{Contents}
-use Rattle.tally_book.specs.Deeds.{SameOfEachHost}
-use Rattle.tally_book.specs.declared.fault.AskFault.TheVariants as ask
 use Rattle.tally_desk.specs.Batches.{records_in}
 use Rattle.tally_desk.specs.Blocks.{feed_fault}
 use Rattle.tally_desk.specs.Feeds.{good_batches}
-use Rattle.tally_desk.specs.Passes.{HasDone, PassState, Stands}
 use Rattle.tally_desk.specs.declared.fault.FeedFault.{FeedFault}
-use Rattle.tally_desk.specs.declared.fault.FeedFault.TheVariants as feed
 use Rattle.tally_print.specs.declared.output.PrintFault.{PrintFault}
-use Rattle.tally_print.specs.declared.output.PrintFault.TheVariants as print
 use Rattle.tally_records.specs.Records.{Records, logins_in, procs_in}
 use Rattle.tally_records.specs.declared.batch.Kind.{Kind}
-use Rattle.tally_cli.specs.Deals.{AreCarriedOut}
-use Rattle.tally_cli.specs.Failures.{IsLeast}
-use Rattle.tally_cli.specs.Output.{login_entries, output, proc_entries}
-use Rattle.tally_cli.specs.Tasks.{IsExplained}
+use Rattle.tally_records.specs.declared.batch.Kind.TheVariants.{Login, Proc}
+use Rattle.tally_cli.specs.Output.{output}
 use Rattle.tally_cli.specs.declared.fault.RunFault.{RunFault}
 use Rattle.tally_cli.specs.declared.fault.RunFault.TheVariants.{Memory, Callers, File, Asker, Write}
-use Rattle.tally_cli.specs.declared.gather.Cause.{Cause}
-use Rattle.tally_cli.specs.declared.gather.Cause.TheVariants as cause
-use Rattle.tally_cli.specs.declared.gather.Failure.{Failure}
 use Rattle.tally_cli.specs.declared.job.Job.{Job}
-use Rattle.tally_cli.specs.declared.sources.Source.{Source}
-use Rattle.tally_cli.specs.declared.task.Task.{Task}
+use Rattle.tally_cli.specs.declared.running.source.Source.{Source}
+use Rattle.tally_book.specs.declared.fault.AskFault.TheVariants as ask
+use Rattle.tally_desk.specs.declared.fault.FeedFault.TheVariants as feed
+use Rattle.tally_print.specs.declared.output.PrintFault.TheVariants as print
 
 -- an input that tells its bytes, and what kind of records they are
 pub record Told : Type 0 where
@@ -41,6 +32,10 @@ pub record TellsAt {I : Type 0} (to_come : I → Option (List ℕ)) (source : So
 abbrev pub Tell : {I : Type 0} → (I → Option (List ℕ)) → List (Source I) → List Told → Type 0
 Tell to_come sources inputs = (length inputs ≡ length sources)
     × ((k : ℕ) (s : Source _) (i : Told) → k < length sources → TellsAt to_come (slice_index_or sources k s) (slice_index_or inputs k i))
+
+-- an input's failures can be counted once more
+abbrev pub IsReadable : {I : Type 0} → (I → ℕ) → Source I → Type 0
+IsReadable failures source = failures source.input < 2 ^ 64 - 1
 
 -- the first fault of an input
 abbrev pub fault_of : Told → Option FeedFault
@@ -81,20 +76,7 @@ pub record IsFirstFault (inputs : List Told) (host : ℕ) (fault : FeedFault) : 
   pub earlier : (k : ℕ) (i : Told) → k < host → IsGood (slice_index_or inputs k i)
   pub own : (i : Told) → IsFileCause inputs (slice_index_or inputs host i) fault
 
--- the inputs have no fault, and the book has just their records, each under its number
-pub record AreRead (inputs : List Told) (b : Contents) : Type 0 where
-  pub good : All IsGood inputs
-  pub same : SameOfEachHost b.logins (login_entries (map records_told inputs)) b.procs (proc_entries (map records_told inputs))
-
--- what a fault of reading tells of the sources
-abbrev pub IsReadCause : List Told → RunFault → Type 0
-IsReadCause inputs Memory = ⊤
-IsReadCause inputs (Callers count) = ⊤
-IsReadCause inputs (File host fault) = IsFirstFault inputs host fault
-IsReadCause inputs (Asker caller fault) = All IsGood inputs
-IsReadCause inputs Write = ⊥
-
--- what a fault tells of the sources, where `unwritten` says that nothing was written
+-- what a fault shows of the sources, where `unwritten` says that nothing was written
 abbrev pub IsCause : List Told → Type 0 → RunFault → Type 0
 IsCause inputs unwritten Memory = unwritten ⊎ All IsGood inputs
 IsCause inputs unwritten (Callers count) = ⊤
@@ -110,44 +92,36 @@ Unwritten unwritten (File host fault) = unwritten
 Unwritten unwritten (Asker caller fault) = unwritten
 Unwritten unwritten Write = ⊤
 
--- a number of callers is refused where it is none or above 128, and told as far as 32 bits hold it
-abbrev pub IsOpenRefusal : ℕ → RunFault → Type 0
-IsOpenRefusal callers Memory = ⊤
-IsOpenRefusal callers (Callers count) = (count ≡ min callers 4294967295) × ((callers ≡ 0) ⊎ (128 < callers))
-IsOpenRefusal callers fault = ⊥
+-- so many callers are refused: there are none, or more than a desk has passes
+abbrev pub IsWrongNumber : ℕ → Type 0
+IsWrongNumber callers = (callers ≡ 0) ⊎ (128 < callers)
 
--- the fault of a run in which a caller failed for this cause
-abbrev pub fault_from_cause : ℕ → Cause → RunFault
-fault_from_cause caller (cause.Feed fault) = File caller fault
-fault_from_cause caller (cause.Ask fault) = Asker caller fault
+-- their fault names their number, as far as 32 bits hold it
+abbrev pub callers_fault : ℕ → RunFault
+callers_fault callers = Callers (min callers 4294967295)
 
--- what a caller's failure makes of a run
-abbrev pub run_fault : Failure → RunFault
-run_fault failure = fault_from_cause failure.caller failure.cause
+-- so many records are stored that a full batch has no room
+abbrev pub HasNoRoom : ℕ → Type 0
+HasNoRoom stored = (stored ≤ 1048576) × (1048576 < stored + 1024)
+
+-- a full list is that of the file's kind, and names how many records it has
+abbrev pub IsFullList : {I : Type 0} → List (Source I) → RunFault → Type 0
+IsFullList sources (File host (feed.LoginsFull stored)) = HasNoRoom stored × ((s : Source _) → (slice_index_or sources host s).kind ≡ Login)
+IsFullList sources (File host (feed.ProcsFull stored)) = HasNoRoom stored × ((s : Source _) → (slice_index_or sources host s).kind ≡ Proc)
+IsFullList sources fault = ⊤
 
 -- a number of callers is refused only where it is none or above 128, no file for the number of calls, and an asker for want of memory alone
 abbrev pub IsAllowed : ℕ → RunFault → Type 0
-IsAllowed callers (Callers count) = IsOpenRefusal callers (Callers count)
+IsAllowed callers (Callers count) = (Callers count ≡ callers_fault callers) × IsWrongNumber callers
 IsAllowed callers (Asker caller fault) = fault ≡ ask.Memory
 IsAllowed callers (File host feed.CallsFull) = ⊥
 IsAllowed callers fault = ⊤
 
--- a fault is one of so many files, or of an asker behind them among so many callers
+-- a fault is one of so many files, or of an asker after them among so many callers
 abbrev pub IsNamed : ℕ → ℕ → RunFault → Type 0
 IsNamed files callers (File host fault) = host < files
 IsNamed files callers (Asker caller fault) = (files ≤ caller) × (caller < callers)
 IsNamed files callers fault = ⊤
-
--- no source is at fault, and no asker
-abbrev pub IsPrintFault : RunFault → Type 0
-IsPrintFault Memory = ⊤
-IsPrintFault Write = ⊤
-IsPrintFault fault = ⊥
-
--- nothing failed in printing
-abbrev pub IsUnprinted : RunFault → Type 0
-IsUnprinted Write = ⊥
-IsUnprinted fault = ⊤
 
 -- the fault of a run whose printer gave this one
 abbrev pub fault_from : PrintFault → RunFault
@@ -159,12 +133,3 @@ abbrev pub failed_writes : Result (Unit {0}) RunFault → ℕ
 failed_writes (Ok done) = 0
 failed_writes (Err Write) = 1
 failed_writes (Err fault) = 0
-
--- all callers worked through their tasks, and this is the closed book
-pub record AreWorkedThrough {I : Type 0} (to_come : I → Option (List ℕ)) (can_fail : I → Bool) (until : Option ℤ) (sources : List (Source I)) (passes : List PassState) (book : Contents) (failure : Option Failure) : Type 0 where
-  pub tasks : List (Task I)
-  pub carried : AreCarriedOut to_come can_fail until sources passes tasks
-  pub explained : All (IsExplained tasks) tasks
-  pub least : IsLeast tasks failure
-  pub did : All (λ t. HasDone book t.pass) tasks
-  pub stand : All (λ t. Stands book t.pass) tasks

@@ -17,13 +17,13 @@ pub enum RunFault {
     #[error("out of memory")]
     Memory,
     /// There are no sources and askers, or more than 128.
-    #[error("{0} sources and askers, not 1 to 128")]
+    #[error("{0} callers, 1 to 128 are allowed")]
     Callers(u32),
     /// The source of this number, counted from 0, was not read to its end.
     #[error("file {host}: {fault}")]
     File { host: u32, fault: FeedFault },
     /// A report of the asker with this number was refused.
-    #[error("asker {caller}: {fault}")]
+    #[error("{fault}")]
     Asker { caller: u32, fault: AskFault },
     /// The output failed.
     #[error("write failed")]

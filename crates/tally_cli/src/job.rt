@@ -28,10 +28,20 @@ pub enum Report {
     All,
 }
 
+/// How a report is written.
+#[derive(Clone, Copy, Debug, PartialEq, Eq)]
+pub enum Form {
+    /// Lines for the eye, as last(1), ac(1) and sa(8) have them.
+    Text,
+    /// One table in CSV, which a report of all has not.
+    Csv,
+}
+
 /// A report and how it is made.
 #[derive(Clone, Copy, Debug, PartialEq, Eq)]
 pub struct Job {
     pub report: Report,
+    pub form: Form,
     /// How many threads read the files, 1 to 64.
     pub feeders: u32,
     /// How many threads ask reports meanwhile, up to 128. Their reports are not printed.

@@ -1,23 +1,31 @@
 //! A run: files are read by several threads into one book, and its reports are printed.
-ghost use Rattle.std.specs.Prelude.{◌≡◌, ◌+◌, ◌-◌, ◌^◌, ◌<◌, ◌≤◌, ◌++◌, IfErr, IfOk, IsTrue, List, OnOk, ℕ, true, length, map, slice_index_or};
+ghost use Rattle.std.specs.Prelude.{◌≡◌, ◌+◌, ◌-◌, ◌^◌, ◌<◌, ◌≤◌, ◌++◌, IfErr, IfOk, IsTrue, List, OnErr, OnOk, Err, ℕ, true, length, map, slice_index_or};
 ghost use Rattle.std.specs.List.{All};
 ghost use Rattle.tally_book.specs.Books.{IsLegal};
 ghost use Rattle.tally_desk.specs.Passes.{HasDone, Stands, first_passes};
 ghost use Rattle.tally_desk.specs.declared.fault.FeedFault.TheVariants as feed_fault_of;
 ghost use Rattle.tally_print.specs.Output.{AppendsPrefix};
-ghost use Rattle.tally_cli.specs.Deals.{IsReadable};
+ghost use Rattle.tally_cli.specs.Runs.{IsReadable, IsAllowed, IsCause, IsGood, IsFullList, IsNamed, IsWrongNumber, Tell, Told, Unwritten, callers_fault, failed_writes, output_told};
 ghost use Rattle.tally_cli.specs.Output.{report_text};
 ghost use Rattle.tally_cli.specs.Jobs.{IsRunnable};
-ghost use Rattle.tally_cli.specs.Runs.{AreRead, AreWorkedThrough, IsAllowed, IsCause, IsGood, IsNamed, IsOpenRefusal, IsPrintFault, IsReadCause, IsUnprinted};
-ghost use Rattle.tally_cli.specs.Runs.{Tell, Told, Unwritten, failed_writes, output_told, run_fault};
+ghost use Rattle.tally_cli.specs.inside.RunSteps.{AreRead, AreWorkedThrough, IsPrintFault, IsReadCause, IsUnprinted, run_fault};
 
-use crate::deal::{busy_feeders, deal_out};
+mod deal;
+mod forms;
+mod gather;
+mod sections;
+pub(crate) mod source;
+mod task;
+mod work;
+
 use crate::fault::RunFault;
-use crate::gather::{Cause, Failure, take_all};
 use crate::job::Job;
-use crate::sections::{answers_to, print_sections, questions_of};
-use crate::sources::Source;
-use crate::work::carry_out_lists;
+use crate::running::deal::{busy_feeders, deal_out};
+use crate::running::forms::print_answers;
+use crate::running::gather::{Cause, Failure, take_all};
+use crate::running::sections::{answers_to, questions_of};
+use crate::running::source::Source;
+use crate::running::work::carry_out_lists;
 use std::alloc::{AllocError, Global};
 use std::hash::RandomState;
 use std::sync::Wait;
@@ -26,6 +34,7 @@ use tally_book::{Book, entries_are_posts, host_order_is_enough};
 use tally_desk::{Desk, Gate, Input, OpenFault, Pass};
 use tally_print::Output;
 use tally_records::Kind;
+use tally_sessions::HOST_LIMIT;
 
 /// The closed book, where all passes are handed in.
 fn close_all(desk: Desk, passes: Vec<Pass>) -> Book
@@ -42,31 +51,36 @@ fn close_all(desk: Desk, passes: Vec<Pass>) -> Book
     }
 }
 
-/// The most sources and askers.
-const MOST_CALLERS: usize = 128;
-
-/// A desk with a caller for each source and each asker.
-fn open(
-    alloc: Global,
-    keys: RandomState,
-    sources: usize,
-    askers: u32,
-) -> Result<(Desk, Vec<Pass>), RunFault>
+/// How many callers there are, a source or an asker each, if a desk has passes for them.
+fn callers_of(sources: usize, askers: u32) -> Result<u32, RunFault>
     requires { askers ≤ 128 }
-    ensures opened { IfOk result (λ r. (r.0.callers ≡ sources + askers)
-        × (r.1.items ≡ first_passes r.0.id (sources + askers))) }
-    ensures few { OnOk result (sources + askers ≤ 128) }
+    ensures count { IfOk result (λ callers. callers ≡ sources + askers) }
     ensures some { OnOk result (0 < sources + askers) }
-    ensures refused { IfErr result (IsOpenRefusal (sources + askers)) }
+    ensures few { OnOk result (sources + askers ≤ 128) }
+    ensures fault { IfErr result (λ f. f ≡ callers_fault (sources + askers)) }
+    ensures wrong { OnErr result (IsWrongNumber (sources + askers)) }
 {
-    if sources > MOST_CALLERS {
-        let count = u32::try_from(sources).unwrap_or(u32::MAX);
-        return Err(RunFault::Callers(count.saturating_add(askers)));
+    let callers = match u32::try_from(sources) {
+        Ok(sources) => sources.saturating_add(askers),
+        Err(_) => u32::MAX,
+    };
+    if callers == 0 || callers > HOST_LIMIT {
+        return Err(RunFault::Callers(callers));
     }
-    match Desk::open(alloc, keys, sources as u32 + askers) {
+    Ok(callers)
+}
+
+/// A desk of so many callers.
+fn open(alloc: Global, keys: RandomState, callers: u32) -> Result<(Desk, Vec<Pass>), AllocError>
+    requires some { 0 < callers }
+    requires few { callers ≤ 128 }
+    ensures opened { IfOk result (λ r. (r.0.callers ≡ callers)
+        × (r.1.items ≡ first_passes r.0.id callers)) }
+{
+    match Desk::open(alloc, keys, callers) {
         Ok(opened) => Ok(opened),
-        Err(OpenFault::Memory) => Err(RunFault::Memory),
-        Err(OpenFault::Callers(count)) => Err(RunFault::Callers(count)),
+        Err(OpenFault::Memory) => Err(AllocError),
+        Err(OpenFault::Callers(_)) => unreachable!(),
     }
 }
 
@@ -121,24 +135,27 @@ fn feed_all<R: Threads + Wait + Sync, I: Input + Send, G: Gate + Sync>(
     alloc: Global,
     keys: RandomState,
     job: &Job,
+    callers: u32,
     sources: Vec<Source<I>>,
     gate: &G,
 ) -> Result<Book, RunFault>
     requires runnable { IsRunnable job.now }
+    requires callers { callers ≡ length sources.items + job.now.askers }
+    requires some { 0 < callers }
+    requires few { callers ≤ 128 }
     requires readable { All (IsReadable I.failures) sources.items }
     ensures whole { IfOk result (λ b. (inputs : List Told) → Tell I.to_come sources.items inputs → AreRead inputs b) }
-    ensures callers { IfOk result (λ b. b.callers ≡ length sources.items + job.now.askers) }
-    ensures few { OnOk result (length sources.items + job.now.askers ≤ 128) }
-    ensures some { OnOk result (0 < length sources.items + job.now.askers) }
+    ensures callers { IfOk result (λ b. b.callers ≡ callers) }
     ensures calls { IfOk result (λ b. length b.calls ≤ 4224) }
     ensures cause { IfErr result (λ f. (inputs : List Told) → Tell I.to_come sources.items inputs → IsReadCause inputs f) }
-    ensures allowed { IfErr result (IsAllowed (length sources.items + job.now.askers)) }
-    ensures named { IfErr result (IsNamed (length sources.items) (length sources.items + job.now.askers)) }
+    ensures allowed { IfErr result (IsAllowed callers) }
+    ensures named { IfErr result (IsNamed (length sources.items) callers) }
+    ensures full { IfErr result (IsFullList sources.items) }
     ensures unprinted { IfErr result IsUnprinted }
     ensures read { IfErr result (λ f. (host : ℕ) → f ≡ RunFault.File host feed_fault_of.Read
         → (s : Source _) → I.can_fail (slice_index_or sources.items host s).input ≡ true) }
 {
-    let (desk, passes) = open(alloc, keys, sources.len(), job.askers)?;
+    let (desk, passes) = open(alloc, keys, callers)?;
     let feeders = job.feeders as usize;
     entries_are_posts();
     let until = job.until;
@@ -180,7 +197,7 @@ fn report<O: Output>(
 {
     let questions = questions_of(alloc, job, kinds)?;
     let answers = answers_to(alloc, book, questions.as_slice())?;
-    print_sections(alloc, answers.as_slice(), job.offset, job.until, out)
+    print_answers(alloc, job, answers.as_slice(), out)
 }
 
 /// Sees that what was written arrives.
@@ -219,6 +236,8 @@ pub fn run<R: Threads + Wait + Sync, I: Input + Send, G: Gate + Sync, O: Output>
         ≡ O.written out.old ++ output_told job.now inputs) }
     ensures few { OnOk result (length sources.items + job.now.askers ≤ 128) }
     ensures some { OnOk result (0 < length sources.items + job.now.askers) }
+    ensures callers { IsWrongNumber (length sources.items + job.now.askers)
+        → result ≡ Err (callers_fault (length sources.items + job.now.askers)) }
     ensures prefix { (inputs : List Told) → Tell I.to_come sources.items inputs
         → IsTrue (O.tells out.old) → AppendsPrefix (O.written out.old) (O.written out.new)
         (output_told job.now inputs) }
@@ -228,13 +247,15 @@ pub fn run<R: Threads + Wait + Sync, I: Input + Send, G: Gate + Sync, O: Output>
         (IsTrue (O.tells out.old) → O.written out.new ≡ O.written out.old)) }
     ensures allowed { IfErr result (IsAllowed (length sources.items + job.now.askers)) }
     ensures named { IfErr result (IsNamed (length sources.items) (length sources.items + job.now.askers)) }
+    ensures full { IfErr result (IsFullList sources.items) }
     ensures read { IfErr result (λ f. (host : ℕ) → f ≡ RunFault.File host feed_fault_of.Read
         → (s : Source _) → I.can_fail (slice_index_or sources.items host s).input ≡ true) }
     ensures counts { O.failures out.new ≡ O.failures out.old + failed_writes result }
     ensures stays { O.tells out.new ≡ O.tells out.old }
 {
+    let callers = callers_of(sources.len(), job.askers)?;
     let kinds = kinds_of(alloc, sources.as_slice())?;
-    let book = feed_all(rt, alloc, keys, job, sources, gate)?;
+    let book = feed_all(rt, alloc, keys, job, callers, sources, gate)?;
     host_order_is_enough();
     report(alloc, job, kinds.as_slice(), book, out)?;
     finish(out)

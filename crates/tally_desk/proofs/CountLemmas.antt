@@ -11,7 +11,7 @@ use Rattle.tally_book.specs.declared.fault.PostFault.{PostFault}
 use Rattle.tally_book.specs.declared.fault.PostFault.TheVariants as post
 use Rattle.tally_records.specs.declared.batch.Kind.{Kind}
 use Rattle.tally_desk.specs.Feeds.{AreOf, Counts, IsAfter, IsFull, IsStopped, Posts, refusal_of}
-use Rattle.tally_desk.specs.Turns.{IsBatch}
+use Rattle.tally_desk.specs.inside.Turns.{IsBatch}
 use Rattle.tally_desk.specs.declared.fault.FeedFault.{FeedFault}
 use Rattle.tally_desk.specs.declared.fault.FeedFault.TheVariants.{Read, TooLong}
 use Rattle.tally_desk.specs.Passes.{PassState, deeds}
@@ -109,7 +109,7 @@ full_cut kind old mid new turn fault full few same place = record {
 pub full_none : (kind : Kind) (p : PassState) → FullPosts kind (Posts p p) 0
 full_none kind p = record { batches = []; posted = posts_none p p refl; count = refl; of_kind = All-nil (λ b. kind_of b ≡ kind); full = All-nil IsFull }
 
--- a refused post tells no place
+-- a refused post names no place
 pub unplaced : (kind : Kind) (count : ℕ) (refusal : PostFault) → IsAfter kind count (refusal_of refusal)
 unplaced kind count post.Memory = tt
 unplaced kind count (post.LoginsFull stored) = tt

@@ -5,12 +5,13 @@ use Rattle.std.proofs.lemmas.List.Sums.{sum_by-cons}
 use Rattle.std.specs.List.{All, range_with_len, sum_by}
 use Rattle.atomic_table.specs.Seated.{TableId}
 use Rattle.tally_book.specs.Contents.{Contents}
-use Rattle.tally_desk.specs.declared.view.Known.{Known}
-use Rattle.tally_desk.specs.Totals.{total}
-use Rattle.tally_desk.specs.Views.{AllFit, newcomer}
+use Rattle.tally_desk.specs.declared.lock.view.Known.{Known}
+use Rattle.tally_desk.specs.inside.Totals.{total}
+use Rattle.tally_desk.specs.Callers.{newcomer}
+use Rattle.tally_desk.specs.inside.Views.{AllFit}
 use Rattle.tally_desk.specs.Passes.{PassState, first_pass, known_of, Stands, HasDone}
 use Rattle.tally_desk.proofs.Done.{has_done}
-use Rattle.tally_desk.specs.Knowledge.{IsSound}
+use Rattle.tally_desk.specs.inside.Knowledge.{IsSound}
 use Rattle.tally_desk.proofs.Seats.{empty_legal}
 
 -- the first of the numbers that are left, and the others

@@ -17,10 +17,10 @@ use Rattle.tally_sessions.specs.Hosts.{posted_by}
 use Rattle.tally_usage.specs.declared.entry.ProcEntry.{ProcEntry}
 use Rattle.tally_usage.specs.Summary.{entries_of}
 use Rattle.tally_usage.specs.Totals.{records_of}
-use Rattle.tally_desk.specs.declared.view.Known.{Known}
-use Rattle.tally_desk.specs.Views.{Fits, Follows}
+use Rattle.tally_desk.specs.declared.lock.view.Known.{Known}
+use Rattle.tally_desk.specs.Callers.{Fits, Follows}
 use Rattle.tally_desk.specs.Passes.{PassState, known_of, HasDone, Stands}
-use Rattle.tally_desk.specs.Knowledge.{IsSound}
+use Rattle.tally_desk.specs.inside.Knowledge.{IsSound}
 use Rattle.tally_desk.proofs.Histories.{calls_of_own}
 
 -- what follows a list changes none of its parts

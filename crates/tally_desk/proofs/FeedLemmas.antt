@@ -13,7 +13,7 @@ use Rattle.tally_book.specs.declared.fault.PostFault.{PostFault}
 use Rattle.tally_book.specs.declared.fault.PostFault.TheVariants as post
 use Rattle.tally_desk.specs.Feeds.{AreOf, IsCut, IsFull, IsFullAt, IsRefused, IsWhole, Posts, Refuses, Stops, good_batches, refusal_of}
 use Rattle.tally_desk.specs.Passes.{PassState, deeds}
-use Rattle.tally_desk.specs.Turns.{IsBatch, Takes, TakesBlock, TurnStops}
+use Rattle.tally_desk.specs.inside.Turns.{IsBatch, Takes, TakesBlock, TurnStops}
 use Rattle.tally_desk.specs.declared.fault.FeedFault.{FeedFault}
 use Rattle.tally_desk.specs.declared.fault.FeedFault.TheVariants.{Memory, Read, Torn, TooLong, Bad, LoginsFull, ProcsFull, CallsFull}
 use Rattle.tally_desk.proofs.PostLemmas.{posts_more, posts_none, posts_same}

@@ -12,8 +12,8 @@ use Rattle.tally_book.specs.Books.{calls_of, caller_of, counts_of, counts_with, 
 use Rattle.tally_records.specs.Records.{Records, logins_in, procs_in}
 use Rattle.tally_sessions.specs.Hosts.{posted_by}
 use Rattle.tally_usage.specs.Summary.{entries_of}
-use Rattle.tally_desk.specs.Seats.{IsNext}
-use Rattle.tally_desk.specs.Views.{Follows}
+use Rattle.tally_desk.specs.inside.Seats.{IsNext}
+use Rattle.tally_desk.specs.Callers.{Follows}
 
 pub prefix_self : {A : Type 0} (xs : List A) → IsPrefix xs xs
 prefix_self xs = ([], append-nil xs)

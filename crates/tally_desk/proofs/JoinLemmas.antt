@@ -68,7 +68,7 @@ proc_pieces bytes = elim (cases_lt (length bytes) 65536) [
   | inr long ↦ split_long 64 1024 65536 bytes refl long refl (omega arith)
 ]
 
--- a block's records, and those behind it
+-- a block's records, and those after it
 logins_split : (kind : Kind) (rest : List ℕ) → logins_in (records_in kind rest)
     ≡ logins_in (records_in kind (take (block_size kind) rest)) ++ logins_in (records_in kind (drop (block_size kind) rest))
 unfolding records_in

@@ -10,14 +10,16 @@ use Rattle.atomic_table.proofs.Lists.{at_set, set_here, set_again, one_turn}
 use Rattle.tally_book.specs.declared.history.Call.{Call}
 use Rattle.tally_book.specs.Contents.{Contents}
 use Rattle.tally_book.specs.Books.{IsLegal, calls_of, caller_of}
-use Rattle.tally_desk.specs.declared.view.Known.{Known}
-use Rattle.tally_desk.specs.declared.view.Stage.TheVariants.{Idle, Waiting, Serving}
-use Rattle.tally_desk.specs.declared.view.View.{View}
-use Rattle.tally_desk.specs.Totals.{total, below}
-use Rattle.tally_desk.specs.Views.{view, Follows, Fits, AllFit, knowing, told_of, ticket_weight, number_weight, calls_made}
-use Rattle.tally_desk.specs.Rule.{Orderly, Knows, HasTurn, Placed}
-use Rattle.tally_desk.specs.Steps.{Sat, Draws, Looks, Counts, Leaves, Tells}
-use Rattle.tally_desk.specs.Seats.{idle, waiting, turn, IsNext}
+use Rattle.tally_desk.specs.declared.lock.view.Known.{Known}
+use Rattle.tally_desk.specs.declared.lock.view.Stage.TheVariants.{Idle, Waiting, Serving}
+use Rattle.tally_desk.specs.declared.lock.view.View.{View}
+use Rattle.tally_desk.specs.inside.Totals.{total, below}
+use Rattle.tally_desk.specs.Callers.{Follows, Fits}
+use Rattle.tally_desk.specs.inside.Views.{view, AllFit, knowing, told_of, ticket_weight, number_weight, calls_made}
+use Rattle.tally_desk.specs.inside.Rule.{Orderly, Knows, HasTurn, Placed}
+use Rattle.tally_desk.specs.inside.Steps.{Draws, Looks, Counts, Leaves, Tells}
+use Rattle.tally_desk.specs.Passes.{Sat}
+use Rattle.tally_desk.specs.inside.Seats.{idle, waiting, turn, IsNext}
 use Rattle.tally_desk.proofs.Totals.{total-set, below_more, only, only-same}
 use Rattle.tally_desk.proofs.Tickets.{no_turn, none_serves, still_placed, held_range, held_once, few_wait, alone, not_theirs}
 use Rattle.tally_desk.proofs.Histories.{follows_self, follows_trans, follows_next, calls_of_own, calls_of_other}

@@ -9,12 +9,15 @@ pub mod Histories
 pub mod JoinLemmas
 pub mod KeepLemmas
 pub mod Keeps
+pub mod Looks
 pub mod Passes
 pub mod Pieces
 pub mod PostLemmas
 pub mod ReadLemmas
 pub mod RefusalLemmas
 pub mod Seats
+pub mod TakeLemmas
 pub mod Tickets
 pub mod Totals
 pub mod TurnLemmas
+pub mod WorkedRows

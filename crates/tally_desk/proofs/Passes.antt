@@ -18,16 +18,16 @@ use Rattle.tally_book.specs.Refusals.{IsAskRefusal, IsPostRefusal}
 use Rattle.tally_records.specs.Records.{Records, logins_in, procs_in}
 use Rattle.tally_sessions.specs.Hosts.{posted_by}
 use Rattle.tally_usage.specs.Summary.{entries_of}
-use Rattle.tally_desk.specs.declared.view.Known.{Known}
-use Rattle.tally_desk.specs.Knowledge.{IsSound}
-use Rattle.tally_desk.specs.Passes.{PassState, pass_of, deeds, Grows, IsAnswered, IsCurrent, Stores}
-use Rattle.tally_desk.specs.Seats.{IsNext, idle}
-use Rattle.tally_desk.specs.Steps.{Sat}
-use Rattle.tally_desk.specs.Views.{Follows, Fits, knowing, told_of}
+use Rattle.tally_desk.specs.declared.lock.view.Known.{Known}
+use Rattle.tally_desk.specs.inside.Knowledge.{IsSound}
+use Rattle.tally_desk.specs.Passes.{PassState, pass_of, deeds, Grows, IsAnswered, IsCurrent, Stores, Sat}
+use Rattle.tally_desk.specs.inside.Seats.{IsNext, idle}
+use Rattle.tally_desk.specs.Callers.{Follows, Fits}
+use Rattle.tally_desk.specs.inside.Views.{knowing, told_of}
 use Rattle.tally_desk.proofs.Done.{done_more, done_same, done_post}
 use Rattle.tally_desk.proofs.Histories.{asked_next, calls_of_own, follows_next, follows_trans, posted_next}
 
--- what a post tells of the pass before and after it
+-- what a post shows of the pass before and after it
 pub record PostTells (batch : Records) (result : Result Receipt PostFault) (old new : PassState) : Type 0 where
   pub grows : Grows old new
   pub current : IsCurrent new
@@ -38,7 +38,7 @@ pub record PostTells (batch : Records) (result : Result Receipt PostFault) (old 
   pub cause : IfErr result (IsPostRefusal (counts_of new.seen) (length new.seen.calls) batch)
   pub did : MatchResult result (λ _. deeds new ≡ deeds old ++ Post (logins_in batch) (procs_in batch) ∷ []) (λ _. deeds new ≡ deeds old)
 
--- what a report tells of the pass before and after it
+-- what a report shows of the pass before and after it
 pub record AskTells (question : Question) (result : Result Served AskFault) (old new : PassState) : Type 0 where
   pub grows : Grows old new
   pub current : IsCurrent new

@@ -8,7 +8,7 @@ use Rattle.tally_records.specs.Records.{Records, Logins, Procs, kind_of, logins_
 use Rattle.tally_records.specs.declared.batch.Kind.{Kind}
 use Rattle.tally_records.specs.declared.batch.Kind.TheVariants.{Login, Proc}
 use Rattle.tally_desk.specs.Feeds.{IsFeedRefusal, IsFullFor, Refuses, refusal_of}
-use Rattle.tally_desk.specs.Turns.{IsBatch, IsReadFault}
+use Rattle.tally_desk.specs.inside.Turns.{IsBatch, IsReadFault}
 use Rattle.tally_desk.specs.declared.fault.FeedFault.{FeedFault}
 use Rattle.tally_desk.specs.declared.fault.FeedFault.TheVariants.{Memory, Read, Torn, TooLong, Bad, LoginsFull, ProcsFull, CallsFull}
 

@@ -7,14 +7,14 @@ use Rattle.atomic_table.proofs.Lists.{at_set, at_snoc, at_longer, set_else}
 use Rattle.std.proofs.lemmas.List.Elements.{All-nil}
 use Rattle.tally_book.specs.Contents.{Contents}
 use Rattle.tally_book.specs.Books.{IsLegal, empty}
-use Rattle.tally_desk.specs.declared.view.Known.{Known}
-use Rattle.tally_desk.specs.declared.view.Stage.TheVariants.{Idle}
-use Rattle.tally_desk.specs.declared.view.View.{View}
-use Rattle.tally_desk.specs.Totals.{total, below}
-use Rattle.tally_desk.specs.Views.{view, AllFit, newcomers, opening_view, dealt, kept, joined, spent, ticket_weight, number_weight, calls_made}
-use Rattle.tally_desk.specs.Rule.{Orderly, Knows}
-use Rattle.tally_desk.specs.Steps.{Sat}
-use Rattle.tally_desk.specs.Seats.{standing}
+use Rattle.tally_desk.specs.declared.lock.view.Known.{Known}
+use Rattle.tally_desk.specs.declared.lock.view.Stage.TheVariants.{Idle}
+use Rattle.tally_desk.specs.declared.lock.view.View.{View}
+use Rattle.tally_desk.specs.inside.Totals.{total, below}
+use Rattle.tally_desk.specs.inside.Views.{view, AllFit, newcomers, opening_view, dealt, kept, joined, spent, ticket_weight, number_weight, calls_made}
+use Rattle.tally_desk.specs.inside.Rule.{Orderly, Knows}
+use Rattle.tally_desk.specs.Passes.{Sat}
+use Rattle.tally_desk.specs.inside.Seats.{standing}
 use Rattle.tally_desk.proofs.Totals.{total-append, total-set, terms_le, below-one, total-one, total_alone}
 use Rattle.tally_desk.proofs.Histories.{follows_self}
 

@@ -7,11 +7,11 @@ use lib.ListN.{get_elem?}
 use Rattle.atomic_table.specs.Table.{State}
 use Rattle.atomic_table.proofs.Lists.{set_else}
 use Rattle.tally_book.specs.Contents.{Contents}
-use Rattle.tally_desk.specs.declared.view.Stage.{Stage}
-use Rattle.tally_desk.specs.declared.view.Stage.TheVariants.{Idle, Waiting, Serving}
-use Rattle.tally_desk.specs.declared.view.View.{View}
-use Rattle.tally_desk.specs.Views.{ticket_weight, number_weight}
-use Rattle.tally_desk.specs.Rule.{Orderly, HasTurn, Placed}
+use Rattle.tally_desk.specs.declared.lock.view.Stage.{Stage}
+use Rattle.tally_desk.specs.declared.lock.view.Stage.TheVariants.{Idle, Waiting, Serving}
+use Rattle.tally_desk.specs.declared.lock.view.View.{View}
+use Rattle.tally_desk.specs.inside.Views.{ticket_weight, number_weight}
+use Rattle.tally_desk.specs.inside.Rule.{Orderly, HasTurn, Placed}
 use Rattle.tally_desk.proofs.Totals.{term_le, terms_le, total_le, below-one, only, only-same, below-only}
 
 abbrev St : Type 0

@@ -13,7 +13,7 @@ use Rattle.tally_book.specs.declared.fault.PostFault.TheVariants as post
 use Rattle.tally_desk.specs.Batches.{AreJoined, record_size, records_in}
 use Rattle.tally_desk.specs.Blocks.{feed_fault, good_blocks}
 use Rattle.tally_desk.specs.Passes.{PassState, deeds}
-use Rattle.tally_desk.specs.Views.{Follows}
+use Rattle.tally_desk.specs.Callers.{Follows}
 use Rattle.tally_desk.specs.declared.fault.FeedFault.{FeedFault}
 use Rattle.tally_desk.specs.declared.fault.FeedFault.TheVariants.{Memory, Read, Torn, TooLong, Bad, LoginsFull, ProcsFull, CallsFull}
 use Rattle.tally_desk.specs.declared.feeding.Fed.{Fed}
@@ -91,7 +91,7 @@ Stops kind bytes posts seen (ProcsFull stored) = IsFullAt kind bytes posts seen 
 Stops kind bytes posts seen CallsFull = IsFullAt kind bytes posts seen post.CallsFull
 Stops kind bytes posts seen fault = IsRefused kind bytes posts fault
 
--- the fault is one of the block after the first `count`, where it tells its place
+-- the fault is one of the block after the first `count`, where it names its place
 abbrev pub IsAfter : Kind → ℕ → FeedFault → Type 0
 IsAfter kind count (Torn records rest) =
     (1024 * count ≤ records) × (records < 1024 * (count + 1)) × (0 < rest) × (rest < record_size kind)

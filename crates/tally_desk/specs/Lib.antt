@@ -1,14 +1,10 @@
 pub mod Batches
 pub mod Blocks
+pub mod Callers
 pub mod Feeds
-pub mod Knowledge
 pub mod Openings
 pub mod Passes
 pub mod Reading
 pub mod Rounds
-pub mod Rule
-pub mod Seats
-pub mod Steps
-pub mod Totals
-pub mod Turns
-pub mod Views
+pub mod Takings
+pub mod inside

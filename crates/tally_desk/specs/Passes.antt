@@ -2,6 +2,7 @@
 use Rattle.std.specs.Prelude.{◌≡◌, ℕ, ◌<◌, ◌≤◌, List, [], ◌∷◌, ◌++◌, length, map, take, slice_index_or}
 use Rattle.std.specs.List.{range_with_len}
 use Rattle.atomic_table.specs.Seated.{TableId}
+use Rattle.atomic_table.specs.Table.{Me}
 use Rattle.tally_book.specs.declared.history.Call.{Call}
 use Rattle.tally_book.specs.declared.history.Counts.{Counts}
 use Rattle.tally_book.specs.Contents.{Contents}
@@ -10,16 +11,16 @@ use Rattle.tally_book.specs.Deeds.{Deed, deed, deeds_of}
 use Rattle.tally_records.specs.Records.{Records, logins_in, procs_in}
 use Rattle.tally_sessions.specs.Hosts.{posted_by}
 use Rattle.tally_usage.specs.Summary.{entries_of}
-use Rattle.tally_desk.specs.declared.view.Known.{Known}
-use Rattle.tally_desk.specs.Views.{Follows, Fits, newcomer}
-use Rattle.tally_desk.specs.Steps.{Sat}
+use Rattle.tally_desk.specs.declared.lock.view.Known.{Known}
+use Rattle.tally_desk.specs.Callers.{Follows, Fits, newcomer}
+use Rattle.tally_desk.specs.declared.lock.view.View.{View}
 
 -- which desk it is, and how many callers it has
 pub record DeskState : Type 0 where
   pub id : TableId
   pub callers : ℕ
 
--- the desk that the pass is of, the caller's number, what it has seen of the book, its own calls, and the number of calls that it was told
+-- the desk that the pass is of, the caller's number, what it has seen of the book, its own calls, and the number of calls that it last learned
 pub record PassState : Type 0 where
   pub desk : TableId
   pub number : ℕ
@@ -30,6 +31,10 @@ pub record PassState : Type 0 where
 -- the pass of a caller
 abbrev pub pass_of : TableId → Known → PassState
 pass_of id k = record { desk = id; number = k.number; seen = k.seen; mine = k.mine; told = k.told }
+
+-- a seat: its view, and the slots that are out with it
+abbrev pub Sat : Type 0
+Sat = Me Contents View
 
 -- the pass of a seat
 abbrev pub seen_as : TableId → Sat → PassState
@@ -55,12 +60,12 @@ pub record Grows (old new : PassState) : Type 0 where
   pub legal : IsLegal new.seen
   pub told : old.told ≤ new.told
 
--- the pass was told of as many calls as it has seen, and its own are those of its number
+-- the pass has learned of as many calls as it has seen, and its own are those of its number
 pub record IsCurrent (p : PassState) : Type 0 where
   pub told : p.told ≡ length p.seen.calls
   pub own : calls_of p.number p.seen.calls ≡ p.mine
 
--- the call is the last of what is seen, its place in it is above all that was told, and it is one more of the caller's own
+-- the call is the last of what is seen, its place in it is above all that was learned, and it is one more of the caller's own
 pub record IsAnswered (old : PassState) (call : Call) (place : ℕ) (new : PassState) : Type 0 where
   pub last : (earlier : List Call) × (new.seen.calls ≡ earlier ++ call ∷ [])
   pub counted : place ≡ length new.seen.calls
@@ -73,7 +78,7 @@ pub record Stores (caller : ℕ) (before : Counts) (batch : Records) (seen : Con
   pub logins : seen.logins ≡ take before.logins seen.logins ++ posted_by caller (logins_in batch)
   pub procs : seen.procs ≡ take before.procs seen.procs ++ entries_of caller (procs_in batch)
 
--- only the number of calls that the pass was told is new
+-- only the number of calls that the pass has learned is new
 abbrev pub told_pass : ℕ → PassState → PassState
 told_pass calls p = record { desk = p.desk; number = p.number; seen = p.seen; mine = p.mine; told = calls }
 

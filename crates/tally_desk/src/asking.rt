@@ -40,7 +40,7 @@ fn ask_all<R: Wait, G: Gate>(
 }
 
 /// Asks all questions in order, this many times, up to the first that is refused, and answers how
-/// many were answered. The gate is told of each before it, with the number of those before. It
+/// many were answered. The gate comes before each, with the number of those before. It
 /// waits for the caller's turns.
 pub fn ask_rounds<R: Wait, G: Gate>(
     rt: &R,

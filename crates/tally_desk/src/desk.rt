@@ -8,12 +8,12 @@ ghost use Rattle.tally_book.specs.Books.{IsLegal, counts_of};
 ghost use Rattle.tally_book.specs.Deeds.{Ask, Post};
 ghost use Rattle.tally_book.specs.Refusals.{IsAskRefusal, IsPostRefusal};
 ghost use Rattle.tally_records.specs.Records.{logins_in, procs_in};
-ghost use Rattle.tally_desk.specs.declared.view.Known.{Known};
-ghost use Rattle.tally_desk.specs.Knowledge.{IsSound};
+ghost use Rattle.tally_desk.specs.declared.lock.view.Known.{Known};
+ghost use Rattle.tally_desk.specs.inside.Knowledge.{IsSound};
 ghost use Rattle.tally_desk.specs.Openings.{IsOpenFault};
 ghost use Rattle.tally_desk.specs.Passes.{Grows, HasDone, IsAnswered, IsCurrent, Stands, Stores, deeds, first_passes, known_of, pass_of, told_pass};
-ghost use Rattle.tally_desk.specs.Seats.{idle, standing};
-ghost use Rattle.tally_desk.specs.Views.{newcomers};
+ghost use Rattle.tally_desk.specs.inside.Seats.{idle, standing};
+ghost use Rattle.tally_desk.specs.inside.Views.{newcomers};
 
 use crate::lock::{Seat, TicketLock};
 use std::alloc::Global;
@@ -22,10 +22,8 @@ use std::marker::Model;
 use std::sync::Wait;
 use tally_book::{AskFault, Book, PostFault, Question, Receipt, Served};
 use tally_records::Batch;
+use tally_sessions::HOST_LIMIT;
 use thiserror::Error;
-
-/// The most callers of a desk.
-pub const MOST_CALLERS: u32 = 128;
 
 /// Why no desk was opened.
 #[derive(Debug, PartialEq, Eq, Drop, Error)]
@@ -33,7 +31,7 @@ pub enum OpenFault {
     #[error("out of memory")]
     Memory,
     /// It is not 1 to 128.
-    #[error("{0} callers, not 1 to 128")]
+    #[error("{0} callers, 1 to 128 are allowed")]
     Callers(u32),
 }
 
@@ -58,10 +56,10 @@ impl Model for Pass {
     ghost Value = { PassState };
 
     ghost use Rattle.std.specs.Prelude.{◌≡◌};
-    ghost use Rattle.tally_desk.specs.declared.view.Known.{Known};
+    ghost use Rattle.tally_desk.specs.declared.lock.view.Known.{Known};
     ghost use Rattle.tally_desk.specs.Passes.{seen_as};
-    ghost use Rattle.tally_desk.specs.Seats.{idle};
-    ghost use Rattle.tally_desk.specs.Knowledge.{IsSound};
+    ghost use Rattle.tally_desk.specs.inside.Seats.{idle};
+    ghost use Rattle.tally_desk.specs.inside.Knowledge.{IsSound};
 
     ghost view = { λ p. seen_as p.seat.table_id p.seat.me };
 
@@ -159,7 +157,7 @@ impl Desk {
         ensures given { OnOk result ((0 < callers) × (callers ≤ 128)) }
         ensures refused { IfErr result (IsOpenFault callers) }
     {
-        if callers == 0 || callers > MOST_CALLERS {
+        if callers == 0 || callers > HOST_LIMIT {
             return Err(OpenFault::Callers(callers));
         }
         let mut passes = Vec::with_capacity(alloc, callers as usize).map_err(

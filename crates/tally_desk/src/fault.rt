@@ -3,7 +3,7 @@ ghost use Rattle.std.specs.Prelude.{◌≡◌};
 ghost use Rattle.tally_desk.specs.Feeds.{refusal_of};
 ghost use Rattle.tally_desk.specs.declared.fault.FeedFault.TheVariants as fault;
 
-use crate::input::InputFault;
+use crate::feeding::input::InputFault;
 use std::alloc::AllocError;
 use tally_book::PostFault;
 use tally_records::{Memory, RecordFault};
@@ -24,7 +24,7 @@ pub enum FeedFault {
     #[error("more than 1048576 records")]
     TooLong,
     /// A record has no meaning; its number in the input counts from 0.
-    #[error("record {at}: {fault}")]
+    #[error("record {at} has {fault}")]
     Bad { at: u64, fault: RecordFault },
     /// The stored login records and those of the next block are more than a book holds.
     #[error("too many login records")]

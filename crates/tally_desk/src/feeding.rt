@@ -1,16 +1,22 @@
 //! An input that is fed to a desk, block by block.
-ghost use Rattle.std.specs.Prelude.{◌≡◌, ◌≢◌, ◌+◌, ◌-◌, ◌^◌, ◌<◌, ◌⊎◌, ◌≤◌, ◌*◌, ◌==◌, if◌then◌else◌, IfOk, OnOk, List, ℕ};
-ghost use Rattle.std.specs.Prelude.{IfErr, Some, length, true};
+ghost use Rattle.std.specs.Prelude.{◌≡◌, ◌≢◌, ◌+◌, ◌-◌, ◌^◌, ◌<◌, ◌⊎◌, ◌≤◌, ◌*◌, ◌==◌, if◌then◌else◌, IfOk, OnOk, List, ℕ, IfErr, Some, length, true};
 ghost use Rattle.std.specs.Io.KnownBytes.{IsAtEnd};
+ghost use Rattle.tally_desk.specs.Blocks.{block_size};
+ghost use Rattle.tally_desk.specs.Takings.{TakesAtMost};
 ghost use Rattle.tally_desk.specs.Feeds.{Counts, IsFeedRefusal, IsStopped, IsWhole, Keeps, Posts, Stops};
 ghost use Rattle.tally_desk.specs.declared.fault.FeedFault.TheVariants as fault;
 ghost use Rattle.tally_records.specs.Records.{Records};
 
-use crate::block::{block_size, next_batch};
+mod block;
+pub(crate) mod input;
+pub(crate) mod memory;
+pub(crate) mod reader;
+
 use crate::desk::{Desk, Pass};
 use crate::fault::FeedFault;
+use crate::feeding::block::{block_size, next_batch};
+use crate::feeding::input::Input;
 use crate::gate::Gate;
-use crate::input::Input;
 use std::alloc::Global;
 use std::sync::Wait;
 use tally_records::{BATCH_LIMIT, Kind};
@@ -43,6 +49,9 @@ fn fed_by(full: u32, records: usize) -> Fed
 fn expect_end<I: Input>(input: &mut I) -> Result<(), FeedFault>
     requires { I.failures input.old < 2 ^ 64 - 1 }
     ensures ok { OnOk result (IsAtEnd (I.to_come input.old)) }
+    ensures end { OnOk result (IsAtEnd (I.to_come input.new)) }
+    ensures few { TakesAtMost 1 (I.to_come input.old) (I.to_come input.new) }
+    ensures nature { I.can_fail input.new ≡ I.can_fail input.old }
     ensures err { IfErr result (λ f. (f ≡ fault.Read) ⊎ (f ≡ fault.TooLong)) }
     ensures long { IfErr result (λ f. f ≡ fault.TooLong → (bytes : List ℕ)
         → I.to_come input.old ≡ Some bytes → 0 < length bytes) }
@@ -60,7 +69,7 @@ fn expect_end<I: Input>(input: &mut I) -> Result<(), FeedFault>
 }
 
 /// Posts the input's blocks of 1,024 records in order, up to its end or to its first block that is
-/// refused. The gate is told of each post before it, with the number of those before. It waits
+/// refused. The gate comes before each post, with the number of those before. It waits
 /// for the caller's turns.
 pub fn feed<R: Wait, I: Input, G: Gate>(
     rt: &R,
@@ -73,6 +82,9 @@ pub fn feed<R: Wait, I: Input, G: Gate>(
 ) -> Result<Fed, FeedFault>
     requires desk { pass.old.desk ≡ desk.now.id }
     requires countable { I.failures input.old < 2 ^ 64 - 1 }
+    ensures few { TakesAtMost (1024 * block_size kind + 1) (I.to_come input.old) (I.to_come input.new) }
+    ensures end { OnOk result (IsAtEnd (I.to_come input.new)) }
+    ensures nature { I.can_fail input.new ≡ I.can_fail input.old }
     ensures keeps { Keeps pass.old pass.new }
     ensures counted { IfOk result (λ fed. (batches : List Records)
         × Posts pass.old pass.new batches × Counts kind batches fed) }

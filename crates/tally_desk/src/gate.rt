@@ -1,6 +1,6 @@
 //! What happens before each call.
 
-/// Is told of each call before it is made.
+/// Comes before each call is made.
 ///
 /// `turn` counts the calls of one feed or of one asker from 0.
 pub trait Gate {

@@ -1,35 +1,26 @@
 //! A book that several threads share, and the inputs and the questions that callers bring to it.
+//!
+//! `desk` has the shared book and its callers' passes, and `lock` the ticket lock that gives it to
+//! one caller at a time: `rule` of its table, and each caller's `view`. `feeding` takes an input to
+//! the desk by blocks: `input` is what gives bytes, `memory` and `reader` are such inputs, `block`
+//! reads one block of records. `asking` brings questions, and `gate` comes before each call.
 #![tactic(auto)]
 
 mod asking;
-mod block;
-mod bytes;
 mod desk;
 mod fault;
 mod feeding;
 mod gate;
-mod input;
 mod lock;
-mod reading;
-mod rule;
-mod view;
 
 pub use crate::asking::ask_rounds;
-pub use crate::bytes::Bytes;
 pub use crate::desk::{CloseFault, Desk, OpenFault, Pass};
 pub use crate::fault::FeedFault;
+pub use crate::feeding::input::{Input, InputFault};
+pub use crate::feeding::memory::Bytes;
+pub use crate::feeding::reader::Reading;
 pub use crate::feeding::{Fed, feed};
 pub use crate::gate::{Gate, OpenGate};
-pub use crate::input::{Input, InputFault};
-pub use crate::reading::Reading;
 
 #[cfg(test)]
-mod desk_tests;
-#[cfg(test)]
-mod fakes;
-#[cfg(test)]
-mod feed_tests;
-#[cfg(test)]
-mod round_tests;
-#[cfg(test)]
-mod thread_tests;
+mod tests;

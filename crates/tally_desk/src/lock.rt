@@ -1,16 +1,20 @@
 //! A ticket lock over a book, by the steps of a table.
-ghost use Rattle.std.specs.Prelude.{◌≡◌, ◌+◌, ◌%◌, ◌^◌, ◌<◌, ◌≤◌, [], ◌∷◌, ℕ, length, List, IfOk, MatchBool, MatchResult};
+ghost use Rattle.std.specs.Prelude.{◌≡◌, ◌==◌, ◌+◌, ◌%◌, ◌^◌, ◌<◌, ◌≤◌, [], ◌∷◌, ℕ, length, List, IfOk, MatchBool, MatchResult};
 ghost use Rattle.tally_book.specs.Answers.{HasDays, IsAskable};
 ghost use Rattle.tally_book.specs.Books.{IsLegal, IsReceipt, IsServed, asked, counts_of, posted};
 ghost use Rattle.tally_book.specs.Contents.{Contents};
 ghost use Rattle.tally_book.specs.Refusals.{IsAskRefusal, IsPostRefusal};
-ghost use Rattle.tally_desk.specs.declared.view.Known.{Known};
-ghost use Rattle.tally_desk.specs.Seats.{IsNext, idle, standing, turn, waiting};
-ghost use Rattle.tally_desk.specs.Totals.{total};
-ghost use Rattle.tally_desk.specs.Views.{AllFit, Fits, knowing, opening_view, told_of};
+ghost use Rattle.tally_desk.specs.declared.lock.view.Known.{Known};
+ghost use Rattle.tally_desk.specs.inside.Seats.{IsNext, idle, standing, turn, waiting};
+ghost use Rattle.tally_desk.specs.inside.Totals.{total};
+ghost use Rattle.tally_desk.specs.Callers.{Fits};
+ghost use Rattle.tally_desk.specs.inside.Views.{AllFit, knowing, opening_view, told_of};
 
-use crate::rule::{Count, Deal, Draw, Gather, Leave, Look, Order, Tell};
-use crate::view::View;
+mod rule;
+mod view;
+
+use crate::lock::rule::{Count, Deal, Draw, Gather, Leave, Look, Order, Tell};
+use crate::lock::view::View;
 use atomic_table::{Refused, Table};
 use std::alloc::Global;
 use std::hash::RandomState;
@@ -31,13 +35,21 @@ const TICKET: usize = 1;
 
 const SERVING: usize = 2;
 
-// How often a caller that waits looks for its turn before it sleeps, and for how many microseconds.
-const LOOKS: u32 = 100;
+// How often the next caller looks for its turn before it sleeps.
+const LOOKS: u32 = 1_000;
 
+// How many microseconds a caller sleeps for each turn before its own, and at most.
 const NAP: u64 = 20;
+
+const LONGEST_NAP: u64 = 1_000;
 
 // The slot of the book.
 const BOOK: usize = 0;
+
+/// How long a caller sleeps that has so many turns before its own.
+fn nap_before(turns: u64) -> Duration {
+    Duration::from_micros(turns.saturating_mul(NAP).min(LONGEST_NAP))
+}
 
 /// A book that one caller at a time has, in the order of their tickets.
 #[derive(Drop)]
@@ -109,31 +121,36 @@ impl TicketLock {
         self.table.shared.fetch_add::<Draw>(seat, TICKET, 1)
     }
 
-    /// Looks whether it is the turn of the ticket, and then takes the book.
-    fn is_turn(&self, seat: &mut Seat, ticket: u64) -> bool
+    /// Looks which ticket has its turn, and takes the book where it is this one.
+    fn look(&self, seat: &mut Seat, ticket: u64) -> u64
         requires table { seat.old.table_id ≡ self.now.table.shared.table_id }
         requires waits { (k : Known) × (drawn : ℕ) × (ticket ≡ drawn % 2 ^ 64) × (seat.old.me ≡ waiting k drawn) }
         ensures table { seat.new.table_id ≡ seat.old.table_id }
-        ensures turn { (k : Known) (drawn : ℕ) → ticket ≡ drawn % 2 ^ 64 → seat.old.me ≡ waiting k drawn → MatchBool result ((book : Contents) × (seat.new.me ≡ turn k drawn book book) × IsLegal book × Fits book k) (seat.new.me ≡ seat.old.me) }
+        ensures turn { (k : Known) (drawn : ℕ) → ticket ≡ drawn % 2 ^ 64 → seat.old.me ≡ waiting k drawn → MatchBool (result == ticket) ((book : Contents) × (seat.new.me ≡ turn k drawn book book) × IsLegal book × Fits book k) (seat.new.me ≡ seat.old.me) }
     {
-        self.table.shared.load::<Look>(seat, SERVING) == ticket
+        self.table.shared.load::<Look>(seat, SERVING)
     }
 
-    /// Looks for a short while whether it is the turn of the ticket, and then takes
-    /// the book.
-    fn turn_comes(&self, seat: &mut Seat, ticket: u64) -> bool
+    /// Looks how many turns are before that of the ticket, and for a short while looks on where it
+    /// is the next. Where there are none it takes the book.
+    fn turns_before(&self, seat: &mut Seat, ticket: u64) -> u64
         requires table { seat.old.table_id ≡ self.now.table.shared.table_id }
         requires waits { (k : Known) × (drawn : ℕ) × (ticket ≡ drawn % 2 ^ 64) × (seat.old.me ≡ waiting k drawn) }
         ensures table { seat.new.table_id ≡ seat.old.table_id }
-        ensures turn { (k : Known) (drawn : ℕ) → ticket ≡ drawn % 2 ^ 64 → seat.old.me ≡ waiting k drawn → MatchBool result ((book : Contents) × (seat.new.me ≡ turn k drawn book book) × IsLegal book × Fits book k) (seat.new.me ≡ seat.old.me) }
+        ensures turn { (k : Known) (drawn : ℕ) → ticket ≡ drawn % 2 ^ 64 → seat.old.me ≡ waiting k drawn → MatchBool (result == 0) ((book : Contents) × (seat.new.me ≡ turn k drawn book book) × IsLegal book × Fits book k) (seat.new.me ≡ seat.old.me) }
     {
         for _ in 0..LOOKS {
-            if self.is_turn(seat, ticket) {
-                return true;
+            let served = self.look(seat, ticket);
+            if served == ticket {
+                return 0;
+            }
+            let before = ticket.wrapping_sub(served);
+            if before > 1 {
+                return before;
             }
             hint::spin_loop();
         }
-        false
+        1
     }
 
     /// Waits until it is the seat's turn. The book is then out with it.
@@ -146,10 +163,11 @@ impl TicketLock {
         let ticket = self.draw(seat);
         let nap = Parker::new();
         for _ in rt.forever() {
-            if self.turn_comes(seat, ticket) {
+            let before = self.turns_before(seat, ticket);
+            if before == 0 {
                 return;
             }
-            nap.park_timeout(rt, Duration::from_micros(NAP));
+            nap.park_timeout(rt, nap_before(before));
         }
         unreachable!()
     }

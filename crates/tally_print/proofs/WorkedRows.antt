@@ -1,10 +1,13 @@
 -- Worked examples, computed by the definitions.
-use Rattle.std.proofs.Common.{◌≡◌, [], ◌∷◌, map, Some, None, refl}
+use Rattle.std.proofs.Common.{◌≡◌, [], ◌∷◌, ◌++◌, map, Some, None, refl, pos, negsuc}
 use Rattle.std.specs.Fmt.{digits}
 use Rattle.std.specs.Prelude.{codes}
 use Rattle.tally_print.specs.ConnectText.{connect_line}
 use Rattle.tally_print.specs.Text.{shown, shown_byte, left, right, hours, minutes, clock, span}
 use Rattle.tally_print.specs.UsageText.{columns}
+use Rattle.csv.specs.Writing.{escaped, fields_text, is_blank}
+use Rattle.tally_print.specs.StayTable.{zone}
+use Rattle.tally_print.specs.Tables.{csv_text}
 
 -- hours are rounded at half a hundredth
 rounded_hours : map hours (17 ∷ 18 ∷ 53 ∷ 54 ∷ 3600 ∷ []) ≡ codes "0.00" ∷ codes "0.01" ∷ codes "0.01" ∷ codes "0.02" ∷ codes "1.00" ∷ []
@@ -47,3 +50,13 @@ connect_lines = refl
 usage_columns : columns (record { count = 3; real = 720; cpu = 300; io = 1006; mem_cpu = 114000 }) ∷ columns (record { count = 0; real = 0; cpu = 0; io = 0; mem_cpu = 0 }) ∷ [] ≡ codes "       3         0.12re         0.05cp        335avio        380k" ∷ codes "       0         0.00re         0.00cp          0avio          0k" ∷ []
 unfolding columns digits
 usage_columns = refl
+
+-- offsets as moments of tables have them
+zones : map zone (pos 0 ∷ pos 60 ∷ negsuc 329 ∷ pos 1439 ∷ []) ≡ codes "+00:00" ∷ codes "+01:00" ∷ codes "-05:30" ∷ codes "+23:59" ∷ []
+unfolding zone
+zones = refl
+
+-- a comma and quotes are quoted, a quote twice; an empty field is empty
+quoted_row : csv_text ((codes "a,b" ∷ (34 ∷ []) ∷ [] ∷ codes "x y" ∷ []) ∷ []) ≡ 34 ∷ (codes "a,b" ++ 34 ∷ 44 ∷ 34 ∷ 34 ∷ 34 ∷ 34 ∷ 44 ∷ 44 ∷ (codes "x y" ++ 10 ∷ []))
+unfolding escaped fields_text is_blank
+quoted_row = refl

@@ -1,8 +1,15 @@
+pub mod AnswerText
 pub mod Civil
+pub mod ConnectTable
 pub mod ConnectText
 pub mod LastText
+pub mod Laws
 pub mod Output
+pub mod ReportTable
+pub mod StayTable
+pub mod Tables
 pub mod Text
+pub mod UsageTable
 pub mod UsageText
-pub mod AnswerText
 pub mod Writing
+pub mod inside

@@ -3,13 +3,20 @@
 
 mod answer;
 mod connect;
+mod connect_table;
 mod date;
+mod fields;
 mod kept;
 mod last;
+mod laws;
 mod output;
 mod put;
+mod report_table;
+mod stay_table;
+mod tables;
 mod text;
 mod usage;
+mod usage_table;
 mod writing;
 
 pub use answer::print_answer;
@@ -17,7 +24,10 @@ pub use connect::print_connect;
 pub use date::day_text_is_that_of_jiff;
 pub use kept::Kept;
 pub use last::print_last;
+pub use laws::moments_have_their_days;
 pub use output::{Output, OutputFault, PrintFault};
+pub use report_table::{Table, print_table};
+pub use tables::{a_table_reads_back, reports_read_back, seconds_read_back};
 pub use usage::{print_commands, print_users};
 pub use writing::Writing;
 

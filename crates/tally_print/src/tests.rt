@@ -9,6 +9,7 @@ use tally_sessions::{End, Stay};
 mod connect;
 mod last;
 mod outputs;
+mod tables;
 mod usage;
 
 /// Whether all of the text was printed. Where a growth was refused, a first part of it was.

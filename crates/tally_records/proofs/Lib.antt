@@ -1,7 +1,10 @@
+mod CompressedLemmas
 mod ElapsedLemmas
+mod PackedLemmas
 pub mod Texts
 pub mod Words
 pub mod Decoded
+pub mod Compact
 pub mod Members
 pub mod SortedLemmas
 pub mod WorkedRows

@@ -2,9 +2,10 @@ pub mod Compressed
 pub mod Decoding
 pub mod Elapsed
 pub mod Event
-pub mod Items
 pub mod LoginRecord
+pub mod PackedProc
 pub mod ProcRecord
 pub mod Records
 pub mod Sorted
 pub mod Text
+pub mod inside

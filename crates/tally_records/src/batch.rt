@@ -1,12 +1,14 @@
-ghost use Rattle.std.specs.Prelude.{◌≡◌, ◌≤◌, ◌<◌, ◌+◌, ◌/◌, MatchResult, OnOk, IfOk, IfErr, IfSome, All, Ok, Err, [], length, vec_len, vec_capacity};
+ghost use Rattle.std.specs.Prelude.{◌≡◌, ◌≤◌, ◌<◌, ◌+◌, ◌/◌, MatchOption, MatchResult, OnOk, IfOk, IfErr, IfSome, All, Ok, Err, [], length, vec_len, vec_capacity};
 ghost use Rattle.tally_records.specs.Decoding.{decoded};
-ghost use Rattle.tally_records.specs.LoginRecord.{login_result};
+ghost use Rattle.tally_records.specs.PackedProc.{unpacked};
 ghost use Rattle.tally_records.specs.ProcRecord.{IsBounded, proc_result};
 ghost use Rattle.tally_records.specs.Records.{NamesRecordBelow};
 
 use crate::fault::BatchFault;
-use crate::login::{LOGIN_SIZE, LoginRecord, read_login};
-use crate::process::{PROC_SIZE, ProcRecord, read_proc};
+use crate::login::logins::Logins;
+use crate::login::{LOGIN_SIZE, LoginRecord};
+use crate::process::packed::{PackedProc, pack};
+use crate::process::{PROC_SIZE, ProcRecord};
 use std::alloc::Global;
 use std::marker::Model;
 
@@ -24,8 +26,8 @@ pub enum Kind {
 
 #[derive(Drop)]
 enum Items {
-    Logins(Vec<LoginRecord>),
-    Procs(Vec<ProcRecord>),
+    Logins(Logins),
+    Procs(Vec<PackedProc>),
 }
 
 /// At most 1,024 records of one kind.
@@ -39,48 +41,26 @@ impl Model for Batch {
 
     ghost Value = { Records };
 
-    ghost use Rattle.tally_records.specs.Items.{records_of, IsSound};
+    ghost use Rattle.tally_records.specs.inside.Items.{records_of, IsSound};
 
     ghost view = { λ b. records_of b.items };
 
     ghost invariant = { λ b. IsSound b.items };
 }
 
-/// Reads all login records into a vector that has room for them.
-fn read_logins(
-    blocks: &[[u8; LOGIN_SIZE]],
-    records: &mut Vec<LoginRecord>,
-) -> Result<(), BatchFault>
+/// Reads all process records into a vector that has room for them, in one pass.
+fn pack_procs(blocks: &[[u8; PROC_SIZE]], records: &mut Vec<PackedProc>) -> Result<(), BatchFault>
     requires empty { records.old.items ≡ [] }
     requires room { length blocks.now ≤ vec_capacity records.old }
     ensures count { OnOk result (vec_len records.new ≡ length blocks.now) }
+    ensures bounded { OnOk result (All IsBounded (unpacked records.new.items)) }
     ensures exact { MatchResult result
-        (λ _. decoded login_result 0 blocks.now ≡ Ok records.new.items)
-        (λ fault. decoded login_result 0 blocks.now ≡ Err fault) }
-    ensures place { IfErr result (NamesRecordBelow (length blocks.now)) }
-{
-    for (index, block) in blocks.iter().enumerate() {
-        match read_login(block) {
-            Ok(record) => records.push_reserved(record),
-            Err(fault) => return Err(BatchFault::Bad { index, fault }),
-        }
-    }
-    Ok(())
-}
-
-/// Reads all process records into a vector that has room for them.
-fn read_procs(blocks: &[[u8; PROC_SIZE]], records: &mut Vec<ProcRecord>) -> Result<(), BatchFault>
-    requires empty { records.old.items ≡ [] }
-    requires room { length blocks.now ≤ vec_capacity records.old }
-    ensures count { OnOk result (vec_len records.new ≡ length blocks.now) }
-    ensures bounded { OnOk result (All IsBounded records.new.items) }
-    ensures exact { MatchResult result
-        (λ _. decoded proc_result 0 blocks.now ≡ Ok records.new.items)
+        (λ _. decoded proc_result 0 blocks.now ≡ Ok (unpacked records.new.items))
         (λ fault. decoded proc_result 0 blocks.now ≡ Err fault) }
     ensures place { IfErr result (NamesRecordBelow (length blocks.now)) }
 {
     for (index, block) in blocks.iter().enumerate() {
-        match read_proc(block) {
+        match pack(block) {
             Ok(record) => records.push_reserved(record),
             Err(fault) => return Err(BatchFault::Bad { index, fault }),
         }
@@ -89,7 +69,8 @@ fn read_procs(blocks: &[[u8; PROC_SIZE]], records: &mut Vec<ProcRecord>) -> Resu
 }
 
 impl Batch {
-    ghost use Rattle.tally_records.specs.Records.{Records, Logins, IsAnswer, logins_of, procs_of, IsLogins, IsProcs, record_count, procs_in, login_at, proc_at, kind_of};
+    ghost use Rattle.tally_records.specs.declared.batch.Kind.TheVariants.{Proc};
+    ghost use Rattle.tally_records.specs.Records.{Records, Logins as as_logins, IsAnswer, logins_of, procs_of, IsLogins, IsProcs, record_count, procs_in, login_at, proc_at, kind_of};
 
     /// The login records of these bytes, `LOGIN_SIZE` bytes each. An empty slice is an empty batch.
     pub fn logins(alloc: Global, bytes: &[u8]) -> Result<Batch, BatchFault>
@@ -104,13 +85,9 @@ impl Batch {
         if count > BATCH_LIMIT {
             return Err(BatchFault::TooMany(count));
         }
-        let Ok(mut records) = Vec::with_capacity(alloc, count) else {
-            return Err(BatchFault::Memory);
-        };
         let (blocks, _) = bytes.as_chunks::<LOGIN_SIZE>();
-        read_logins(blocks, &mut records)?;
         Ok(Batch {
-            items: Items::Logins(records),
+            items: Items::Logins(Logins::read(alloc, blocks)?),
         })
     }
 
@@ -131,7 +108,7 @@ impl Batch {
             return Err(BatchFault::Memory);
         };
         let (blocks, _) = bytes.as_chunks::<PROC_SIZE>();
-        read_procs(blocks, &mut records)?;
+        pack_procs(blocks, &mut records)?;
         Ok(Batch {
             items: Items::Procs(records),
         })
@@ -164,7 +141,17 @@ impl Batch {
         ensures { result ≡ login_at self.now index }
     {
         match &self.items {
-            Items::Logins(records) => records.get(index).copied(),
+            Items::Logins(records) => records.get(index),
+            Items::Procs(_) => None,
+        }
+    }
+
+    /// Its login records, where it is a batch of these.
+    pub fn login_records(&self) -> Option<&Logins>
+        ensures { MatchOption result (kind_of self.now ≡ Proc) (λ records. self.now ≡ as_logins records.now) }
+    {
+        match &self.items {
+            Items::Logins(records) => Some(records),
             Items::Procs(_) => None,
         }
     }
@@ -176,7 +163,17 @@ impl Batch {
     {
         match &self.items {
             Items::Logins(_) => None,
-            Items::Procs(records) => records.get(index).copied(),
+            Items::Procs(records) => Some(records.get(index)?.record()),
+        }
+    }
+
+    /// All its process records, as it keeps them.
+    pub fn packed_procs(&self) -> &[PackedProc]
+        ensures { unpacked result.now ≡ procs_in self.now }
+    {
+        match &self.items {
+            Items::Logins(_) => &[],
+            Items::Procs(records) => records.as_slice(),
         }
     }
 }

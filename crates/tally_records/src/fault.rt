@@ -25,11 +25,11 @@ pub enum RecordFault {
     #[error("login type {0}")]
     LoginType(i16),
     /// The version of a process record, `ac_version` of acct(5), is neither 2 nor 3.
-    #[error("accounting version {0}")]
+    #[error("version {0}")]
     ProcVersion(u8),
 }
 
-/// Why bytes are no batch. The first of these that applies is told, in this order but with
+/// Why bytes are no batch. The first of these that applies is named, in this order but with
 /// `Memory` before `Bad`.
 #[derive(Debug, PartialEq, Eq, Drop, Error)]
 pub enum BatchFault {
@@ -43,6 +43,6 @@ pub enum BatchFault {
     #[error("{0} records are too many")]
     TooMany(usize),
     /// The first bad record, counted from 0.
-    #[error("record {index}: {fault}")]
+    #[error("record {index} has {fault}")]
     Bad { index: usize, fault: RecordFault },
 }

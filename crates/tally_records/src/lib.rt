@@ -1,11 +1,16 @@
 //! Login records of utmp(5) and process records of acct(5): decoders, events, batches, and lists of plain values.
+//!
+//! `login` has the login record and its events: `logins` keeps many without the zeros after their
+//! texts, as a `head` and its `words` each, `decode` reads them, `events` and `key` look at the words
+//! alone. `process` has the process record: `packed` reads it and keeps its numbers as they are in a
+//! file, `compressed` and `elapsed` work them out. A `batch` is of one kind, a `field` a text, a
+//! `list` is shared by its copies, and `guesses` are of places in tables.
 #![tactic(auto)]
 
 mod batch;
-mod compressed;
-mod elapsed;
 mod fault;
 mod field;
+mod guesses;
 mod laws;
 mod list;
 mod login;
@@ -13,12 +18,16 @@ mod process;
 mod telling;
 
 pub use crate::batch::{BATCH_LIMIT, Batch, Kind};
-pub use crate::compressed::comp;
 pub use crate::fault::{BatchFault, Memory, RecordFault};
 pub use crate::field::{Comm, Name, Remote, whole_words};
+pub use crate::guesses::Guesses;
 pub use crate::laws::{ordered_items_are_all, ordered_items_ascend};
 pub use crate::list::List;
+pub use crate::login::key::Key;
+pub use crate::login::logins::{LOGINS_LIMIT, Logins};
 pub use crate::login::{Event, LOGIN_SIZE, LoginRecord, read_login};
+pub use crate::process::compressed::comp;
+pub use crate::process::packed::PackedProc;
 pub use crate::process::{PROC_SIZE, ProcRecord, read_proc};
 pub use crate::telling::event;
 

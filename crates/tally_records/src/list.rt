@@ -3,19 +3,39 @@ ghost use Rattle.std.specs.Prelude.{◌≡◌, ◌++◌, ◌∷◌, [], length, 
 use crate::fault::Memory;
 use std::alloc::Global;
 use std::marker::Model;
+use std::sync::Arc;
+
+/// Where the values of a list are: in a vector of its own, which grows, or in one that all copies
+/// of the list hold, which nobody changes.
+#[derive(Drop)]
+enum Values<T: Copy> {
+    Own(Vec<T>),
+    Shared(Arc<Vec<T>, Global>),
+}
 
 /// A list of plain values.
 #[derive(Drop)]
 pub struct List<T: Copy> {
-    items: Vec<T>,
+    alloc: Global,
+    values: Values<T>,
 }
 
 impl<T: Copy> Model for List<T> {
     ghost use Rattle.std.specs.Prelude.{List as Items};
+    ghost use Rattle.tally_records.specs.inside.Values.{values_in};
 
     ghost Value = { Items T };
 
-    ghost view = { λ l. l.items.items };
+    ghost view = { λ l. values_in l.values };
+}
+
+/// The values and one more, in a vector of their own.
+fn with_one_more<T: Copy>(alloc: Global, values: &[T], value: T) -> Result<Vec<T>, Memory>
+    ensures { IfOk result (λ all. all.items ≡ values.now ++ value ∷ []) }
+{
+    let mut all = Vec::from_slice(alloc, values)?;
+    all.push(value)?;
+    Ok(all)
 }
 
 impl<T: Copy> List<T> {
@@ -24,15 +44,19 @@ impl<T: Copy> List<T> {
         ensures { result ≡ [] }
     {
         List {
-            items: Vec::new(alloc),
+            alloc,
+            values: Values::Own(Vec::new(alloc)),
         }
     }
 
-    /// The list of a vector's values, which takes no memory.
-    pub fn from_vec(items: Vec<T>) -> List<T>
-        ensures { result ≡ items.items }
+    /// The list of a vector's values, which its copies share. It errs where memory runs out.
+    pub fn from_vec(alloc: Global, items: Vec<T>) -> Result<List<T>, Memory>
+        ensures { IfOk result (λ list. list ≡ items.items) }
     {
-        List { items }
+        Ok(List {
+            alloc,
+            values: Values::Shared(Arc::new(alloc, items)?),
+        })
     }
 
     /// Adds a value at the end.
@@ -40,7 +64,12 @@ impl<T: Copy> List<T> {
         ensures stored { OnOk result (self.new ≡ self.old ++ value ∷ []) }
         ensures refused { OnErr result (self.new ≡ self.old) }
     {
-        self.items.push(value)?;
+        if let Values::Own(own) = &mut self.values {
+            own.push(value)?;
+            return Ok(());
+        }
+        let all = with_one_more(self.alloc, self.as_slice(), value)?;
+        self.values = Values::Own(all);
         Ok(())
     }
 
@@ -48,29 +77,34 @@ impl<T: Copy> List<T> {
     pub fn len(&self) -> usize
         ensures { result ≡ length self.now }
     {
-        self.items.len()
+        self.as_slice().len()
     }
 
     /// The value at a place, counted from 0.
     pub fn get(&self, index: usize) -> Option<T>
         ensures { result ≡ slice_get self.now index }
     {
-        self.items.get(index).copied()
+        self.as_slice().get(index).copied()
     }
 
     /// All values.
     pub fn as_slice(&self) -> &[T]
         ensures { result.now ≡ self.now }
     {
-        self.items.as_slice()
+        match &self.values {
+            Values::Own(own) => own.as_slice(),
+            Values::Shared(shared) => shared.as_slice(),
+        }
     }
 
-    /// A list of the same values.
+    /// A list of the same values, which it shares where it can.
     pub fn try_copy(&self, alloc: Global) -> Result<List<T>, Memory>
         ensures { IfOk result (λ copy. copy ≡ self.now) }
     {
-        Ok(List {
-            items: Vec::from_slice(alloc, self.items.as_slice())?,
-        })
+        let values = match &self.values {
+            Values::Own(own) => Values::Own(Vec::from_slice(alloc, own.as_slice())?),
+            Values::Shared(shared) => Values::Shared(Arc::try_clone(shared)?),
+        };
+        Ok(List { alloc, values })
     }
 }

@@ -1,6 +1,13 @@
-ghost use Rattle.std.specs.Prelude.{◌≡◌, ◌≤◌, ◌+◌};
-ghost use Rattle.tally_records.specs.LoginRecord.{login_result, login_type};
+ghost use Rattle.std.specs.Prelude.{◌≡◌, ◌≤◌, ◌+◌, MatchResult, OnOk, Ok, Err};
+ghost use Rattle.tally_records.specs.LoginRecord.{login_fields, login_result, login_type};
 ghost use Rattle.tally_records.specs.Text.{i32_at};
+
+mod decode;
+mod events;
+mod head;
+pub(crate) mod key;
+pub(crate) mod logins;
+mod words;
 
 use crate::fault::RecordFault;
 use crate::field::{Name, Remote, text};
@@ -21,7 +28,7 @@ pub struct LoginRecord {
     pub time: i32,
 }
 
-/// What a login record tells.
+/// What a login record means.
 #[derive(Clone, Copy, Debug, PartialEq, Eq)]
 pub enum Event {
     /// A user logs in on a line.
@@ -54,16 +61,27 @@ fn time_at(bytes: &[u8; LOGIN_SIZE], offset: usize) -> i32
     LittleEndian::read_i32(field)
 }
 
-/// Reads a login record by the layout of utmp(5).
-pub fn read_login(bytes: &[u8; LOGIN_SIZE]) -> Result<LoginRecord, RecordFault>
-    ensures { result ≡ login_result bytes.now }
+/// The kind of a record, or why the bytes are none.
+fn kind_of(bytes: &[u8; LOGIN_SIZE]) -> Result<u8, RecordFault>
+    ensures exact { MatchResult result
+        (λ _. login_result bytes.now ≡ Ok (login_fields bytes.now))
+        (λ fault. login_result bytes.now ≡ Err fault) }
+    ensures kind { OnOk result (result ≡ Ok (login_fields bytes.now).kind) }
 {
     let kind = type_of(bytes);
     if kind < 0 || kind > 9 {
         return Err(RecordFault::LoginType(kind));
     }
+    Ok(kind as u8)
+}
+
+/// Reads a login record by the layout of utmp(5).
+pub fn read_login(bytes: &[u8; LOGIN_SIZE]) -> Result<LoginRecord, RecordFault>
+    ensures { result ≡ login_result bytes.now }
+{
+    let kind = kind_of(bytes)?;
     Ok(LoginRecord {
-        kind: kind as u8,
+        kind,
         line: text(&bytes[8..40]),
         user: text(&bytes[44..76]),
         remote: text(&bytes[76..332]),

@@ -1,7 +1,7 @@
 //! Worked records, and each public function once.
 use crate::{
-    Batch, BatchFault, Event, Kind, List, LoginRecord, RecordFault, comp, event, read_login,
-    read_proc,
+    Batch, BatchFault, Event, Key, Kind, List, LoginRecord, Logins, RecordFault, comp, event,
+    read_login, read_proc,
 };
 use std::alloc::Global;
 use std::test::Fail;
@@ -154,6 +154,54 @@ fn a_batch_names_its_first_bad_record(rt: HostRuntime) -> Result<(), Fail> {
     Ok(())
 }
 
+/// Records whose texts are short, full, end inside a word and at one, and have bytes after their NUL.
+fn three_records() -> [[u8; 384]; 3] {
+    let mut short = login_record(7, "tty1", "ann\0x", 5);
+    put(&mut short, 76, b"10.0.0.1");
+    let mut full = login_record(8, "", "", -1);
+    put(&mut full, 8, &[255; 32]);
+    put(&mut full, 44, &[1, 128, 255, 0, 7]);
+    put(&mut full, 76, &[128; 256]);
+    let mut words = login_record(1, "~", "shutdown", 7);
+    put(&mut words, 76, b"0123456789abcdef\0\0\0\0\0\0\0\0z");
+    [short, full, words]
+}
+
+#[test]
+fn a_batch_shows_records_as_they_are_read(rt: HostRuntime) -> Result<(), Fail> {
+    let blocks = three_records();
+    let batch = Batch::logins(rt.alloc(), blocks.as_flattened())?;
+    for index in 0..3usize {
+        assert_eq!(rt; batch.login_at(index), Some(read_login(&blocks[index])?));
+    }
+    assert_eq!(rt; batch.login_at(3), None);
+    Ok(())
+}
+
+#[test]
+fn an_appended_list_follows_and_a_truncated_one_is_its_front(rt: HostRuntime) -> Result<(), Fail> {
+    let blocks = three_records();
+    let more = Logins::read(rt.alloc(), &blocks)?;
+    let mut logins = Logins::new(rt.alloc());
+    logins.append(&more)?;
+    logins.truncate(2);
+    if logins.len() <= 3 {
+        logins.append(&more)?;
+    }
+    assert_eq!(rt; logins.len(), 5);
+    let down = read_login(&blocks[2])?;
+    assert_eq!(rt; logins.get(4), Some(down));
+    assert_eq!(rt;
+        (logins.time(4), logins.event(4)),
+        (Some(7), Some(Event::Down))
+    );
+    assert_eq!(rt; logins.user(4), Some(down.user));
+    assert!(rt; logins.line_key(2) == Some(Key::of(&read_login(&blocks[0])?.line)));
+    assert!(rt; logins.user_key(2) != logins.user_key(4));
+    assert_eq!(rt; logins.get(5), None);
+    Ok(())
+}
+
 /// How many records so many zeros hold, or why they are no batch.
 fn zeros_read(alloc: Global, count: usize) -> Result<Result<usize, BatchFault>, Fail> {
     let zeros = vec![in alloc; 0u8; count]?;
@@ -190,7 +238,10 @@ fn a_list_keeps_its_values_in_order(rt: HostRuntime) -> Result<(), Fail> {
     let copy = list.try_copy(rt.alloc())?;
     assert_eq!(rt; copy.as_slice(), [5, 7].as_slice());
     assert_eq!(rt; (copy.len(), copy.get(1), copy.get(2)), (2, Some(7), None));
-    let vector = List::from_vec(vec![in rt.alloc(); 1, 2]?);
-    assert_eq!(rt; vector.as_slice(), [1, 2].as_slice());
+    let mut vector = List::from_vec(rt.alloc(), vec![in rt.alloc(); 1, 2]?)?;
+    let shared = vector.try_copy(rt.alloc())?;
+    vector.push(3)?;
+    assert_eq!(rt; vector.as_slice(), [1, 2, 3].as_slice());
+    assert_eq!(rt; shared.as_slice(), [1, 2].as_slice());
     Ok(())
 }

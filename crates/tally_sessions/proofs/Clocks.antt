@@ -6,7 +6,7 @@ use Rattle.tally_records.specs.declared.login.LoginRecord.{LoginRecord}
 use Rattle.tally_records.specs.declared.login.Event.{Event}
 use Rattle.tally_records.specs.declared.login.Event.TheVariants.{Login, Logout, Boot, Down, OldTime, NewTime, Nothing}
 use Rattle.tally_records.specs.Event.{event_of}
-use Rattle.tally_sessions.specs.Tracking.{pending_at}
+use Rattle.tally_sessions.specs.inside.Tracking.{pending_at}
 use Rattle.tally_sessions.specs.Clock.{is_clock_event, old_time_at, pending_old_time}
 
 abbrev latest : List LoginRecord → Option ℤ

@@ -13,17 +13,18 @@ use Rattle.tally_sessions.specs.declared.entry.Entry.{Entry}
 use Rattle.tally_sessions.specs.declared.sums.Session.{Session}
 use Rattle.tally_sessions.specs.declared.times.DayTime.{DayTime}
 use Rattle.tally_sessions.specs.Days.{days_between, IsDay, seconds_on}
-use Rattle.tally_sessions.specs.Rows.{above_zero, day_time_of, day_times, days_of}
-use Rattle.tally_sessions.specs.Sums.{seconds_of_day, sessions_of, sum_at}
+use Rattle.tally_sessions.specs.inside.Sums.{above_zero, day_time_of, sum_at}
+use Rattle.tally_sessions.specs.Rows.{day_times, days_of}
+use Rattle.tally_sessions.specs.Sums.{seconds_of_day, sessions_of}
 use Rattle.tally_sessions.proofs.DayWalk.{day_among, day_with_time}
 use Rattle.tally_sessions.proofs.RowLemmas.{rows_are, each_row}
 
 -- days that tie are one
-same_day : (a b : ℤ) → int_cmp a b ≡ Equal → a ≡ b
+pub same_day : (a b : ℤ) → int_cmp a b ≡ Equal → a ≡ b
 same_day a b e = (Decides-int_eq a b).0 (ap is_eq e)
 
 -- a day with connect time is one of a session's
-day_counted : (offset day : ℤ) (ss : List Session) → 0 < seconds_of_day offset day ss → Member day (days_of offset ss)
+pub day_counted : (offset day : ℤ) (ss : List Session) → 0 < seconds_of_day offset day ss → Member day (days_of offset ss)
 day_counted offset day [] lt = absurd (omega (arith, lt))
 day_counted offset day (s ∷ ss) lt = by (cases_eq (seconds_on offset day s.begin s.end_time) 0) (day_counted offset day ss)
   where

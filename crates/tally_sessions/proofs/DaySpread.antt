@@ -9,7 +9,7 @@ use Rattle.std.specs.Ordering.{is_eq}
 use Rattle.std.specs.Prelude.{unsigned_abs}
 use Rattle.tally_sessions.specs.declared.day_user_rows.DayUser.{DayUser}
 use Rattle.tally_sessions.specs.Days.{IsDay}
-use Rattle.tally_sessions.specs.Sums.{day_user_cmp}
+use Rattle.tally_sessions.specs.inside.Sums.{day_user_cmp}
 use Rattle.tally_sessions.proofs.DaysLemmas.{reach}
 use Rattle.tally_sessions.proofs.DayUsers.{day_user_total, same_day_user}
 

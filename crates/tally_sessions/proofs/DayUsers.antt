@@ -1,11 +1,9 @@
 -- Users on days: their order, their sums and their rows.
-use Rattle.std.proofs.Common.{◌≡◌, ℕ, ◌+◌, ◌<◌, ◌≢◌, ◌⊎◌, inl, inr, Bool, true, false, cond, List, [], ◌∷◌, ℤ, pos, map, filter, length, take, get_or, All, refl, sym, ap, subst, ◌∙◌, arith}
+use Rattle.std.proofs.Common.{◌≡◌, ℕ, ◌+◌, ◌<◌, ◌≢◌, ◌⊎◌, inl, inr, Bool, true, false, cond, List, [], ◌∷◌, ℤ, pos, map, filter, All, refl, sym, ap, subst, ◌∙◌, arith}
 use Rattle.std.proofs.lemmas.Bool.{cases_eq}
 use Rattle.std.proofs.lemmas.Bool.Decides.{Decides-int_eq}
 use Rattle.std.proofs.lemmas.Cmp.{int_cmp_total, nat_list_cmp_total, on_total, then_total}
-use Rattle.std.proofs.lemmas.List.{take_more}
-use Rattle.std.proofs.lemmas.List.Elements.{filter-append}
-use Rattle.std.proofs.lemmas.List.Sums.{sum_by-append, sum_by-cons}
+use Rattle.std.proofs.lemmas.List.Sums.{sum_by-cons}
 use Rattle.std.proofs.lemmas.Map.Text.{is_eq-slice_cmp}
 use Rattle.std.proofs.lemmas.Slice.Eq.{bytes_eq-Decides}
 use Rattle.std.specs.Cmp.{IsTotalOrder}
@@ -13,20 +11,20 @@ use Rattle.std.specs.Cmp.Lexicographic.{slice_cmp}
 use Rattle.std.specs.List.Sorted.{IsStrictlySortedBy}
 use Rattle.std.specs.Map.{keys_of}
 use Rattle.std.specs.Ordering.{int_cmp, is_eq, nat_cmp, ordering_then}
-use Rattle.std.specs.Prelude.{bytes_eq, sum_by}
+use Rattle.std.specs.Prelude.{bytes_eq}
 use Rattle.std.specs.declared.cmp.Ordering.{Ordering}
 use Rattle.std.specs.declared.cmp.Ordering.TheVariants.{Less, Equal, Greater}
 use Rattle.tally_records.proofs.Members.{Member, Member-append_left, Member-append_right, Member-map}
 use Rattle.tally_sessions.specs.declared.day_user_rows.DayUser.{DayUser}
 use Rattle.tally_sessions.specs.declared.sums.Session.{Session}
 use Rattle.tally_sessions.specs.declared.times.DayUserTime.{DayUserTime}
-use Rattle.tally_sessions.specs.Changes.{session_rows}
+use Rattle.tally_sessions.specs.inside.Changes.{session_rows}
 use Rattle.tally_sessions.specs.Days.{days_between, IsDay, seconds_on}
-use Rattle.tally_sessions.specs.Rows.{above_zero, day_user_time_of, day_users_of}
-use Rattle.tally_sessions.specs.Sums.{day_user_cmp, seconds_of_day, seconds_of_day_user, sum_at}
+use Rattle.tally_sessions.specs.inside.Sums.{above_zero, day_user_time_of, day_user_cmp, sum_at}
+use Rattle.tally_sessions.specs.Rows.{day_users_of}
+use Rattle.tally_sessions.specs.Sums.{seconds_of_day, seconds_of_day_user}
 use Rattle.tally_sessions.proofs.DayWalk.{day_among, day_with_time}
 use Rattle.tally_sessions.proofs.RowLemmas.{rows_are, each_row}
-use Rattle.tally_sessions.proofs.SumLemmas.{no_session}
 
 both_equal : (r s : Ordering) (n : ℤ) → cond (is_eq (ordering_then r s)) n (pos 0) ≡ cond (is_eq r) (cond (is_eq s) n (pos 0)) (pos 0)
 both_equal Less s n = refl
@@ -53,24 +51,8 @@ same_day_user a b e =
     by Equal s h = (refl, h)
     by Greater s h = cc
 
-one_session : (b : Bool) (offset day : ℤ) (s : Session) → seconds_of_day offset day (cond b (s ∷ []) []) ≡ cond b (seconds_on offset day s.begin s.end_time) 0
-one_session true offset day s = omega arith
-one_session false offset day s = refl
-
--- the sum of a user on a day, with the session at i
-pub seconds_of_day_user-step : (old new : ℕ) (offset day : ℤ) (user : List ℕ) (ss : List Session) (i : ℕ) → i < length ss
-    → new ≡ old + cond (bytes_eq (get_or ss i no_session).user user) (seconds_on offset day (get_or ss i no_session).begin (get_or ss i no_session).end_time) 0
-    → old ≡ seconds_of_day_user offset day user (take i ss) → new ≡ seconds_of_day_user offset day user (take (i + 1) ss)
-seconds_of_day_user-step old new offset day user ss i lt is so_far =
-    let s : Session = get_or ss i no_session in
-    let f : Session → ℕ = λ x. seconds_on offset day x.begin x.end_time in
-    let p : Session → Bool = λ x. bytes_eq x.user user in
-    is ∙ ap (λ n. n + cond (p s) (f s) 0) so_far
-    ∙ sym (ap (λ xs. sum_by f (filter p xs)) (take_more ss i no_session lt) ∙ ap (sum_by f) (filter-append p (take i ss) (s ∷ [])) ∙ sum_by-append f (filter p (take i ss)) (cond (p s) (s ∷ []) [])
-    ∙ ap (λ n. seconds_of_day_user offset day user (take i ss) + n) (one_session (p s) offset day s))
-
 -- a user with connect time on a day has a session on it
-day_user_counted : (offset : ℤ) (k : DayUser) (ss : List Session) → 0 < seconds_of_day_user offset k.day k.user ss → Member k (day_users_of offset ss)
+pub day_user_counted : (offset : ℤ) (k : DayUser) (ss : List Session) → 0 < seconds_of_day_user offset k.day k.user ss → Member k (day_users_of offset ss)
 day_user_counted offset k [] lt = absurd (omega (arith, lt))
 day_user_counted offset k (s ∷ ss) lt = by_user (bytes_eq s.user k.user) refl lt (day_user_counted offset k ss)
   where

@@ -1,4 +1,4 @@
--- The sums of ended sessions, behind one stay that is ended.
+-- The sums of ended sessions, after one stay that is ended.
 use Rattle.std.proofs.Common.{◌≡◌, ◌≢◌, ◌⊎◌, inl, inr, ℕ, ◌+◌, ◌*◌, ◌<◌, ◌≤◌, Bool, true, false, cond, List, [], ◌∷◌, ◌++◌, length, get_or, set, Option, Some, None, IsSome, unwrap_or, ℤ, length-append, refl, sym, ap, subst, ◌∙◌, arith}
 use Rattle.std.proofs.lemmas.Bool.{cases_eq, false≢true}
 use Rattle.std.proofs.lemmas.List.{append-nil, get_or_default, get_or-set_same, get_or-set_other, length-set}
@@ -14,9 +14,9 @@ use Rattle.tally_sessions.specs.declared.entry.Entry.{Entry}
 use Rattle.tally_sessions.specs.declared.ended.EndedSums.{EndedSums}
 use Rattle.tally_sessions.specs.declared.ending.Ending.{Ending}
 use Rattle.tally_sessions.specs.declared.ending.TrackedStay.{TrackedStay}
-use Rattle.tally_sessions.specs.Hosts.{entry_at}
-use Rattle.tally_sessions.specs.Stays.{is_login_event, starts_stay}
-use Rattle.tally_sessions.specs.Track.{no_stay, stay_at, start_of, counts, ended_length, ended_sum, sum_of, started, HasSums, IsEntered, LengthFits}
+use Rattle.tally_sessions.specs.inside.Entries.{entry_at}
+use Rattle.tally_sessions.specs.inside.Track.{is_login_event, no_stay, stay_at, start_of, counts, ended_length, ended_sum, sum_of, started, HasSums, IsEntered, LengthFits}
+use Rattle.tally_sessions.specs.Stays.{starts_stay}
 use Rattle.tally_sessions.proofs.Places.{each-push}
 
 -- one stay is replaced by its next state

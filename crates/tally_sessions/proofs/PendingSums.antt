@@ -18,9 +18,9 @@ use Rattle.tally_sessions.specs.declared.entry.Entry.{Entry}
 use Rattle.tally_sessions.specs.declared.entry.Stay.{Stay}
 use Rattle.tally_sessions.specs.declared.ending.Ending.{Ending}
 use Rattle.tally_sessions.specs.declared.ending.TrackedStay.{TrackedStay}
-use Rattle.tally_sessions.specs.Stays.{clamped, is_boot_event, is_login_event, seconds_between, starts_stay}
-use Rattle.tally_sessions.specs.Totals.{counted, seconds_of}
-use Rattle.tally_sessions.specs.Track.{no_stay, stay_at, start_of, still_of, ending_now, stay_now, counts, ended_length, ended_sum, pending_length, pending_sum, AreTracked, LengthFits}
+use Rattle.tally_sessions.specs.Stays.{clamped, is_boot_event, seconds_between, starts_stay}
+use Rattle.tally_sessions.specs.inside.Track.{is_login_event, no_stay, stay_at, start_of, still_of, ending_now, stay_now, counts, ended_length, ended_sum, pending_length, pending_sum, AreTracked, LengthFits}
+use Rattle.tally_sessions.specs.inside.Totals.{counted, seconds_of}
 use Rattle.tally_sessions.proofs.EndedSteps.{is_login_of_event}
 use Rattle.tally_sessions.proofs.Lengths.{seconds_fit}
 use Rattle.tally_sessions.proofs.LineSums.{sum_same, table_sum}

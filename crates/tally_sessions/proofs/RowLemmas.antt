@@ -14,8 +14,7 @@ use Rattle.std.specs.declared.cmp.Ordering.TheVariants.{Less, Equal}
 use Rattle.tally_records.specs.Sorted.{in_order}
 use Rattle.tally_records.proofs.Members.{Member, Member-from_Contains, Member-map, Member-from_map, Member-filter, Member-from_filter}
 use Rattle.tally_records.proofs.SortedLemmas.{is_in_order}
-use Rattle.tally_sessions.specs.Rows.{above_zero}
-use Rattle.tally_sessions.specs.Sums.{sum_at}
+use Rattle.tally_sessions.specs.inside.Sums.{above_zero, sum_at}
 
 module _ {K Row : Type 0} {cmp : K → K → Ordering} (o : IsTotalOrder cmp) (exact : (x y : K) → cmp x y ≡ Equal → x ≡ y) (row : K → ℕ → Row) (key : Row → K) (seconds : Row → ℕ)
     (row-key : (k : K) (n : ℕ) → key (row k n) ≡ k) (row-seconds : (k : K) (n : ℕ) → seconds (row k n) ≡ n) where

@@ -9,10 +9,12 @@ use Rattle.tally_sessions.specs.declared.ending.TrackedStay.{TrackedStay}
 use Rattle.tally_sessions.specs.declared.track.Track.{Track}
 use Rattle.tally_sessions.specs.Hosts.{of_host}
 use Rattle.tally_sessions.specs.Stays.{last_time}
+use Rattle.tally_sessions.specs.inside.Totals.{seconds_of}
 use Rattle.tally_sessions.specs.Totals.{stays_of}
-use Rattle.tally_sessions.specs.Track.{stay_now, tracked_in, IsTrack}
-use Rattle.tally_sessions.specs.Tracking.{clock, completed, tracked_from}
+use Rattle.tally_sessions.specs.inside.Track.{ended_sum, pending_sum, stay_now, tracked_in, IsTrack}
+use Rattle.tally_sessions.specs.inside.Tracking.{clock, completed, tracked_from}
 use Rattle.tally_sessions.proofs.Forward.{stays_from-tracked}
+use Rattle.tally_sessions.proofs.PendingSums.{ended_and_pending, seconds_now}
 use Rattle.tally_sessions.proofs.StayCounts.{length-stays_from}
 
 stay_now-completed : (host : ℕ) (es : List Entry) (now time : ℤ) (t : TrackedStay) → stay_now host es now time t ≡ completed host now time (tracked_in host es t)
@@ -37,6 +39,14 @@ stays_now host es a until h =
     ∙ ap (λ (z : ℤ). map (completed host z (unwrap_or until a.last)) (tracked_from host [] (of_host host es))) (h.clock ∙ ap clock all)
     ∙ ap (λ (z : ℤ). map (completed host (clock (of_host host es)) (unwrap_or until z)) (tracked_from host [] (of_host host es))) (h.last ∙ ap (last_time (pos 0)) all)
     ∙ sym (stays_from-tracked host [] (of_host host es) until (pos 0))
+
+-- the sessions are those that have ended and those that are pending
+pub seconds_are : (who : Option (List ℕ)) (host : ℕ) (es : List Entry) (a : Track) (until : Option ℤ) → IsTrack host es (length es) a
+    → ended_sum who es a.stays.items + pending_sum who es a.clock (unwrap_or until a.last) a.stays.items ≡ seconds_of who (stays_of host es until)
+seconds_are who host es a until h =
+    ended_and_pending who es a.clock (unwrap_or until a.last) a.stays.items
+    ∙ sym (seconds_now who es a.clock (unwrap_or until a.last) host a.stays.items (λ k lt. (h.tracked.at k lt).starts))
+    ∙ ap (seconds_of who) (stays_now host es a until h)
 
 pub count_now : (host : ℕ) (es : List Entry) (a : Track) → IsTrack host es (length es) a → length a.stays.items ≤ length (of_host host es)
 count_now host es a h =

@@ -1,10 +1,10 @@
--- A table of sums, behind a key that it did not have.
+-- A table of sums, after a key that it did not have.
 use Rattle.std.proofs.Common.{◌≡◌, ◌+◌, ℕ, Bool, true, false, cond, List, Some, None, unwrap_or, refl, ap, subst, ◌∙◌, arith, Ordering}
 use Rattle.std.proofs.lemmas.Cmp.{eq_by_cmp_equiv}
 use Rattle.std.specs.Cmp.{IsTotalOrder}
 use Rattle.std.specs.Map.{lookup}
 use Rattle.std.specs.Ordering.{is_eq}
-use Rattle.tally_sessions.specs.Sums.{sum_at}
+use Rattle.tally_sessions.specs.inside.Sums.{sum_at}
 
 -- a new key has the seconds that it came with
 pub sum_at-new : {K : Type 0} (R : K → K → Ordering) → IsTotalOrder R → (key : K) (seconds : ℕ) (old new : List (K × ℕ))

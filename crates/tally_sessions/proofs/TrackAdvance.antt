@@ -1,11 +1,10 @@
--- The track of a host, behind one record more.
+-- The track of a host, after one record more.
 use Rattle.std.proofs.Common.{◌≡◌, ◌⊎◌, inl, inr, ℕ, ◌+◌, ◌<◌, ◌≤◌, List, [], ◌∷◌, ◌++◌, map, length, take, Bool, true, false, cond, Option, Some, None, unwrap_or, ℤ, pos, ◌+ℤ◌, refl, sym, ap, ◌∙◌, arith, subst, length-append}
 use Rattle.std.proofs.lemmas.Bool.{false≢true}
 use Rattle.std.proofs.lemmas.List.{length-map, map-append, with_items_is}
 use Rattle.std.specs.Option.{option_map}
 use Rattle.std.specs.Prelude.{slice_get}
 use Rattle.std.specs.Vec.{with_items, vec_len, vec_capacity}
-use Rattle.std.specs.HashMap.{spare}
 use Rattle.tally_records.specs.declared.login.LoginRecord.{LoginRecord}
 use Rattle.tally_records.specs.declared.login.Event.{Event}
 use Rattle.tally_records.specs.declared.login.Event.TheVariants.{Login, Logout, Boot, Down, OldTime, NewTime, Nothing}
@@ -15,10 +14,12 @@ use Rattle.tally_sessions.specs.declared.entry.Entry.{Entry}
 use Rattle.tally_sessions.specs.declared.ending.TrackedStay.{TrackedStay}
 use Rattle.tally_sessions.specs.declared.track.Track.{Track}
 use Rattle.tally_sessions.specs.Clock.{pending_old_time, shift_at}
-use Rattle.tally_sessions.specs.Hosts.{of_host, entry_at}
+use Rattle.tally_sessions.specs.inside.Numbers.{Numbers}
+use Rattle.tally_sessions.specs.Hosts.{of_host}
+use Rattle.tally_sessions.specs.inside.Entries.{entry_at}
 use Rattle.tally_sessions.specs.Stays.{ends_stay, starts_stay, last_time}
-use Rattle.tally_sessions.specs.Track.{start_of, behind, tracked_in, IsWithin, AreTracked, IsTrack, started, LeadsTo, ends_every_stay, sum_of, HasRoom, HasSums, IsEntered}
-use Rattle.tally_sessions.specs.Tracking.{Tracked, pending_at, clock, tracked_from, advanced, fresh}
+use Rattle.tally_sessions.specs.inside.Track.{start_of, behind, tracked_in, IsWithin, AreTracked, IsTrack, started, LeadsTo, ends_every_stay, sum_of, HasRoom, HasSums, IsEntered}
+use Rattle.tally_sessions.specs.inside.Tracking.{Tracked, pending_at, clock, tracked_from, advanced, fresh}
 use Rattle.tally_sessions.proofs.Clocks.{pending_old_time-push}
 use Rattle.tally_sessions.proofs.EndedSteps.{HasSums-start}
 use Rattle.tally_sessions.proofs.Forward.{clock-push, last_time-push, tracked_from-push}
@@ -153,12 +154,12 @@ IsTrack-step es n old ticked swept done ended sums sweep lt h clock_is within ol
     within_stays e (inl same) = let i = h.swept in omega arith
     within_stays e (inr all) = let i = all.0 in omega arith
 
-pub HasRoom-step : (m : ℕ) (old ticked swept : Track) (ended : List TrackedStay) (sums : EndedSums) (sweep : ℕ) → HasRoom m old → ticked.stays ≡ old.stays → ticked.lines ≡ old.lines → ticked.sums ≡ old.sums → spare sums.users ≡ spare ticked.sums.users
+pub HasRoom-step : (m : ℕ) (old ticked swept : Track) (ended : List TrackedStay) (sums : EndedSums) (sweep : ℕ) → HasRoom m old → ticked.stays ≡ old.stays → ticked.lines ≡ old.lines → ticked.sums ≡ old.sums → sums.users.spare ≡ ticked.sums.users.spare
     → swept ≡ record { stays = with_items ticked.stays ended; swept = sweep; lines = ticked.lines; old_time = ticked.old_time; clock = ticked.clock; first = ticked.first; last = ticked.last; sums = sums }
     → HasRoom m swept
 HasRoom-step m old ticked swept ended sums sweep h stays lines same room is =
     subst (HasRoom m) (sym is) (record {
       stays = subst (λ v. vec_len v + m ≤ vec_capacity v) (sym stays) h.stays;
-      lines = subst (λ l. m ≤ spare l) (sym lines) h.lines;
-      users = subst (λ k. m ≤ k) (sym (room ∙ ap (λ (s : EndedSums). spare s.users) same)) h.users;
+      lines = subst (λ (l : Numbers). m ≤ l.spare) (sym lines) h.lines;
+      users = subst (λ k. m ≤ k) (sym (room ∙ ap (λ (s : EndedSums). s.users.spare) same)) h.users;
     })

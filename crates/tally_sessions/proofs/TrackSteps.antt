@@ -13,8 +13,8 @@ use Rattle.tally_sessions.specs.declared.entry.Entry.{Entry}
 use Rattle.tally_sessions.specs.declared.ending.Ending.{Ending}
 use Rattle.tally_sessions.specs.declared.ending.TrackedStay.{TrackedStay}
 use Rattle.tally_sessions.specs.Stays.{ends_event, ends_stay, starts_stay}
-use Rattle.tally_sessions.specs.Track.{stay_at, start_of, ending_of, end_if, behind, ends_line_stay, stay_with, tracked_in, IsTracked, AreTracked}
-use Rattle.tally_sessions.specs.Tracking.{Tracked, advanced, advance_if, ended_by}
+use Rattle.tally_sessions.specs.inside.Track.{stay_at, start_of, ending_of, end_if, behind, ends_line_stay, stay_with, tracked_in, IsTracked, AreTracked}
+use Rattle.tally_sessions.specs.inside.Tracking.{Tracked, advanced, advance_if, ended_by}
 
 -- what is kept of a stay goes on as the stay does
 pub tracked_in-behind : (host : ℕ) (es : List Entry) (now : ℤ) (x : LoginRecord) (t : TrackedStay) → tracked_in host es (behind es now x t) ≡ advanced host now x (tracked_in host es t)
@@ -75,7 +75,7 @@ behind-ends es now x t h = subst (λ b. IsSome (option_or t.ended (end_if b (end
     by (Some e) = refl
     by None = refl
 
--- where a stay is pending behind a record, it was before it, and the record does not end it
+-- where a stay is pending after a record, it was before it, and the record does not end it
 pub behind-pending : (es : List Entry) (now : ℤ) (x : LoginRecord) (t : TrackedStay) → (behind es now x t).ended ≡ None → (t.ended ≡ None) × (ends_stay (start_of es t) x ≡ false)
 behind-pending es now x t h = by t.ended (ends_stay (start_of es t) x) h
   where

@@ -1,4 +1,4 @@
--- The tracked stays of a host and the table of its lines, behind one record more.
+-- The tracked stays of a host and the table of its lines, after one record more.
 use Rattle.std.proofs.Common.{◌≡◌, ◌≢◌, ◌⊎◌, inl, inr, ℕ, ◌+◌, ◌<◌, ◌≤◌, ◌&&◌, List, [], ◌∷◌, ◌++◌, map, length, get_or, Bool, true, false, cond, Some, None, IsSome, ℤ, refl, sym, ap, ◌∙◌, arith, subst, length-append}
 use Rattle.std.proofs.lemmas.Int.{ints}
 use Rattle.std.proofs.lemmas.Bool.{false≢true, cases_eq}
@@ -13,9 +13,9 @@ use Rattle.tally_records.specs.declared.login.Event.TheVariants.{Login, Logout, 
 use Rattle.tally_records.specs.Event.{event_of}
 use Rattle.tally_sessions.specs.declared.entry.Entry.{Entry}
 use Rattle.tally_sessions.specs.declared.ending.TrackedStay.{TrackedStay}
-use Rattle.tally_sessions.specs.Hosts.{entry_at}
-use Rattle.tally_sessions.specs.Stays.{ends_event, ends_stay, starts_stay, is_login_event}
-use Rattle.tally_sessions.specs.Track.{no_stay, stay_at, start_of, behind, IsWithin, IsTracked, IsOnLine, AreTracked, started, LeadsTo}
+use Rattle.tally_sessions.specs.inside.Entries.{entry_at}
+use Rattle.tally_sessions.specs.Stays.{ends_event, ends_stay, starts_stay}
+use Rattle.tally_sessions.specs.inside.Track.{is_login_event, no_stay, stay_at, start_of, behind, IsWithin, IsTracked, IsOnLine, AreTracked, started, LeadsTo}
 use Rattle.tally_sessions.proofs.TrackSteps.{behind-ended, behind-ends, behind-pending, some_inj}
 
 pub IsWithin-more : (n : ℕ) (z : ℤ) → IsWithin n z → IsWithin (n + 1) z
@@ -32,7 +32,7 @@ same_line a b h = by (bytes_eq b a) refl
     by false e = e
     by true e = absurd (false≢true (sym h ∙ (bytes_eq-Decides a b).1 (sym ((bytes_eq-Decides b a).0 e))))
 
--- a login that is pending behind a record is not on the line of a login
+-- a login that is pending after a record is not on the line of a login
 off_line : (r x : LoginRecord) → event_of r ≡ Login → ends_stay r x ≡ false → (is_login_event (event_of x) && bytes_eq x.line r.line) ≡ false
 off_line r x login none = by (event_of x) (ap (λ e. ends_event e (event_of x) (bytes_eq r.line x.line)) (sym login) ∙ none)
   where

@@ -14,11 +14,12 @@ use Rattle.tally_sessions.specs.declared.ending.Ending.{Ending}
 use Rattle.tally_sessions.specs.declared.ending.TrackedStay.{TrackedStay}
 use Rattle.tally_sessions.specs.declared.track.Track.{Track}
 use Rattle.tally_sessions.specs.Clock.{pending_old_time}
-use Rattle.tally_sessions.specs.Hosts.{of_host, no_entry}
-use Rattle.tally_sessions.specs.Kept.{AreTracks}
+use Rattle.tally_sessions.specs.Hosts.{of_host}
+use Rattle.tally_sessions.specs.inside.Entries.{no_entry}
+use Rattle.tally_sessions.specs.inside.Kept.{AreTracks}
 use Rattle.tally_sessions.specs.Stays.{starts_stay, last_time}
-use Rattle.tally_sessions.specs.Track.{no_stay, stay_at, start_of, stay_with, tracked_in, counts, ended_length, AreOf, AreTracked, HasSums, IsEntered, IsTrack, IsWithin}
-use Rattle.tally_sessions.specs.Tracking.{Tracked, clock, tracked_from}
+use Rattle.tally_sessions.specs.inside.Track.{no_stay, stay_at, start_of, stay_with, tracked_in, counts, ended_length, AreOf, AreTracked, HasSums, IsEntered, IsTrack, IsWithin}
+use Rattle.tally_sessions.specs.inside.Tracking.{Tracked, clock, tracked_from}
 use Rattle.tally_sessions.proofs.EndedSteps.{HasSums-same}
 use Rattle.tally_sessions.proofs.HostSteps.{of_host-take_other}
 use Rattle.tally_sessions.proofs.TrackedAdvance.{IsWithin-all}

@@ -1,6 +1,5 @@
 -- The changes of users' seconds from day to day, while those of sessions are added to a table.
-use Rattle.std.proofs.Common.{◌≡◌, ◌≢◌, ◌⊎◌, inl, inr, ℕ, ◌+◌, ◌<◌, ◌≤◌, ◌^◌, Bool, true, false, cond, List, [], ◌∷◌, length, filter, get_or, take, ℤ, pos, neg_ℤ, ◌+ℤ◌, ◌-ℤ◌, ◌≤ℤ◌, Some, unwrap_or, refl, sym, ap, ◌∙◌, arith}
-use Rattle.std.proofs.lemmas.Bool.{cases_eq}
+use Rattle.std.proofs.Common.{◌≡◌, inl, inr, ◌+◌, ◌≤◌, ◌^◌, Bool, true, false, cond, List, [], ◌∷◌, length, filter, ℤ, pos, neg_ℤ, ◌+ℤ◌, ◌-ℤ◌, ◌≤ℤ◌, Some, unwrap_or, refl, sym, ap, ◌∙◌, arith}
 use Rattle.std.proofs.lemmas.Bool.Decides.{Decides-int_eq}
 use Rattle.std.proofs.lemmas.Int.{ints, clamps}
 use Rattle.std.specs.BTreeMap.{insert_entry}
@@ -12,14 +11,12 @@ use Rattle.std.specs.declared.cmp.Ordering.TheVariants.{Less, Equal, Greater}
 use Rattle.std.proofs.lemmas.List.Sums.{sum_by-cons}
 use Rattle.tally_sessions.specs.declared.day_user_rows.DayUser.{DayUser}
 use Rattle.tally_sessions.specs.declared.sums.Session.{Session}
-use Rattle.tally_sessions.specs.Changes.{change_of, change_of_day_user, change_on, days_ahead, days_from}
-use Rattle.tally_sessions.specs.Days.{IsDay, seconds_on}
-use Rattle.tally_sessions.specs.Sums.{day_user_cmp, seconds_of_day_user}
+use Rattle.tally_sessions.specs.inside.Changes.{change_of, change_of_day_user, days_ahead, days_from}
+use Rattle.tally_sessions.specs.inside.Sums.{day_user_cmp}
+use Rattle.tally_sessions.specs.Sums.{seconds_of_day_user}
 use Rattle.tally_sessions.proofs.DayChanges.{seconds_of_day-le}
 use Rattle.tally_sessions.proofs.DaysLemmas.{above}
 use Rattle.tally_sessions.proofs.DaySpread.{same_or_not}
-use Rattle.tally_sessions.proofs.DayUsers.{seconds_of_day_user-step}
-use Rattle.tally_sessions.proofs.SumLemmas.{no_session}
 
 -- the days before this one have what is added, and the others what they had
 pub record IsMoved (amount old now : ℤ → ℤ) (day : ℤ) : Type 0 where
@@ -128,41 +125,8 @@ seconds_of_day_user-le offset k ss few =
     let some = at_most p ss in
     omega (arith, n, some, few)
 
-pub changes_low : (offset : ℤ) (k : DayUser) (ss : List Session) → length ss ≤ 1048576 → neg_ℤ (pos (2 ^ 61)) ≤ℤ change_of_day_user offset k ss
+pub changes_low : (offset : ℤ) (k : DayUser) (ss : List Session) → length ss ≤ 1048576 → neg_ℤ (pos (2 ^ 60)) ≤ℤ change_of_day_user offset k ss
 changes_low offset k ss few = let n = seconds_of_day_user-le offset (record { day = k.day -ℤ pos 1; user = k.user }) ss few in omega (arith, ints, n)
 
-pub changes_high : (offset : ℤ) (k : DayUser) (ss : List Session) → length ss ≤ 1048576 → change_of_day_user offset k ss ≤ℤ pos (2 ^ 61)
+pub changes_high : (offset : ℤ) (k : DayUser) (ss : List Session) → length ss ≤ 1048576 → change_of_day_user offset k ss ≤ℤ pos (2 ^ 60)
 changes_high offset k ss few = let n = seconds_of_day_user-le offset k ss few in omega (arith, ints, n)
-
-change_sum : (b : Bool) (a a' c c' m n : ℕ) → a' ≡ a + cond b m 0 → c' ≡ c + cond b n 0 → (pos a -ℤ pos c) +ℤ cond b (pos m -ℤ pos n) (pos 0) ≡ pos a' -ℤ pos c'
-change_sum true a a' c c' m n h h' = omega (arith, ints)
-change_sum false a a' c c' m n h h' = omega (arith, ints)
-
-seconds_more : (offset day : ℤ) (user : List ℕ) (ss : List Session) (i : ℕ) → i < length ss
-    → seconds_of_day_user offset day user (take (i + 1) ss) ≡ seconds_of_day_user offset day user (take i ss) + cond (bytes_eq (get_or ss i no_session).user user) (seconds_on offset day (get_or ss i no_session).begin (get_or ss i no_session).end_time) 0
-seconds_more offset day user ss i lt = sym (seconds_of_day_user-step _ _ offset day user ss i lt refl refl)
-
--- the changes with those of the session at i
-pub user_changes_more : (offset : ℤ) (ss : List Session) (i : ℕ) (old new : List (DayUser × ℤ)) → i < length ss → ((k : DayUser) → change_of old k ≡ change_of_day_user offset k (take i ss))
-    → ((k : DayUser) → change_of new k ≡ change_of old k +ℤ cond (bytes_eq (get_or ss i no_session).user k.user) (change_on offset k.day (get_or ss i no_session).begin (get_or ss i no_session).end_time) (pos 0))
-    → (k : DayUser) → change_of new k ≡ change_of_day_user offset k (take (i + 1) ss)
-user_changes_more offset ss i old new lt h added k =
-    let s = get_or ss i no_session in
-    added k ∙ ap (λ z. z +ℤ cond (bytes_eq s.user k.user) (change_on offset k.day s.begin s.end_time) (pos 0)) (h k)
-    ∙ change_sum (bytes_eq s.user k.user) (seconds_of_day_user offset k.day k.user (take i ss)) _ (seconds_of_day_user offset (k.day -ℤ pos 1) k.user (take i ss)) _
-    (seconds_on offset k.day s.begin s.end_time) (seconds_on offset (k.day -ℤ pos 1) s.begin s.end_time) (seconds_more offset k.day k.user ss i lt) (seconds_more offset (k.day -ℤ pos 1) k.user ss i lt)
-
-some_of : (b : Bool) (n : ℕ) → 0 < cond b n 0 → 0 < n
-some_of true n h = h
-some_of false n h = absurd (omega (arith, h))
-
-pub user_days_more : (offset : ℤ) (ss : List Session) (i : ℕ) → i < length ss → ((k : DayUser) → 0 < seconds_of_day_user offset k.day k.user (take i ss) → IsDay k.day)
-    → ((day : ℤ) → 0 < seconds_on offset day (get_or ss i no_session).begin (get_or ss i no_session).end_time → IsDay day) → (k : DayUser) → 0 < seconds_of_day_user offset k.day k.user (take (i + 1) ss) → IsDay k.day
-user_days_more offset ss i lt was is_now k more = by (cases_eq (cond (bytes_eq s.user k.user) (seconds_on offset k.day s.begin s.end_time) 0) 0)
-  where
-    s : Session
-    s = get_or ss i no_session
-
-    by : (cond (bytes_eq s.user k.user) (seconds_on offset k.day s.begin s.end_time) 0 ≡ 0) ⊎ (cond (bytes_eq s.user k.user) (seconds_on offset k.day s.begin s.end_time) 0 ≢ 0) → IsDay k.day
-    by (inl none) = was k (let is = seconds_more offset k.day k.user ss i lt in omega (arith, is, none, more))
-    by (inr some) = is_now k.day (some_of (bytes_eq s.user k.user) _ (omega (arith, some)))

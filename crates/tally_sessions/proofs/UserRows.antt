@@ -13,8 +13,9 @@ use Rattle.tally_records.specs.Sorted.{in_order}
 use Rattle.tally_sessions.specs.declared.entry.Entry.{Entry}
 use Rattle.tally_sessions.specs.declared.sums.Session.{Session}
 use Rattle.tally_sessions.specs.declared.times.UserTime.{UserTime}
-use Rattle.tally_sessions.specs.Rows.{above_zero, user_time, user_time_cmp, user_time_of, user_times}
-use Rattle.tally_sessions.specs.Sums.{seconds_of_user, sessions_of, sum_at}
+use Rattle.tally_sessions.specs.inside.Sums.{above_zero, user_time_of, sum_at}
+use Rattle.tally_sessions.specs.Rows.{user_time, user_time_cmp, user_times}
+use Rattle.tally_sessions.specs.Sums.{sessions_of}
 use Rattle.tally_sessions.specs.Totals.{connect_of}
 use Rattle.tally_sessions.proofs.RowLemmas.{rows_are}
 use Rattle.tally_sessions.proofs.SumLemmas.{connect_of-sessions, user_of_session}
@@ -27,11 +28,11 @@ users_of : (ss : List Session) (entries : List Entry) (until : Option ℤ) → m
 users_of [] entries until = refl
 users_of (s ∷ ss) entries until = ap (λ rows. user_time entries until s.user ∷ rows) (users_of ss entries until)
 
-pub user_rows_are : (entries : List Entry) (until : Option ℤ) (sums : List (List ℕ × ℕ)) → IsStrictlySortedBy (slice_cmp nat_cmp) (keys_of sums) → ((user : List ℕ) → sum_at (slice_cmp nat_cmp) sums user ≡ seconds_of_user user (sessions_of entries until))
+pub user_rows_are : (entries : List Entry) (until : Option ℤ) (sums : List (List ℕ × ℕ)) → IsStrictlySortedBy (slice_cmp nat_cmp) (keys_of sums) → ((user : List ℕ) → sum_at (slice_cmp nat_cmp) sums user ≡ connect_of user entries until)
     → map user_time_of (filter above_zero sums) ≡ user_times entries until
 user_rows_are entries until sums up at =
     rows_are nat_list_cmp_total same_user (λ user n. record { user = user; seconds = n }) (λ (r : UserTime). r.user) (λ (r : UserTime). r.seconds) (λ user n. refl) (λ user n. refl)
     sums (λ user. connect_of user entries until) (map (λ (s : Session). s.user) (sessions_of entries until)) up
-    (λ user. at user ∙ sym (connect_of-sessions user entries until))
+    at
     (λ user lt. user_of_session user (sessions_of entries until) (subst (λ n. 0 < n) (connect_of-sessions user entries until) lt))
     ∙ ap (λ rows. in_order user_time_cmp (filter (λ (r : UserTime). nat_lt 0 r.seconds) rows)) (users_of (sessions_of entries until) entries until)

@@ -1,5 +1,5 @@
 -- Rows of connect time: each user, day, or user on a day whose time is above 0, once, by day and then by name bytes.
-use Rattle.std.specs.Prelude.{ℕ, ℤ, Bool, List, Option, map, filter, nat_lt}
+use Rattle.std.specs.Prelude.{ℕ, ℤ, List, Option, map, filter, nat_lt}
 use Rattle.std.specs.Cmp.Lexicographic.{slice_cmp}
 use Rattle.std.specs.List.{flat_map}
 use Rattle.std.specs.Ordering.{int_cmp, nat_cmp, ordering_then}
@@ -58,19 +58,3 @@ day_users_of offset sessions = flat_map (λ s. map (λ day. record { day = day; 
 -- the rows of all users on all days with connect time
 abbrev pub day_user_times : ℤ → List Entry → Option ℤ → List DayUserTime
 day_user_times offset entries until = in_order day_user_time_cmp (filter (λ row. nat_lt 0 row.seconds) (map (day_user_time offset entries until) (day_users_of offset (sessions_of entries until))))
-
--- a sum of seconds is above 0
-abbrev pub above_zero : {K : Type 0} → K × ℕ → Bool
-above_zero sum = nat_lt 0 sum.1
-
--- the row of a user's sum
-abbrev pub user_time_of : List ℕ × ℕ → UserTime
-user_time_of sum = record { user = sum.0; seconds = sum.1 }
-
--- the row of a day's sum
-abbrev pub day_time_of : ℤ × ℕ → DayTime
-day_time_of sum = record { day = sum.0; seconds = sum.1 }
-
--- the row of the sum of a user on a day
-abbrev pub day_user_time_of : DayUser × ℕ → DayUserTime
-day_user_time_of sum = record { day = sum.0.day; user = sum.0.user; seconds = sum.1 }

@@ -1,62 +1,71 @@
 //! What the track of a host answers.
-ghost use Rattle.std.specs.Prelude.{◌≡◌, ◌≤◌, ◌<◌, ◌+◌, ◌*◌, ◌^◌, ◌++◌, All, IfOk, OnOk, length, reverse, take, unwrap_or, vec_len};
+ghost use Rattle.std.specs.Prelude.{◌≡◌, ◌≤◌, ◌<◌, ◌+◌, ◌*◌, ◌^◌, [], ◌∷◌, All, IfNone, IfSome, IfOk, length, reverse, take, unwrap_or, vec_len};
 ghost use Rattle.tally_sessions.specs.Hosts.{of_host};
+ghost use Rattle.tally_sessions.specs.Lent.{entries_in};
 ghost use Rattle.tally_sessions.specs.Sums.{sessions_among};
-ghost use Rattle.tally_sessions.specs.Totals.{seconds_of, stays_of};
-ghost use Rattle.tally_sessions.specs.Track as spec;
+ghost use Rattle.tally_sessions.specs.inside.Totals.{seconds_of};
+ghost use Rattle.tally_sessions.specs.Totals.{stays_of};
+ghost use Rattle.tally_sessions.specs.inside.Track as spec;
 
 use crate::ending::{Ending, TrackedStay, still};
-use crate::entry::{Entry, Stay};
+use crate::entries::Entries;
+use crate::entry::Stay;
 use crate::rules::{is_boot, is_counted, is_login};
 use crate::sessions::ENTRY_LIMIT;
 use crate::sums::Session;
 use crate::track::Track;
 use std::alloc::Global;
-use tally_records::{List, Memory, Name, event};
+use tally_records::{Key, List, LoginRecord, Memory};
 
 impl Track {
     /// Up to when pending stays are counted: a moment, or else the time of the last record.
-    fn time_now(&self, until: Option<i32>) -> i32
+    pub(crate) fn time_now(&self, until: Option<i32>) -> i32
         ensures { result ≡ unwrap_or until self.now.last }
     {
         until.unwrap_or(self.last)
     }
 
     /// The end of a stay as it stands at a time.
-    fn ending(&self, entries: &[Entry], stay: TrackedStay, time: i32) -> Ending
-        requires placed { stay.entry < length entries.now }
+    fn ending(&self, entries: Entries<'_>, stay: TrackedStay, time: i32) -> Ending
+        requires placed { stay.entry < length (entries_in entries) }
         requires before { spec.IsWithin ENTRY_LIMIT stay.clock_at }
         requires now { spec.IsWithin ENTRY_LIMIT self.now.clock }
-        ensures value { result ≡ spec.ending_now entries.now self.now.clock time stay }
+        ensures value { result ≡ spec.ending_now (entries_in entries.entry) self.now.clock time stay }
         ensures fits { result.length < 2 ^ 32 }
     {
         match stay.ended {
             Some(ended) => ended,
             None => {
-                let start = &entries[stay.entry].item;
+                let start = entries.time(stay.entry as usize);
                 still(start, self.clock - stay.clock_at, time)
             }
         }
     }
 
     /// A stay as it stands at a time.
-    fn stay(&self, host: u32, entries: &[Entry], i: usize, time: i32) -> Stay
+    fn stay(&self, host: u32, entries: Entries<'_>, i: usize, time: i32) -> Stay
         requires i_in { i < vec_len self.now.stays }
-        requires placed { spec.ArePlaced (length entries.now) self.now.stays.items }
+        requires placed { spec.ArePlaced (length (entries_in entries)) self.now.stays.items }
         requires now { spec.IsWithin ENTRY_LIMIT self.now.clock }
-        ensures value { result ≡ spec.stay_now host entries.now self.now.clock time (spec.stay_at self.now.stays.items i) }
+        ensures value { result ≡ spec.stay_now host (entries_in entries.entry) self.now.clock time (spec.stay_at self.now.stays.items i) }
         ensures fits { result.length < 2 ^ 32 }
     {
         let stay = self.stays[i];
-        let start = &entries[stay.entry].item;
+        let LoginRecord {
+            kind: _,
+            line,
+            user,
+            remote,
+            time: start,
+        } = entries.record(stay.entry as usize);
         let ending = self.ending(entries, stay, time);
         Stay {
             host,
-            is_boot: is_boot(event(start)),
-            user: start.user,
-            line: start.line,
-            remote: start.remote,
-            start: start.time,
+            is_boot: is_boot(entries.event(stay.entry as usize)),
+            user,
+            line,
+            remote,
+            start,
             begin: ending.begin,
             end: ending.end,
             end_time: ending.end_time,
@@ -69,66 +78,73 @@ impl Track {
         &self,
         alloc: Global,
         host: u32,
-        entries: &[Entry],
+        entries: Entries<'_>,
         limit: usize,
         until: Option<i32>,
     ) -> Result<List<Stay>, Memory>
-        requires few { length entries.now ≤ ENTRY_LIMIT }
-        requires track { spec.IsTrack host entries.now (length entries.now) self.now }
-        ensures value { IfOk result (λ found. found ≡ take limit (reverse (stays_of host entries.now until))) }
+        requires few { length (entries_in entries) ≤ ENTRY_LIMIT }
+        requires track { spec.IsTrack host (entries_in entries) (length (entries_in entries)) self.now }
+        ensures value { IfOk result (λ found. found ≡ take limit (reverse (stays_of host (entries_in entries.entry) until))) }
         ensures lengths { IfOk result (All (λ s. s.length < 2 ^ 32)) }
     {
         let time = self.time_now(until);
-        let mut found = List::new(alloc);
         let mut i = self.stays.len();
+        let mut found = Vec::with_capacity(alloc, limit.min(i))?;
         while i > 0 && found.len() < limit {
             i -= 1;
             found.push(self.stay(host, entries, i, time))?;
         }
-        Ok(found)
+        List::from_vec(alloc, found)
     }
 
-    /// Adds the sessions of the host.
-    pub(crate) fn push_sessions(
+    /// The session at a time that the stay at a place is, unless it is a boot's.
+    pub(crate) fn session_at(
         &self,
         host: u32,
-        entries: &[Entry],
-        found: &mut Vec<Session>,
-        until: Option<i32>,
-    ) -> Result<(), Memory>
-        requires few { length entries.now ≤ ENTRY_LIMIT }
-        requires track { spec.IsTrack host entries.now (length entries.now) self.now }
-        ensures { OnOk result (found.new.items ≡ found.old.items ++ sessions_among (stays_of host entries.now until)) }
+        entries: Entries<'_>,
+        i: usize,
+        time: i32,
+    ) -> Option<Session>
+        requires i_in { i < vec_len self.now.stays }
+        requires few { length (entries_in entries) ≤ ENTRY_LIMIT }
+        requires track { spec.IsTrack host (entries_in entries) (length (entries_in entries)) self.now }
+        ensures session { IfSome result (λ s. sessions_among (spec.stay_now host (entries_in entries.entry) self.now.clock time (spec.stay_at self.now.stays.items i) ∷ []) ≡ s ∷ []) }
+        ensures none { IfNone result (sessions_among (spec.stay_now host (entries_in entries.entry) self.now.clock time (spec.stay_at self.now.stays.items i) ∷ []) ≡ []) }
     {
-        let time = self.time_now(until);
-        for i in 0..self.stays.len() {
-            let stay = self.stays[i];
-            let start = &entries[stay.entry].item;
-            if is_login(event(start)) {
-                let ending = self.ending(entries, stay, time);
-                found.push(Session {
-                    user: start.user,
-                    begin: ending.begin,
-                    end_time: ending.end_time,
-                    length: ending.length,
-                })?;
-            }
+        let stay = self.stays[i];
+        let at = stay.entry as usize;
+        if !is_login(entries.event(at)) {
+            return None;
         }
-        Ok(())
+        let ending = self.ending(entries, stay, time);
+        Some(Session {
+            user: entries.user(at),
+            begin: ending.begin,
+            end_time: ending.end_time,
+            length: ending.length,
+        })
     }
 
     /// The length at a time of the stay at a place, where it is a pending session of those.
-    fn pending_length(&self, entries: &[Entry], i: usize, time: i32, who: Option<Name>) -> u64
+    pub(crate) fn pending_length(
+        &self,
+        entries: Entries<'_>,
+        i: usize,
+        time: i32,
+        who: &Option<Key>,
+    ) -> u64
         requires i_in { i < vec_len self.now.stays }
-        requires placed { spec.ArePlaced (length entries.now) self.now.stays.items }
+        requires few { length (entries_in entries) ≤ ENTRY_LIMIT }
+        requires placed { spec.ArePlaced (length (entries_in entries)) self.now.stays.items }
         requires now { spec.IsWithin ENTRY_LIMIT self.now.clock }
-        ensures { result ≡ spec.pending_length who entries.now self.now.clock time (spec.stay_at self.now.stays.items i) }
+        ensures { result ≡ spec.pending_length who.now (entries_in entries.entry) self.now.clock time (spec.stay_at self.now.stays.items i) }
     {
         let stay = self.stays[i];
-        let start = &entries[stay.entry].item;
-        if stay.ended.is_some() || !is_counted(start, who) {
+        let at = stay.entry as usize;
+        if stay.ended.is_some() || !is_counted(entries, at, who) {
             return 0;
         }
+        let start = entries.time(at);
         u64::from(still(start, self.clock - stay.clock_at, time).length)
     }
 
@@ -136,21 +152,20 @@ impl Track {
     fn pending_seconds(
         &self,
         host: u32,
-        entries: &[Entry],
-        who: Option<Name>,
+        entries: Entries<'_>,
+        who: &Option<Key>,
         until: Option<i32>,
     ) -> u64
-        requires few { length entries.now ≤ ENTRY_LIMIT }
-        requires track { spec.IsTrack host entries.now (length entries.now) self.now }
-        ensures value { result ≡ spec.pending_sum who entries.now self.now.clock (unwrap_or until self.now.last) self.now.stays.items }
-        ensures fits { spec.ended_sum who entries.now self.now.stays.items + result ≤ vec_len self.now.stays * 4294967295 }
+        requires few { length (entries_in entries) ≤ ENTRY_LIMIT }
+        requires track { spec.IsTrack host (entries_in entries) (length (entries_in entries)) self.now }
+        ensures value { result ≡ spec.pending_sum who.now (entries_in entries.entry) self.now.clock (unwrap_or until self.now.last) self.now.stays.items }
+        ensures fits { spec.ended_sum who.now (entries_in entries.entry) self.now.stays.items + result ≤ vec_len self.now.stays * 4294967295 }
     {
         let time = self.time_now(until);
         let mut seconds = 0;
         for k in 0..self.lines.len() {
-            if let Some((_, &i)) = self.lines.get_index(k) {
-                seconds += self.pending_length(entries, i, time, who);
-            }
+            let i = self.lines.number_at(k) as usize;
+            seconds += self.pending_length(entries, i, time, who);
         }
         seconds
     }
@@ -159,14 +174,14 @@ impl Track {
     pub(crate) fn seconds(
         &self,
         host: u32,
-        entries: &[Entry],
-        who: Option<Name>,
+        entries: Entries<'_>,
+        who: &Option<Key>,
         until: Option<i32>,
     ) -> u64
-        requires few { length entries.now ≤ ENTRY_LIMIT }
-        requires track { spec.IsTrack host entries.now (length entries.now) self.now }
-        ensures value { result ≡ seconds_of who (stays_of host entries.now until) }
-        ensures fits { result ≤ 4294967295 * length (of_host host entries.now) }
+        requires few { length (entries_in entries) ≤ ENTRY_LIMIT }
+        requires track { spec.IsTrack host (entries_in entries) (length (entries_in entries)) self.now }
+        ensures value { result ≡ seconds_of who.now (stays_of host (entries_in entries.entry) until) }
+        ensures fits { result ≤ 4294967295 * length (of_host host (entries_in entries.entry)) }
     {
         self.sums.of(who) + self.pending_seconds(host, entries, who, until)
     }

@@ -1,16 +1,14 @@
 //! Connect time by user and by day, as ac(1) gives it.
-ghost use Rattle.std.specs.Prelude.{◌≡◌, ◌≤◌, All, IfOk, filter, map, vec_len};
+ghost use Rattle.std.specs.Prelude.{◌≡◌, ℕ, List as Items, All, IfOk, filter, map};
 ghost use Rattle.std.specs.BTreeMap.{IsOrdered};
 ghost use Rattle.std.specs.Cmp.Lexicographic.{slice_cmp};
 ghost use Rattle.std.specs.Ordering.{int_cmp, nat_cmp};
 ghost use Rattle.tally_sessions.specs.Days.{IsDay, IsOffset};
-ghost use Rattle.tally_sessions.specs.Rows.{above_zero, day_time_of, day_times, day_user_time_of, day_user_times, user_time_of, user_times};
-ghost use Rattle.tally_sessions.specs.Sums.{day_user_cmp, sessions_of};
+ghost use Rattle.tally_sessions.specs.inside.Sums.{above_zero, day_time_of, day_user_time_of, user_time_of, day_user_cmp, sum_at};
+ghost use Rattle.tally_sessions.specs.Rows.{day_times, day_user_times, user_times};
+ghost use Rattle.tally_sessions.specs.Totals.{connect_of};
 
-use crate::day_sums::day_sums;
-use crate::day_user_rows::day_user_rows;
-use crate::sessions::{ENTRY_LIMIT, HOST_LIMIT, Sessions};
-use crate::sums::{Session, user_sums};
+use crate::sessions::{HOST_LIMIT, Sessions};
 use crate::times::{DayTime, DayUserTime, UserTime};
 use std::alloc::{AllocError, Global};
 use std::collections::BTreeMap;
@@ -45,17 +43,16 @@ fn day_rows(alloc: Global, sums: &BTreeMap<i32, u64>) -> Result<Vec<DayTime>, Al
 }
 
 impl Sessions {
-    /// The sessions of all hosts.
-    fn sessions(&self, alloc: Global, until: Option<i32>) -> Result<Vec<Session>, Memory>
-        ensures value { IfOk result (λ found. found.items ≡ sessions_of self.now.entries until) }
-        ensures few { IfOk result (λ found. vec_len found ≤ ENTRY_LIMIT) }
+    /// The seconds of each user's sessions on all hosts.
+    fn user_sums(&self, alloc: Global, until: Option<i32>) -> Result<BTreeMap<Name, u64>, Memory>
+        ensures { IfOk result (λ sums. (user : Items ℕ) → sum_at (slice_cmp nat_cmp) sums.entries user ≡ connect_of user self.now.entries until) }
     {
         let entries = self.entries();
-        let mut found = Vec::new(alloc);
+        let mut sums = BTreeMap::new(alloc);
         for host in 0..HOST_LIMIT {
-            self.tracks[host as usize].push_sessions(host, entries, &mut found, until)?;
+            self.tracks[host as usize].add_seconds(host, entries, &mut sums, until)?;
         }
-        Ok(found)
+        Ok(sums)
     }
 
     /// The connect time of each user that has any, in order of name bytes. Sessions that nothing has
@@ -67,9 +64,8 @@ impl Sessions {
     ) -> Result<List<UserTime>, Memory>
         ensures { IfOk result (λ rows. rows ≡ user_times self.now.entries until) }
     {
-        let sessions = self.sessions(alloc, until)?;
-        let sums = user_sums(alloc, &sessions)?;
-        Ok(List::from_vec(user_rows(alloc, &sums)?))
+        let sums = self.user_sums(alloc, until)?;
+        List::from_vec(alloc, user_rows(alloc, &sums)?)
     }
 
     /// The connect time of each day that has any, in order, at an offset in minutes east of UTC.
@@ -84,9 +80,8 @@ impl Sessions {
         ensures value { IfOk result (λ rows. rows ≡ day_times offset self.now.entries until) }
         ensures days { IfOk result (All (λ row. IsDay row.day)) }
     {
-        let sessions = self.sessions(alloc, until)?;
-        let sums = day_sums(alloc, offset, &sessions)?;
-        Ok(List::from_vec(day_rows(alloc, &sums)?))
+        let sums = self.day_sums(alloc, offset, until)?;
+        List::from_vec(alloc, day_rows(alloc, &sums)?)
     }
 
     /// The connect time of each user on each day, where there is any, by day and then by name
@@ -101,7 +96,6 @@ impl Sessions {
         ensures value { IfOk result (λ rows. rows ≡ day_user_times offset self.now.entries until) }
         ensures days { IfOk result (All (λ row. IsDay row.day)) }
     {
-        let sessions = self.sessions(alloc, until)?;
-        Ok(List::from_vec(day_user_rows(alloc, offset, &sessions)?))
+        List::from_vec(alloc, self.day_user_rows(alloc, offset, until)?)
     }
 }

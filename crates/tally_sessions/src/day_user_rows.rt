@@ -2,17 +2,23 @@
 ghost use Rattle.std.specs.Prelude.{◌≡◌, ◌≤◌, ◌<◌, ◌+◌, ◌^◌, ℤ, pos, neg_ℤ, ◌+ℤ◌, ◌≤ℤ◌, false, All, OnOk, IfOk, length, bytes_eq, if◌then◌else◌};
 ghost use Rattle.std.specs.BTreeMap.{get};
 ghost use Rattle.std.specs.Ordering.{is_eq};
-ghost use Rattle.tally_sessions.specs.Changes as user;
-ghost use Rattle.tally_sessions.specs.Changes.{change_of_day_user, days_ahead, days_from, session_rows};
+ghost use Rattle.tally_sessions.specs.inside.Changes as user;
+ghost use Rattle.tally_sessions.specs.inside.Changes.{change_of_day_user, days_ahead, days_from, session_rows};
 ghost use Rattle.tally_sessions.specs.Days as days;
-ghost use Rattle.tally_sessions.specs.Sums.{day_user_cmp, seconds_of_day_user};
+ghost use Rattle.tally_sessions.specs.Lent.{entries_in};
+ghost use Rattle.tally_sessions.specs.inside.Sums.{day_user_cmp};
+ghost use Rattle.tally_sessions.specs.Sums.{seconds_of_day_user, sessions_among, sessions_of};
+ghost use Rattle.tally_sessions.specs.Totals.{stays_of};
+ghost use Rattle.tally_sessions.specs.inside.Track as spec;
 ghost use Rattle.tally_sessions.specs.declared.day_user_rows.DayUser.{DayUser as Key};
 
 use crate::day_sums::change_on;
 use crate::days::day_of;
-use crate::sessions::ENTRY_LIMIT;
+use crate::entries::Entries;
+use crate::sessions::{ENTRY_LIMIT, HOST_LIMIT, Sessions};
 use crate::sums::Session;
 use crate::times::DayUserTime;
+use crate::track::Track;
 use std::alloc::Global;
 use std::collections::BTreeMap;
 use tally_records::{Memory, Name};
@@ -81,49 +87,84 @@ fn add_changes(
     Ok(())
 }
 
-/// The changes of the seconds of all sessions from day to day, for each user.
-fn user_changes(
-    alloc: Global,
-    offset: i32,
-    sessions: &[Session],
-) -> Result<BTreeMap<DayUser, i64>, Memory>
-    requires offset_in { days.IsOffset offset }
-    requires few { length sessions.now ≤ ENTRY_LIMIT }
-    ensures value { IfOk result (λ changes. (k : Key) → user.change_of changes.entries k ≡ change_of_day_user offset k sessions.now) }
-    ensures days { IfOk result (λ _. (k : Key) → 0 < seconds_of_day_user offset k.day k.user sessions.now → days.IsDay k.day) }
-{
-    let mut changes = BTreeMap::new(alloc);
-    for session in sessions {
-        add_changes(&mut changes, offset, session)?;
+impl Track {
+    /// Adds the changes of the seconds of the host's sessions from day to day, for each user.
+    fn add_user_changes(
+        &self,
+        host: u32,
+        entries: Entries<'_>,
+        offset: i32,
+        changes: &mut BTreeMap<DayUser, i64>,
+        until: Option<i32>,
+    ) -> Result<(), Memory>
+        requires offset_in { days.IsOffset offset }
+        requires few { length (entries_in entries) ≤ ENTRY_LIMIT }
+        requires track { spec.IsTrack host (entries_in entries) (length (entries_in entries)) self.now }
+        requires low { (k : Key) → neg_ℤ (pos (2 ^ 60)) ≤ℤ user.change_of changes.old.entries k }
+        requires high { (k : Key) → user.change_of changes.old.entries k ≤ℤ pos (2 ^ 60) }
+        ensures value { OnOk result ((k : Key) → user.change_of changes.new.entries k
+            ≡ user.change_of changes.old.entries k +ℤ change_of_day_user offset k (sessions_among (stays_of host (entries_in entries.entry) until))) }
+        ensures days { OnOk result ((k : Key) → 0 < seconds_of_day_user offset k.day k.user (sessions_among (stays_of host (entries_in entries.entry) until))
+            → days.IsDay k.day) }
+    {
+        let time = self.time_now(until);
+        for i in 0..self.stays.len() {
+            if let Some(session) = self.session_at(host, entries, i, time) {
+                add_changes(changes, offset, &session)?;
+            }
+        }
+        Ok(())
     }
-    Ok(changes)
 }
 
-/// The rows of the users on days that have any time, by day and then by name bytes. The least key
-/// leaves the changes with all that its user has on the day, and the next day begins with as much.
-pub(crate) fn day_user_rows(
-    alloc: Global,
-    offset: i32,
-    sessions: &[Session],
-) -> Result<Vec<DayUserTime>, Memory>
-    requires offset_in { days.IsOffset offset }
-    requires few { length sessions.now ≤ ENTRY_LIMIT }
-    ensures rows { IfOk result (λ rows. rows.items ≡ session_rows offset sessions.now) }
-    ensures days { IfOk result (λ rows. All (λ row. days.IsDay row.day) rows.items) }
-{
-    let mut changes = user_changes(alloc, offset, sessions)?;
-    let mut rows = Vec::new(alloc);
-    while let Some((at, seconds)) = changes.pop_first() {
-        let day = at.day;
-        let user = at.user;
-        if seconds > 0 {
-            rows.push(DayUserTime {
-                day,
-                user,
-                seconds: seconds as u64,
-            })?;
-            add_change(&mut changes, DayUser { day: day + 1, user }, seconds)?;
+impl Sessions {
+    /// The changes of the seconds of all sessions from day to day, for each user.
+    fn user_changes(
+        &self,
+        alloc: Global,
+        offset: i32,
+        until: Option<i32>,
+    ) -> Result<BTreeMap<DayUser, i64>, Memory>
+        requires { days.IsOffset offset }
+        ensures few { IfOk result (λ _. length (sessions_of self.now.entries until) ≤ ENTRY_LIMIT) }
+        ensures value { IfOk result (λ changes. (k : Key) → user.change_of changes.entries k ≡ change_of_day_user offset k (sessions_of self.now.entries until)) }
+        ensures days { IfOk result (λ _. (k : Key) → 0 < seconds_of_day_user offset k.day k.user (sessions_of self.now.entries until) → days.IsDay k.day) }
+    {
+        let entries = self.entries();
+        let mut changes = BTreeMap::new(alloc);
+        for host in 0..HOST_LIMIT {
+            let track = &self.tracks[host as usize];
+            track.add_user_changes(host, entries, offset, &mut changes, until)?;
         }
+        Ok(changes)
     }
-    Ok(rows)
+
+    /// The rows of the users on days that have any time, by day and then by name bytes. The least key
+    /// leaves the changes with all that its user has on the day, and the next day begins with as much.
+    pub(crate) fn day_user_rows(
+        &self,
+        alloc: Global,
+        offset: i32,
+        until: Option<i32>,
+    ) -> Result<Vec<DayUserTime>, Memory>
+        requires { days.IsOffset offset }
+        ensures rows { IfOk result (λ rows. rows.items ≡ session_rows offset (sessions_of self.now.entries until)) }
+        ensures days { IfOk result (λ rows. All (λ row. days.IsDay row.day) rows.items) }
+    {
+        let mut changes = self.user_changes(alloc, offset, until)?;
+        let mut rows = Vec::new(alloc);
+        while let Some((at, seconds)) = changes.pop_first() {
+            let day = at.day;
+            let user = at.user;
+            if seconds > 0 {
+                rows.push(DayUserTime {
+                    day,
+                    user,
+                    seconds: seconds as u64,
+                })?;
+                add_change(&mut changes, DayUser { day: day + 1, user }, seconds)?;
+            }
+        }
+        Ok(rows)
+    }
 }

@@ -1,4 +1,4 @@
-//! Stored login records, and the stays that they tell of.
+//! Stored login records, and the stays that they make.
 use tally_records::{LoginRecord, Name, Remote};
 
 /// A stored login record of utmp(5), and the host that posted it.
@@ -8,7 +8,7 @@ pub struct Entry {
     pub item: LoginRecord,
 }
 
-/// What ended a stay, as last(1) tells it.
+/// What ended a stay, as last(1) names it.
 #[derive(Clone, Copy, Debug, PartialEq, Eq)]
 pub enum End {
     /// A logout on its line.

@@ -1,6 +1,7 @@
 //! Lists for the tests that follow no rule, and the scan that they are compared with.
 ghost use Rattle.std.specs.Prelude.{◌≡◌, ◌<◌, IfOk};
 
+use crate::entry::Entry;
 use crate::scan;
 use crate::scripts::{post_below, utmp};
 use crate::sessions::Sessions;
@@ -80,12 +81,13 @@ pub(crate) fn drawn(
 pub(crate) fn agrees(alloc: Global, sessions: &Sessions, until: Option<i32>) -> Result<bool, Fail>
     requires { sessions.now.hosts ≡ 3 }
 {
+    let entries: Vec<Entry> = sessions.entries().iter().collect(alloc)?;
     for host in 0..3 {
         let found = sessions.stays(alloc, host, None, until)?;
-        let wanted = scan::stays(alloc, sessions.entries(), host, until)?;
+        let wanted = scan::stays(alloc, &entries, host, until)?;
         if found.as_slice() != wanted.as_slice() {
             return Ok(false);
         }
     }
-    Ok(sessions.total(until) == scan::total(sessions.entries(), until))
+    Ok(sessions.total(until) == scan::total(&entries, until))
 }

@@ -1,15 +1,17 @@
 //! What one login record means for the stays and the clock of its host.
-ghost use Rattle.std.specs.Prelude.{◌≡◌, ◌<◌, ◌^◌, pos, neg_ℤ, ◌+ℤ◌, ◌≤ℤ◌};
-ghost use Rattle.tally_records.specs.Event.{event_of};
+ghost use Rattle.std.specs.Prelude.{◌≡◌, ◌<◌, ◌^◌, length, pos, neg_ℤ, ◌+ℤ◌, ◌≤ℤ◌};
 ghost use Rattle.tally_sessions.specs.Clock.{shift_at};
+ghost use Rattle.tally_sessions.specs.inside.Entries.{entry_at};
+ghost use Rattle.tally_sessions.specs.Lent.{entries_in};
 ghost use Rattle.tally_sessions.specs.Stays as stays;
-ghost use Rattle.tally_sessions.specs.Track.{counts, ends_every_stay, ends_line_stay};
-ghost use Rattle.tally_sessions.specs.Tracking.{pending_at};
+ghost use Rattle.tally_sessions.specs.inside.Track.{counts, ends_every_stay, ends_line_stay, is_login_event};
+ghost use Rattle.tally_sessions.specs.inside.Tracking.{pending_at};
 
+use crate::entries::Entries;
 use crate::entry::End;
-use tally_records::{Event, LoginRecord, Name, event};
+use tally_records::{Event, Key};
 
-/// The old time that waits for its new one, behind one record more.
+/// The old time that waits for its new one, after one record more.
 pub(crate) fn pending_behind(pending: Option<i32>, event: Event, time: i32) -> Option<i32>
     ensures { result ≡ pending_at event time pending }
 {
@@ -52,25 +54,19 @@ pub(crate) fn is_boot(event: Event) -> bool
 }
 
 pub(crate) fn is_login(event: Event) -> bool
-    ensures { result ≡ stays.is_login_event event }
+    ensures { result ≡ is_login_event event }
 {
     matches!(event, Event::Login)
 }
 
-/// Whether a record is a login.
-pub(crate) fn is_login_record(r: &LoginRecord) -> bool
-    ensures { result ≡ stays.is_login_event (event_of r.now) }
+/// Whether the record at a place is a login, of any user or of this one.
+pub(crate) fn is_counted(entries: Entries<'_>, at: usize, who: &Option<Key>) -> bool
+    requires { at < length (entries_in entries) }
+    ensures { result ≡ counts who.now (entry_at (entries_in entries.entry) at).item }
 {
-    is_login(event(r))
-}
-
-/// Whether a record is a login, of any user or of this one.
-pub(crate) fn is_counted(r: &LoginRecord, who: Option<Name>) -> bool
-    ensures { result ≡ counts who r.now }
-{
-    is_login_record(r)
+    is_login(entries.event(at))
         && match who {
-            Some(user) => r.user == user,
+            Some(user) => entries.user_key(at) == *user,
             None => true,
         }
 }

@@ -1,11 +1,8 @@
 //! Sums of seconds over sessions, one for each key.
-ghost use Rattle.std.specs.Prelude.{◌≡◌, ◌≤◌, ◌<◌, ◌+◌, ◌^◌, ℕ, List as Items, OnOk, IfOk, length, if◌then◌else◌};
-ghost use Rattle.std.specs.Cmp.Lexicographic.{slice_cmp};
-ghost use Rattle.std.specs.Ordering.{is_eq, nat_cmp};
-ghost use Rattle.tally_sessions.specs.Sums.{sum_at, seconds_of_user};
+ghost use Rattle.std.specs.Prelude.{◌≡◌, ◌<◌, ◌+◌, ◌^◌, OnOk, if◌then◌else◌};
+ghost use Rattle.std.specs.Ordering.{is_eq};
+ghost use Rattle.tally_sessions.specs.inside.Sums.{sum_at};
 
-use crate::sessions::ENTRY_LIMIT;
-use std::alloc::Global;
 use std::collections::BTreeMap;
 use tally_records::{Memory, Name};
 
@@ -38,16 +35,4 @@ pub(crate) fn add<K: Ord + Copy + Drop>(
             Ok(())
         }
     }
-}
-
-/// The sum of the lengths of each user's sessions.
-pub(crate) fn user_sums(alloc: Global, sessions: &[Session]) -> Result<BTreeMap<Name, u64>, Memory>
-    requires { length sessions.now ≤ ENTRY_LIMIT }
-    ensures { IfOk result (λ sums. (user : Items ℕ) → sum_at (slice_cmp nat_cmp) sums.entries user ≡ seconds_of_user user sessions.now) }
-{
-    let mut sums = BTreeMap::new(alloc);
-    for session in sessions {
-        add(&mut sums, session.user, u64::from(session.length))?;
-    }
-    Ok(sums)
 }

@@ -41,6 +41,19 @@ pub(crate) fn post(
     }
 }
 
+/// Posts a batch, and prints what the post answered.
+fn print_post<R: Print + AllocGlobal>(
+    rt: &R,
+    book: &mut Book,
+    caller: u32,
+    batch: Batch,
+) -> Result<(), Stopped>
+    requires { caller < book.old.callers }
+    ensures { book.new.callers ≡ book.old.callers }
+{
+    print_receipt(rt, post(rt.alloc(), book, caller, &batch)?)
+}
+
 /// Asks, and asks again where memory was refused.
 fn ask(alloc: Global, book: &mut Book, caller: u32, question: &Question) -> Result<Served, Stopped>
     requires caller { caller < book.old.callers }
@@ -151,15 +164,20 @@ fn print_parts<R: Print + AllocGlobal>(rt: &R, book: Book) -> Result<(), Stopped
     Ok(())
 }
 
-/// Prints what each call of the script answers.
+/// Prints what each call answers.
+fn print_calls<R: Print + AllocGlobal>(rt: &R, book: &mut Book) -> Result<(), Stopped>
+    requires { book.old.callers ≡ 2 }
+{
+    print_post(rt, book, 0, hour(rt.alloc())?)?;
+    report(rt, book, 1, &TOTAL)?;
+    ask_of_nobody(rt, book)?;
+    print_post(rt, book, 1, makes(rt.alloc())?)?;
+    report(rt, book, 0, &COMMANDS)
+}
+
+/// Prints what each call of the script answers, and what the book holds then.
 pub(crate) fn script<R: Print + AllocGlobal>(rt: &R, keys: RandomState) -> Result<(), Stopped> {
     let mut book = new_book(rt.alloc(), keys)?;
-    let hour = hour(rt.alloc())?;
-    let makes = makes(rt.alloc())?;
-    print_receipt(rt, post(rt.alloc(), &mut book, 0, &hour)?)?;
-    report(rt, &mut book, 1, &TOTAL)?;
-    ask_of_nobody(rt, &mut book)?;
-    print_receipt(rt, post(rt.alloc(), &mut book, 1, &makes)?)?;
-    report(rt, &mut book, 0, &COMMANDS)?;
+    print_calls(rt, &mut book)?;
     print_parts(rt, book)
 }

@@ -139,23 +139,62 @@ fn print_book<R: Print>(rt: &R, book: Book) -> Result<(), Stopped> {
     Ok(())
 }
 
-/// Prints what each call of the script answers, and how many calls a pass is told of between them.
+/// Posts a batch, and prints what the post answered.
+fn print_post<R: Print + Wait>(
+    rt: &R,
+    desk: &Desk,
+    pass: &mut Pass,
+    batch: Batch,
+) -> Result<(), Stopped>
+    requires { pass.old.desk ≡ desk.now.id }
+    ensures { pass.new.desk ≡ pass.old.desk }
+{
+    print_receipt(rt, post(rt, desk, pass, &batch)?)
+}
+
+/// Asks, and prints what was answered.
+fn print_report<R: Print + AllocGlobal + Wait>(
+    rt: &R,
+    desk: &Desk,
+    pass: &mut Pass,
+    question: &Question,
+) -> Result<(), Stopped>
+    requires desk { pass.old.desk ≡ desk.now.id }
+    requires askable { IsAskable question.now }
+    ensures { pass.new.desk ≡ pass.old.desk }
+{
+    print_served(rt, &ask(rt, rt.alloc(), desk, pass, question)?)
+}
+
+/// Prints what each call answers, and how many calls a pass learns of between them.
+fn print_calls<R: Print + AllocGlobal + Wait>(
+    rt: &R,
+    desk: &Desk,
+    first: &mut Pass,
+    second: &mut Pass,
+) -> Result<(), Stopped>
+    requires first { first.old.desk ≡ desk.now.id }
+    requires second { second.old.desk ≡ desk.now.id }
+    ensures first { first.new.desk ≡ first.old.desk }
+    ensures second { second.new.desk ≡ second.old.desk }
+{
+    print_post(rt, desk, first, hour(rt.alloc())?)?;
+    print_stored(rt, desk, second)?;
+    print_report(rt, desk, second, &TOTAL)?;
+    ask_of_nobody(rt, desk, second)?;
+    print_post(rt, desk, second, makes(rt.alloc())?)?;
+    print_stored(rt, desk, first)?;
+    print_report(rt, desk, first, &COMMANDS)?;
+    print_stored(rt, desk, first)?;
+    print_stored(rt, desk, second)
+}
+
+/// Prints what each call of the script answers, and what the closed book holds.
 pub(crate) fn script<R: Print + AllocGlobal + Wait>(
     rt: &R,
     keys: RandomState,
 ) -> Result<(), Stopped> {
-    let alloc = rt.alloc();
-    let hour = hour(alloc)?;
-    let makes = makes(alloc)?;
-    let (desk, mut first, mut second) = open(alloc, keys)?;
-    print_receipt(rt, post(rt, &desk, &mut first, &hour)?)?;
-    print_stored(rt, &desk, &mut second)?;
-    print_served(rt, &ask(rt, alloc, &desk, &mut second, &TOTAL)?)?;
-    ask_of_nobody(rt, &desk, &mut second)?;
-    print_receipt(rt, post(rt, &desk, &mut second, &makes)?)?;
-    print_stored(rt, &desk, &mut first)?;
-    print_served(rt, &ask(rt, alloc, &desk, &mut first, &COMMANDS)?)?;
-    print_stored(rt, &desk, &mut first)?;
-    print_stored(rt, &desk, &mut second)?;
-    print_book(rt, close(alloc, desk, first, second)?)
+    let (desk, mut first, mut second) = open(rt.alloc(), keys)?;
+    print_calls(rt, &desk, &mut first, &mut second)?;
+    print_book(rt, close(rt.alloc(), desk, first, second)?)
 }

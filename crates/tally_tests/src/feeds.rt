@@ -64,21 +64,61 @@ fn print_last_totals<R: Print>(rt: &R, book: &Book) -> Result<(), Stopped> {
     Ok(())
 }
 
+/// Prints what was fed.
+fn print_fed<R: Print + AllocGlobal + Wait>(
+    rt: &R,
+    desk: &Desk,
+    pass: &mut Pass,
+) -> Result<(), Stopped>
+    requires { pass.old.desk ≡ desk.now.id }
+    ensures { pass.new.desk ≡ pass.old.desk }
+{
+    let Fed { records, batches } = feed_makes(rt, rt.alloc(), desk, pass)?;
+    println!(rt; "fed: {records} records in {batches} batches")?;
+    Ok(())
+}
+
+/// Prints how many questions were answered.
+fn print_asked<R: Print + AllocGlobal + Wait>(
+    rt: &R,
+    desk: &Desk,
+    pass: &mut Pass,
+) -> Result<(), Stopped>
+    requires { pass.old.desk ≡ desk.now.id }
+    ensures { pass.new.desk ≡ pass.old.desk }
+{
+    println!(rt; "stored {}", desk.stored(pass))?;
+    let asked = ask_thrice(rt, rt.alloc(), desk, pass)?;
+    println!(rt; "asked: {asked} answers")?;
+    Ok(())
+}
+
+/// Feeds and asks after an hour was posted.
+fn print_calls<R: Print + AllocGlobal + Wait>(
+    rt: &R,
+    desk: &Desk,
+    first: &mut Pass,
+    second: &mut Pass,
+) -> Result<(), Stopped>
+    requires first { first.old.desk ≡ desk.now.id }
+    requires second { second.old.desk ≡ desk.now.id }
+    ensures first { first.new.desk ≡ first.old.desk }
+    ensures second { second.new.desk ≡ second.old.desk }
+{
+    let hour = hour(rt.alloc())?;
+    post(rt, desk, first, &hour)?;
+    print_fed(rt, desk, second)?;
+    print_asked(rt, desk, first)
+}
+
 /// Prints what was fed, how many questions were answered and what was answered. A refused round
 /// leaves those before it, so the number of calls is not printed.
 pub(crate) fn script<R: Print + AllocGlobal + Wait>(
     rt: &R,
     keys: RandomState,
 ) -> Result<(), Stopped> {
-    let alloc = rt.alloc();
-    let hour = hour(alloc)?;
-    let (desk, mut first, mut second) = open(alloc, keys)?;
-    post(rt, &desk, &mut first, &hour)?;
-    let Fed { records, batches } = feed_makes(rt, alloc, &desk, &mut second)?;
-    println!(rt; "fed: {records} records in {batches} batches")?;
-    println!(rt; "stored {}", desk.stored(&mut first))?;
-    let asked = ask_thrice(rt, alloc, &desk, &mut first)?;
-    println!(rt; "asked: {asked} answers")?;
-    let book = close(alloc, desk, first, second)?;
+    let (desk, mut first, mut second) = open(rt.alloc(), keys)?;
+    print_calls(rt, &desk, &mut first, &mut second)?;
+    let book = close(rt.alloc(), desk, first, second)?;
     print_last_totals(rt, &book)
 }

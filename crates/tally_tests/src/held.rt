@@ -3,8 +3,8 @@
 use std::alloc::Global;
 use tally_book::{Answer, Book, Call};
 use tally_records::Memory;
-use tally_sessions::Entry;
-use tally_usage::ProcEntry;
+use tally_sessions::{Entries, Entry};
+use tally_usage::{ProcEntries, ProcEntry};
 
 /// The lists and the history of a book.
 #[derive(Drop)]
@@ -47,10 +47,37 @@ fn copy_of_calls(alloc: Global, calls: &[Call]) -> Result<Vec<Call>, Memory> {
     Ok(copied)
 }
 
+/// Whether the entries are these.
+fn are_same(entries: Entries<'_>, list: &[Entry]) -> bool {
+    if entries.len() != list.len() {
+        return false;
+    }
+    for (at, entry) in list.iter().enumerate() {
+        if entries.get(at) != Some(*entry) {
+            return false;
+        }
+    }
+    true
+}
+
+/// The entries, copied.
+pub(crate) fn copy_of_entries(
+    alloc: Global,
+    entries: ProcEntries<'_>,
+) -> Result<Vec<ProcEntry>, Memory> {
+    Ok(entries.iter().collect(alloc)?)
+}
+
+/// Whether the entries are these.
+fn are_entries(entries: ProcEntries<'_>, others: &[ProcEntry]) -> bool {
+    entries.len() == others.len()
+        && (0..entries.len()).all(|place| entries.get(place) == others.get(place).copied())
+}
+
 fn copy(alloc: Global, book: &Book) -> Result<Held, Memory> {
     Ok(Held {
-        logins: Vec::from_slice(alloc, book.logins())?,
-        procs: Vec::from_slice(alloc, book.procs())?,
+        logins: book.logins().iter().collect(alloc)?,
+        procs: copy_of_entries(alloc, book.procs())?,
         calls: copy_of_calls(alloc, book.calls())?,
     })
 }
@@ -132,8 +159,8 @@ fn is_same_call(a: &Call, b: &Call) -> bool {
 /// Whether the book holds just this.
 pub(crate) fn holds(book: &Book, held: &Held) -> bool {
     let calls = held.calls.as_slice();
-    book.logins() == held.logins.as_slice()
-        && book.procs() == held.procs.as_slice()
+    are_same(book.logins(), held.logins.as_slice())
+        && are_entries(book.procs(), held.procs.as_slice())
         && book.calls().len() == calls.len()
         && book
             .calls()

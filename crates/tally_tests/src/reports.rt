@@ -1,11 +1,12 @@
 //! Every other kind of report on the records of the worked script.
+ghost use Rattle.std.specs.Prelude.{◌≡◌};
 
 use crate::book::{hour, makes, new_book, post, report};
 use crate::bytes::{login_record, logins, put};
 use crate::stopped::Stopped;
 use std::alloc::Global;
 use std::hash::RandomState;
-use tally_book::Question;
+use tally_book::{Book, Question};
 use tally_records::Batch;
 use tally_usage::Order;
 
@@ -72,29 +73,63 @@ fn night(alloc: Global) -> Result<Batch, Stopped> {
     Ok(logins(alloc, &bytes)?)
 }
 
+/// Posts the batches of both callers.
+fn post_both(alloc: Global, book: &mut Book, first: Batch, second: Batch) -> Result<(), Stopped>
+    requires { book.old.callers ≡ 2 }
+    ensures { book.new.callers ≡ 2 }
+{
+    post(alloc, book, 0, &first)?;
+    post(alloc, book, 1, &second)?;
+    Ok(())
+}
+
+/// Posts running times and a night.
+fn post_nights(alloc: Global, book: &mut Book) -> Result<(), Stopped>
+    requires { book.old.callers ≡ 2 }
+    ensures { book.new.callers ≡ 2 }
+{
+    let reboots = reboots(alloc)?;
+    post_both(alloc, book, reboots, night(alloc)?)
+}
+
+/// Posts the records of the worked script.
+fn post_work(alloc: Global, book: &mut Book) -> Result<(), Stopped>
+    requires { book.old.callers ≡ 2 }
+    ensures { book.new.callers ≡ 2 }
+{
+    let hour = hour(alloc)?;
+    post_both(alloc, book, hour, makes(alloc)?)
+}
+
+fn print_nights<R: Print + AllocGlobal>(rt: &R, book: &mut Book) -> Result<(), Stopped>
+    requires { book.old.callers ≡ 2 }
+{
+    post_nights(rt.alloc(), book)?;
+    report(rt, book, 0, &ALL_STAYS)?;
+    report(rt, book, 1, &DAYS)?;
+    report(rt, book, 1, &USERS_BY_DAY)
+}
+
+fn print_work<R: Print + AllocGlobal>(rt: &R, book: &mut Book) -> Result<(), Stopped>
+    requires { book.old.callers ≡ 2 }
+{
+    post_work(rt.alloc(), book)?;
+    report(rt, book, 0, &LAST)?;
+    report(rt, book, 0, &USERS)?;
+    report(rt, book, 0, &DAYS)?;
+    report(rt, book, 0, &USERS_BY_DAY)?;
+    report(rt, book, 1, &ALL_COMMANDS)?;
+    report(rt, book, 1, &UIDS)
+}
+
 /// Prints reports on running times and on a night.
 pub(crate) fn nights<R: Print + AllocGlobal>(rt: &R, keys: RandomState) -> Result<(), Stopped> {
     let mut book = new_book(rt.alloc(), keys)?;
-    let reboots = reboots(rt.alloc())?;
-    let night = night(rt.alloc())?;
-    post(rt.alloc(), &mut book, 0, &reboots)?;
-    post(rt.alloc(), &mut book, 1, &night)?;
-    report(rt, &mut book, 0, &ALL_STAYS)?;
-    report(rt, &mut book, 1, &DAYS)?;
-    report(rt, &mut book, 1, &USERS_BY_DAY)
+    print_nights(rt, &mut book)
 }
 
 /// Prints each report.
 pub(crate) fn script<R: Print + AllocGlobal>(rt: &R, keys: RandomState) -> Result<(), Stopped> {
     let mut book = new_book(rt.alloc(), keys)?;
-    let hour = hour(rt.alloc())?;
-    let makes = makes(rt.alloc())?;
-    post(rt.alloc(), &mut book, 0, &hour)?;
-    post(rt.alloc(), &mut book, 1, &makes)?;
-    report(rt, &mut book, 0, &LAST)?;
-    report(rt, &mut book, 0, &USERS)?;
-    report(rt, &mut book, 0, &DAYS)?;
-    report(rt, &mut book, 0, &USERS_BY_DAY)?;
-    report(rt, &mut book, 1, &ALL_COMMANDS)?;
-    report(rt, &mut book, 1, &UIDS)
+    print_work(rt, &mut book)
 }

@@ -10,13 +10,14 @@ use std::io::{self, Write};
 use std::sync::Wait;
 use std::thread::Threads;
 use tally_book::AskFault;
-use tally_cli::{Job, Report, RunFault, Source, run};
+use tally_cli::{Form, Job, Report, RunFault, Source, run};
 use tally_desk::{Bytes, FeedFault, OpenGate};
 use tally_records::Kind;
 
 /// All reports, by two feeders and beside an asker.
 const JOB: Job = Job {
     report: Report::All,
+    form: Form::Text,
     feeders: 2,
     askers: 1,
     offset: 0,

@@ -50,7 +50,7 @@ fn ask_all(alloc: Global, sessions: &Sessions) -> Result<Answers, Memory>
 {
     Ok(Answers {
         seen: seen_of(sessions),
-        entries: Vec::from_slice(alloc, sessions.entries())?,
+        entries: sessions.entries().iter().collect(alloc)?,
         of_first_host: sessions.stays(alloc, 0, None, None)?,
         of_second_host: sessions.stays(alloc, 1, None, None)?,
         by_user: sessions.connect_by_user(alloc, None)?,

@@ -3,7 +3,7 @@ ghost use Rattle.std.specs.Prelude.{◌≡◌, ◌<◌, ◌≤◌, ◌+◌, IfOk
 ghost use Rattle.tally_records.specs.Records.{IsLogins, logins_in, record_count};
 
 use crate::bytes::{login_record, logins, put};
-use crate::session_answers::{Seen, answers_of, are_same, seen_of};
+use crate::session_answers::{Answers, Seen, answers_of, are_same, seen_of};
 use crate::stopped::Stopped;
 use crate::window::{grant_growths, refuse_growths};
 use std::alloc::Global;
@@ -23,6 +23,21 @@ fn new_sessions(alloc: Global, keys: RandomState) -> Result<Sessions, Memory>
     }
 }
 
+/// Sees that a refused call left the sessions as they were.
+fn see_unchanged(
+    alloc: Global,
+    sessions: &Sessions,
+    before: Answers,
+    is_answered: bool,
+) -> Result<(), Stopped>
+    requires { sessions.now.hosts ≡ 2 }
+{
+    if is_answered || are_same(&before, &answers_of(alloc, sessions)?) {
+        return Ok(());
+    }
+    Err(Stopped::Changed("sessions"))
+}
+
 /// Makes sessions ready for a batch, and again where memory was refused.
 fn prepare(alloc: Global, sessions: &mut Sessions, host: u32, batch: &Batch) -> Result<(), Stopped>
     requires host { host < sessions.old.hosts }
@@ -33,14 +48,11 @@ fn prepare(alloc: Global, sessions: &mut Sessions, host: u32, batch: &Batch) -> 
     ensures hosts { sessions.new.hosts ≡ 2 }
 {
     let before = answers_of(alloc, sessions)?;
-    if sessions.prepare(host, batch).is_ok() {
-        return Ok(());
+    let is_ready = sessions.prepare(host, batch).is_ok();
+    see_unchanged(alloc, sessions, before, is_ready)?;
+    if !is_ready {
+        sessions.prepare(host, batch)?;
     }
-    let after = answers_of(alloc, sessions)?;
-    if !are_same(&before, &after) {
-        return Err(Stopped::Changed("sessions"));
-    }
-    sessions.prepare(host, batch)?;
     Ok(())
 }
 
@@ -116,20 +128,40 @@ fn print_both<R: Print>(rt: &R, times: &[DayUserTime]) -> Result<(), Stopped> {
     Ok(())
 }
 
-/// Prints what the sessions answer once both batches are added.
-pub(crate) fn script<R: Print + AllocGlobal>(rt: &R, keys: RandomState) -> Result<(), Stopped> {
-    let mut sessions = new_sessions(rt.alloc(), keys)?;
-    let hour = hour(rt.alloc())?;
-    let three = three(rt.alloc())?;
-    add(rt.alloc(), &mut sessions, 0, &hour)?;
-    let seen = add(rt.alloc(), &mut sessions, 1, &three)?;
+/// Adds a batch under each host.
+fn add_both(alloc: Global, sessions: &mut Sessions) -> Result<Seen, Stopped>
+    requires { sessions.old.hosts ≡ 2 }
+    ensures { sessions.new.hosts ≡ 2 }
+{
+    let hour = hour(alloc)?;
+    let three = three(alloc)?;
+    add(alloc, sessions, 0, &hour)?;
+    add(alloc, sessions, 1, &three)
+}
+
+/// Prints what takes no memory to ask.
+fn print_seen<R: Print>(rt: &R, seen: Seen) -> Result<(), Stopped> {
     println!(rt;
         "sessions: {} entries, {} and {} seconds",
         seen.entries, seen.total, seen.of_ann
     )?;
-    let answers = answers_of(rt.alloc(), &sessions)?;
+    Ok(())
+}
+
+/// Prints what the sessions answer.
+fn print_answers<R: Print + AllocGlobal>(rt: &R, sessions: &Sessions) -> Result<(), Stopped>
+    requires { sessions.now.hosts ≡ 2 }
+{
+    let answers = answers_of(rt.alloc(), sessions)?;
     print_stays(rt, answers.of_second_host.as_slice())?;
     print_users(rt, answers.by_user.as_slice())?;
     print_days(rt, answers.by_day.as_slice())?;
     print_both(rt, answers.by_both.as_slice())
+}
+
+/// Prints what the sessions answer once both batches are added.
+pub(crate) fn script<R: Print + AllocGlobal>(rt: &R, keys: RandomState) -> Result<(), Stopped> {
+    let mut sessions = new_sessions(rt.alloc(), keys)?;
+    print_seen(rt, add_both(rt.alloc(), &mut sessions)?)?;
+    print_answers(rt, &sessions)
 }

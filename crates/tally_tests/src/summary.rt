@@ -4,6 +4,7 @@ ghost use Rattle.tally_records.specs.Records.{IsProcs};
 
 use crate::book::make_bytes;
 use crate::bytes::procs;
+use crate::held::copy_of_entries;
 use crate::stopped::Stopped;
 use crate::window::{grant_growths, refuse_growths};
 use std::alloc::Global;
@@ -26,7 +27,7 @@ struct Answers {
 
 fn ask_all(alloc: Global, summary: &Summary) -> Result<Answers, Memory> {
     Ok(Answers {
-        entries: Vec::from_slice(alloc, summary.entries())?,
+        entries: copy_of_entries(alloc, summary.entries())?,
         total: summary.total(),
         by_cpu: summary.by_command(alloc, Order::Cpu, false, false)?,
         by_calls: summary.by_command(alloc, Order::Calls, true, true)?,
@@ -76,24 +77,56 @@ fn add(alloc: Global, summary: &mut Summary, host: u32, batch: &Batch) -> Result
     Ok(entries)
 }
 
-/// Prints what the summary answers once both batches are added.
-pub(crate) fn script<R: Print + AllocGlobal>(rt: &R, keys: RandomState) -> Result<(), Stopped> {
-    let alloc = rt.alloc();
-    let makes = procs(alloc, &make_bytes())?;
-    let mut summary = Summary::new(alloc, keys);
-    println!(rt; "summary: {} entries", add(alloc, &mut summary, 0, &makes)?)?;
-    println!(rt; "summary: {} entries", add(alloc, &mut summary, 1, &makes)?)?;
-    let answers = answers_of(alloc, &summary)?;
-    for row in answers.by_cpu.as_slice() {
+fn print_commands<R: Print>(rt: &R, rows: &[CommandRow]) -> Result<(), Stopped> {
+    for row in rows {
         println!(rt; "command {} {}", row.usage.count, row.usage.cpu)?;
     }
-    for row in answers.users.as_slice() {
+    Ok(())
+}
+
+fn print_users<R: Print>(rt: &R, rows: &[UidRow]) -> Result<(), Stopped> {
+    for row in rows {
         println!(rt; "uid {} {} {}", row.uid, row.usage.count, row.usage.cpu)?;
     }
+    Ok(())
+}
+
+/// Prints how many entries the summary hands out, which takes no memory.
+fn print_entries<R: Print + AllocGlobal>(rt: &R, summary: Summary) -> Result<(), Stopped> {
+    let alloc = rt.alloc();
     refuse_growths(alloc);
     let entries = summary.into_entries();
     let count = entries.len();
     grant_growths(alloc);
     println!(rt; "summary: {count} entries handed out")?;
     Ok(())
+}
+
+/// Prints what the summary answers.
+fn print_answers<R: Print + AllocGlobal>(rt: &R, summary: &Summary) -> Result<(), Stopped> {
+    let answers = answers_of(rt.alloc(), summary)?;
+    print_commands(rt, answers.by_cpu.as_slice())?;
+    print_users(rt, answers.users.as_slice())
+}
+
+/// Adds a batch under each of two hosts.
+fn print_growth<R: Print + AllocGlobal>(
+    rt: &R,
+    summary: &mut Summary,
+    batch: &Batch,
+) -> Result<(), Stopped>
+    requires { IsProcs batch.now }
+{
+    println!(rt; "summary: {} entries", add(rt.alloc(), summary, 0, batch)?)?;
+    println!(rt; "summary: {} entries", add(rt.alloc(), summary, 1, batch)?)?;
+    Ok(())
+}
+
+/// Prints what the summary answers once both batches are added.
+pub(crate) fn script<R: Print + AllocGlobal>(rt: &R, keys: RandomState) -> Result<(), Stopped> {
+    let makes = procs(rt.alloc(), &make_bytes())?;
+    let mut summary = Summary::new(rt.alloc(), keys);
+    print_growth(rt, &mut summary, &makes)?;
+    print_answers(rt, &summary)?;
+    print_entries(rt, summary)
 }

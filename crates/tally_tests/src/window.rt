@@ -1,4 +1,4 @@
-//! Stretches of a script in which the loader of `rows/growths` refuses each growth. Without it they are
+//! Stretches of a script in which the loader of `rows/tools/growths` refuses each growth. Without it they are
 //! stretches like any other.
 
 use std::alloc::Global;

@@ -1,5 +1,5 @@
 -- The rows that the table of commands gives are, once in order, the rows of the definition.
-use Rattle.std.proofs.Common.{◌≡◌, ◌<◌, ◌≤◌, ◌^◌, Bool, true, false, not, cond, ◌&&◌, List, [], ◌∷◌, ◌++◌, length, map, filter, reverse, All, refl, sym, ap, subst, ◌∙◌, inl, inr, arith, ltb, append_assoc}
+use Rattle.std.proofs.Common.{◌≡◌, ◌<◌, ◌≤◌, ◌^◌, Bool, true, false, not, cond, if◌then◌else◌, ◌&&◌, List, [], ◌∷◌, ◌++◌, length, map, filter, reverse, All, refl, sym, ap, subst, ◌∙◌, inl, inr, arith, ltb, append_assoc}
 use Rattle.std.proofs.lemmas.Bool.{false≢true, le-ltb, lt-ltb, ltb-true}
 use Rattle.std.proofs.lemmas.List.{append-nil}
 use Rattle.std.proofs.lemmas.Cmp.{and_equiv, on_equiv, on_total, then_total, back_total, nat_cmp_total, nat_list_cmp_total, nat_list_eq_equiv, eq_by_cmp_equiv}
@@ -22,12 +22,13 @@ use Rattle.tally_usage.specs.declared.command.CommandRow.{CommandRow}
 use Rattle.tally_usage.specs.declared.order.Order.{Order}
 use Rattle.tally_usage.specs.declared.usage.Usage.{Usage}
 use Rattle.tally_usage.specs.Command.{command_of, command_row, command_row_cmp, command_rows, is_same_command, is_stray, other_row, records_of_command, row_of_record}
-use Rattle.tally_usage.specs.Keys.{same_command}
+use Rattle.tally_usage.specs.inside.Keys.{same_command}
 use Rattle.tally_usage.specs.Order.{measure_of}
-use Rattle.tally_usage.specs.Rows.{is_counted, is_joined, joined_usage, others_row, own_rows, row_of_command, row_of_others}
+use Rattle.tally_usage.specs.inside.Rows.{is_counted, is_joined, joined_usage, others_row, own_rows, row_of_command, row_of_others}
 use Rattle.tally_records.specs.Sorted.{in_order}
 use Rattle.tally_usage.specs.Totals.{HasTotals}
-use Rattle.tally_usage.specs.Usage.{Fits, no_usage, plus, usage_of}
+use Rattle.tally_usage.specs.inside.Usage.{Fits}
+use Rattle.tally_usage.specs.Usage.{no_usage, plus, usage_of}
 use Rattle.tally_usage.proofs.GroupLemmas.{plus_assoc, joined_usage-cons, joined_usage-none, entry_usage, entry_of_record, in_group, joined_usage-filter, list_any-none, record_of_entry}
 use Rattle.tally_records.proofs.Members.{Member, Member-from_Contains, Contains-from_Member, Member-map, Member-from_map, Member-filter, Member-from_filter, Member-append_left, Member-append_right, Member-from_append, filter-same, length-Member, some_member}
 use Rattle.tally_usage.proofs.TotalsLemmas.{plus-none}
@@ -266,10 +267,6 @@ module _ (all : Bool) (es : List (Command × Usage)) (rs : List ProcRecord) (has
       (λ z m. to z (Member-from_Contains R z (Contains-permutation xs R z (IsPermutation-sym R xs moved) (Contains-from_Member xs z m))))
       (λ z m. Member-from_Contains xs z (Contains-permutation R xs z moved (Contains-from_Member R z (back z m))))
 
-pub command_rows-forward : (order : Order) (all : Bool) (rs : List ProcRecord) (xs : List CommandRow) → xs ≡ in_order (command_row_cmp order) (map (row_of_record all rs) rs) → xs ≡ command_rows order all false rs
+pub command_rows-turned : (order : Order) (all b : Bool) (rs : List ProcRecord) (xs : List CommandRow) → xs ≡ in_order (command_row_cmp order) (map (row_of_record all rs) rs) → (if b then reverse xs else xs) ≡ command_rows order all b rs
 unfolding command_rows
-command_rows-forward order all rs xs is = is
-
-pub command_rows-reversed : (order : Order) (all : Bool) (rs : List ProcRecord) (xs : List CommandRow) → xs ≡ in_order (command_row_cmp order) (map (row_of_record all rs) rs) → reverse xs ≡ command_rows order all true rs
-unfolding command_rows
-command_rows-reversed order all rs xs is = ap reverse is
+command_rows-turned order all b rs xs is = ap (λ (l : List CommandRow). if b then reverse l else l) is

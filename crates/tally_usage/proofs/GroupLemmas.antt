@@ -11,7 +11,7 @@ use Rattle.std.specs.Map.{keys_of, lookup}
 use Rattle.std.specs.Set.{is_member}
 use Rattle.tally_records.specs.declared.process.ProcRecord.{ProcRecord}
 use Rattle.tally_usage.specs.declared.usage.Usage.{Usage}
-use Rattle.tally_usage.specs.Rows.{joined_usage}
+use Rattle.tally_usage.specs.inside.Rows.{joined_usage}
 use Rattle.tally_usage.specs.Totals.{HasTotals, records_with}
 use Rattle.tally_usage.specs.Usage.{no_usage, plus, usage_of}
 use Rattle.tally_records.proofs.Members.{Member, Member-from_Contains, Contains-from_Member, Member-map, Member-from_map, Member-filter, Member-from_filter, some_member, length-Member, filter-same}

@@ -5,7 +5,8 @@ use Rattle.std.proofs.lemmas.List.Elements.{All-weaker, All-filter}
 use Rattle.std.proofs.lemmas.List.Sums.{sum_by-append, sum_by-le, length-filter, count_by-le-length}
 use Rattle.tally_records.specs.declared.process.ProcRecord.{ProcRecord}
 use Rattle.tally_records.specs.ProcRecord.{IsBounded}
-use Rattle.tally_usage.specs.Usage.{Fits, cpu_of, no_usage, plus, usage_of}
+use Rattle.tally_usage.specs.inside.Usage.{Fits}
+use Rattle.tally_usage.specs.Usage.{cpu_of, no_usage, plus, usage_of}
 
 pub usage_of-none : usage_of [] ≡ no_usage
 unfolding usage_of

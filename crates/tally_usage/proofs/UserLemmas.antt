@@ -1,5 +1,5 @@
 -- The rows that the table of users gives are, once in order, the rows of the definition.
-use Rattle.std.proofs.Common.{◌≡◌, ℕ, true, false, List, [], ◌∷◌, map, filter, reverse, nat_eq, sym, ap, subst, ◌∙◌, arith}
+use Rattle.std.proofs.Common.{◌≡◌, ℕ, Bool, if◌then◌else◌, true, false, List, [], ◌∷◌, map, filter, reverse, nat_eq, sym, ap, subst, ◌∙◌, arith}
 use Rattle.std.proofs.lemmas.Bool.{false≢true, lt-ltb, ltb-true, eqb-true}
 use Rattle.std.proofs.lemmas.Cmp.{on_total, then_total, back_total, nat_cmp_total, nat_eq_equiv, eq_by_cmp_equiv}
 use Rattle.std.proofs.lemmas.List.Sorted.{IsPermutation-sym, Contains-permutation}
@@ -17,7 +17,7 @@ use Rattle.tally_usage.specs.declared.order.Order.{Order}
 use Rattle.tally_usage.specs.declared.usage.Usage.{Usage}
 use Rattle.tally_usage.specs.declared.user.UidRow.{UidRow}
 use Rattle.tally_usage.specs.Order.{measure_of}
-use Rattle.tally_usage.specs.Rows.{is_counted, row_of_user}
+use Rattle.tally_usage.specs.inside.Rows.{is_counted, row_of_user}
 use Rattle.tally_records.specs.Sorted.{in_order}
 use Rattle.tally_usage.specs.Totals.{HasTotals}
 use Rattle.tally_usage.specs.Usage.{no_usage, usage_of}
@@ -93,10 +93,6 @@ module _ (es : List (ℕ × Usage)) (rs : List ProcRecord) (has : HasTotals nat_
       (λ z m. to z (Member-from_Contains rows z (Contains-permutation xs rows z (IsPermutation-sym rows xs moved) (Contains-from_Member xs z m))))
       (λ z m. Member-from_Contains xs z (Contains-permutation rows xs z moved (Contains-from_Member rows z (back z m))))
 
-pub user_rows-forward : (order : Order) (rs : List ProcRecord) (xs : List UidRow) → xs ≡ in_order (user_row_cmp order) (map (λ r. user_row rs r.uid) rs) → xs ≡ user_rows order false rs
+pub user_rows-turned : (order : Order) (b : Bool) (rs : List ProcRecord) (xs : List UidRow) → xs ≡ in_order (user_row_cmp order) (map (λ r. user_row rs r.uid) rs) → (if b then reverse xs else xs) ≡ user_rows order b rs
 unfolding user_rows
-user_rows-forward order rs xs is = is
-
-pub user_rows-reversed : (order : Order) (rs : List ProcRecord) (xs : List UidRow) → xs ≡ in_order (user_row_cmp order) (map (λ r. user_row rs r.uid) rs) → reverse xs ≡ user_rows order true rs
-unfolding user_rows
-user_rows-reversed order rs xs is = ap reverse is
+user_rows-turned order b rs xs is = ap (λ (l : List UidRow). if b then reverse l else l) is

@@ -1,12 +1,11 @@
 -- Worked examples, computed by the definitions.
-use Rattle.std.proofs.Common.{◌≡◌, ℕ, List, [], ◌∷◌, ◌++◌, map, true, false, refl}
+use Rattle.std.proofs.Common.{◌≡◌, ℕ, List, [], ◌∷◌, map, true, false, refl}
 use Rattle.std.specs.Prelude.{codes}
 use Rattle.tally_records.specs.declared.process.ProcRecord.{ProcRecord}
 use Rattle.tally_records.specs.Sorted.{in_order, insert_in_order}
 use Rattle.tally_records.specs.Text.{padded}
 use Rattle.tally_usage.specs.declared.command.CommandRow.{CommandRow}
 use Rattle.tally_usage.specs.declared.usage.Usage.{Usage}
-use Rattle.tally_usage.specs.declared.user.UidRow.{UidRow}
 use Rattle.tally_usage.specs.declared.order.Order.TheVariants.{Cpu, Calls}
 use Rattle.tally_usage.specs.Command.{command_rows, is_printable}
 use Rattle.tally_usage.specs.Usage.{usage_of}

@@ -1,10 +1,9 @@
 pub mod Command
-pub mod Keys
+pub mod Entries
 pub mod Laws
 pub mod Order
-pub mod Rows
-pub mod Sound
 pub mod Summary
 pub mod Totals
 pub mod Usage
 pub mod User
+pub mod inside

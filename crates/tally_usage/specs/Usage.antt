@@ -1,5 +1,5 @@
 -- What a list of process records used: its count and its sums.
-use Rattle.std.specs.Prelude.{ℕ, ◌+◌, ◌*◌, ◌<◌, ◌^◌, List, length, sum_by}
+use Rattle.std.specs.Prelude.{ℕ, ◌+◌, ◌*◌, List, length, sum_by}
 use Rattle.tally_records.specs.declared.process.ProcRecord.{ProcRecord}
 use Rattle.tally_usage.specs.declared.usage.Usage.{Usage}
 
@@ -29,11 +29,3 @@ plus u v = record {
   io = u.io + v.io;
   mem_cpu = u.mem_cpu + v.mem_cpu;
 }
-
--- each number is within its type
-pub record Fits (u : Usage) : Type 0 where
-  pub count : u.count < 2 ^ 64
-  pub real : u.real < 2 ^ 128
-  pub cpu : u.cpu < 2 ^ 64
-  pub io : u.io < 2 ^ 64
-  pub mem_cpu : u.mem_cpu < 2 ^ 128

@@ -3,6 +3,7 @@
 
 mod command;
 mod entry;
+mod entry_iter;
 mod group;
 mod laws;
 mod order;
@@ -12,7 +13,8 @@ mod usage;
 mod user;
 
 pub use command::CommandRow;
-pub use entry::{ENTRY_LIMIT, ProcEntry};
+pub use entry::{ENTRY_LIMIT, ProcEntries, ProcEntry, ProcList};
+pub use entry_iter::ProcEntryIter;
 pub use laws::{record_order_is_free, records_have_rows, rows_ascend};
 pub use order::Order;
 pub use summary::Summary;

@@ -1,29 +1,31 @@
 //! The sums of each command and of each user over the stored process records.
-ghost use Rattle.std.specs.Prelude.{◌≡◌, ◌+◌, ◌≤◌, [], ◌++◌, None, Some, IfOk, OnOk, OnErr, length, vec_len, vec_capacity};
+ghost use Rattle.std.specs.Prelude.{◌≡◌, ◌+◌, ◌≤◌, [], ◌++◌, None, Some, IfOk, OnOk, OnErr, if◌then◌else◌, length, reverse, vec_len, vec_capacity};
 ghost use Rattle.tally_records.specs.Records.{IsProcs, procs_in, record_count};
 ghost use Rattle.tally_usage.specs.Command.{command_rows};
+ghost use Rattle.tally_usage.specs.Entries.{entries_in};
+ghost use Rattle.tally_usage.specs.inside.Entries.{kept_of};
 ghost use Rattle.tally_usage.specs.Summary.{entries_of};
 ghost use Rattle.tally_usage.specs.Totals.{records_of};
 ghost use Rattle.tally_usage.specs.Usage.{usage_of};
 ghost use Rattle.tally_usage.specs.User.{user_rows};
 
 use crate::command::{self, Command, CommandRow};
-use crate::entry::{ENTRY_LIMIT, ProcEntry};
+use crate::entry::{ENTRY_LIMIT, KeptProc, ProcEntries, ProcList};
 use crate::order::Order;
-use crate::table::{count_entries, count_total};
+use crate::table::count_entries;
 use crate::usage::Usage;
 use crate::user::{self, UidRow};
 use indexmap::IndexMap;
 use std::alloc::Global;
 use std::hash::RandomState;
 use std::marker::Model;
-use tally_records::{Batch, List, Memory};
+use tally_records::{Batch, Guesses, List, Memory, PackedProc};
 
 /// The stored process records, with the sums of each command, of each user and of all.
 #[derive(Drop)]
 pub struct Summary {
-    /// The stored entries, and behind them those that `prepare` has placed for `add`.
-    entries: Vec<ProcEntry>,
+    /// The stored entries, and after them those that `prepare` has placed for `add`.
+    kept: Vec<KeptProc>,
     /// How many entries are stored.
     stored: usize,
     /// The host that the summary is ready for.
@@ -31,6 +33,8 @@ pub struct Summary {
     commands: IndexMap<Command, Usage, RandomState>,
     users: IndexMap<u32, Usage, RandomState>,
     total: Usage,
+    command_guesses: Guesses,
+    user_guesses: Guesses,
 }
 
 impl Model for Summary {
@@ -38,7 +42,7 @@ impl Model for Summary {
 
     ghost Value = { Contents };
 
-    ghost use Rattle.tally_usage.specs.Sound.{contents_of, IsSound};
+    ghost use Rattle.tally_usage.specs.inside.Sound.{contents_of, IsSound};
 
     ghost view = { contents_of };
 
@@ -52,12 +56,14 @@ impl Summary {
         ensures ready { result.ready ≡ None }
     {
         Summary {
-            entries: Vec::new(alloc),
+            kept: Vec::new(alloc),
             stored: 0,
             ready: None,
             commands: IndexMap::with_hasher(alloc, keys),
             users: IndexMap::with_hasher(alloc, keys),
             total: Usage::none(),
+            command_guesses: Guesses::new(alloc),
+            user_guesses: Guesses::new(alloc),
         }
     }
 
@@ -71,13 +77,15 @@ impl Summary {
             (self.new.ready ≡ Some (record { host = host; records = procs_in batch.now })) }
         ensures refused { OnErr result (self.new.ready ≡ None) }
     {
-        self.entries.truncate(self.stored);
+        self.kept.truncate(self.stored);
         self.ready = None;
         let count = batch.len();
-        self.entries.reserve(count)?;
+        self.kept.reserve(count)?;
         self.commands.reserve(count)?;
         self.users.reserve(count)?;
-        place_records(&mut self.entries, host, batch);
+        self.command_guesses.make_room()?;
+        self.user_guesses.make_room()?;
+        place_records(&mut self.kept, host, batch.packed_procs());
         self.ready = Some(host);
         Ok(())
     }
@@ -89,35 +97,43 @@ impl Summary {
         ensures entries { self.new.entries ≡ self.old.entries ++ entries_of host (procs_in batch.now) }
         ensures ready { self.new.ready ≡ None }
     {
-        let entries = self.entries.as_slice();
-        count_entries(&mut self.commands, entries, self.stored);
-        count_entries(&mut self.users, entries, self.stored);
-        count_total(&mut self.total, entries, self.stored);
-        self.stored = self.entries.len();
+        let entries = self.kept.as_slice();
+        count_entries(
+            &mut self.commands,
+            &mut self.users,
+            &mut self.total,
+            &mut self.command_guesses,
+            &mut self.user_guesses,
+            entries,
+            self.stored,
+        );
+        self.stored = self.kept.len();
         self.ready = None;
     }
 
     /// The stored entries, in the order in which they were added.
-    pub fn entries(&self) -> &[ProcEntry]
-        ensures value { result.now ≡ self.now.entries }
+    pub fn entries(&self) -> ProcEntries<'_>
+        ensures value { entries_in result ≡ self.now.entries }
     {
-        &self.entries.as_slice()[..self.stored]
+        ProcEntries::of(&self.kept.as_slice()[..self.stored])
     }
 
     /// The stored entries, by value.
-    pub fn into_entries(self) -> Vec<ProcEntry>
-        ensures value { result.items ≡ self.entries }
+    pub fn into_entries(self) -> ProcList
+        ensures value { result ≡ self.entries }
     {
         let Summary {
-            mut entries,
+            mut kept,
             stored,
             ready: _,
             commands: _,
             users: _,
             total: _,
+            command_guesses: _,
+            user_guesses: _,
         } = self;
-        entries.truncate(stored);
-        entries
+        kept.truncate(stored);
+        ProcList::of(kept)
     }
 
     /// The rows by command, as sa(8) sums them: the greatest number first, or last where `reverse`.
@@ -135,10 +151,7 @@ impl Summary {
         let mut rows = Vec::with_capacity(alloc, self.commands.len() + 1)?;
         command::push_rows(&mut rows, &self.commands, all)?;
         rows.sort_unstable_by(|a, b| command::compare(order, a, b));
-        if reverse {
-            rows.reverse();
-        }
-        Ok(List::from_vec(rows))
+        turned(alloc, rows, reverse)
     }
 
     /// The rows by user: the greatest number first, or last where `reverse`.
@@ -153,10 +166,7 @@ impl Summary {
     {
         let mut rows = user::rows_of(alloc, &self.users)?;
         rows.sort_unstable_by(|a, b| user::compare(order, a, b));
-        if reverse {
-            rows.reverse();
-        }
-        Ok(List::from_vec(rows))
+        turned(alloc, rows, reverse)
     }
 
     /// What all stored records used.
@@ -167,14 +177,22 @@ impl Summary {
     }
 }
 
-/// Places the batch's records behind the entries, in the room that there is.
-fn place_records(entries: &mut Vec<ProcEntry>, host: u32, batch: &Batch)
-    requires kind { IsProcs batch.now }
-    requires room { vec_len entries.old + record_count batch.now ≤ vec_capacity entries.old }
-    ensures { entries.new.items ≡ entries.old.items ++ entries_of host (procs_in batch.now) }
+/// The rows in their order, or in the opposite one.
+fn turned<T: Copy>(alloc: Global, mut rows: Vec<T>, is_opposite: bool) -> Result<List<T>, Memory>
+    ensures { IfOk result (λ turned. turned ≡ if is_opposite then reverse rows.items else rows.items) }
 {
-    for i in 0..batch.len() {
-        let item = batch.proc_at(i).unwrap();
-        entries.push(ProcEntry { host, item }).unwrap();
+    if is_opposite {
+        rows.reverse();
+    }
+    List::from_vec(alloc, rows)
+}
+
+/// Places the records after the entries, in the room that there is.
+fn place_records(kept: &mut Vec<KeptProc>, host: u32, records: &[PackedProc])
+    requires { vec_len kept.old + length records.now ≤ vec_capacity kept.old }
+    ensures { kept.new.items ≡ kept.old.items ++ kept_of host records.now }
+{
+    for item in records {
+        kept.push_reserved(KeptProc { host, item: *item });
     }
 }

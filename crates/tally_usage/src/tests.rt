@@ -266,7 +266,8 @@ fn entries_are_the_batches_in_order(rt: HostRuntime) -> Result<(), Fail> {
     let shown = summary.entries().len();
     let entries = summary.into_entries();
     assert!(rt; shown == 9 && entries.len() == 9);
-    for (i, entry) in entries.as_slice().iter().enumerate() {
+    for i in 0..entries.len() {
+        let entry = entries.get(i).ok_or("an entry at each place")?;
         let host = if i / 3 == 1 { 4_294_967_295 } else { 1 };
         let flag = if i % 3 == 0 { 0 } else { 1 };
         assert!(rt; entry.host == host && entry.item.flag == flag, "at {i}");

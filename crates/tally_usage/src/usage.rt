@@ -1,7 +1,8 @@
 //! Counts and sums over process records.
 ghost use Rattle.std.specs.Prelude.{◌≡◌, [], ◌∷◌};
 ghost use Rattle.tally_records.specs.ProcRecord.{IsBounded};
-ghost use Rattle.tally_usage.specs.Usage.{Fits, no_usage, plus, usage_of};
+ghost use Rattle.tally_usage.specs.inside.Usage.{Fits};
+ghost use Rattle.tally_usage.specs.Usage.{no_usage, plus, usage_of};
 
 use tally_records::ProcRecord;
 
@@ -35,6 +36,7 @@ impl Usage {
     }
 
     /// What one record used.
+    #[tactic(auto, unfolding(crate::specs::Usage::usage_of))]
     pub(crate) fn of(process: &ProcRecord) -> Usage
         requires { IsBounded process.now }
         ensures { result ≡ usage_of (process.now ∷ []) }

@@ -27,6 +27,16 @@ fn add(usage: &mut Usage, process: &ProcRecord) {
     usage.mem_cpu = usage.mem_cpu.saturating_add(mem_cpu);
 }
 
+/// The stored entries.
+fn entries_of(alloc: Global, summary: &Summary) -> Result<Vec<ProcEntry>, Fail> {
+    let stored = summary.entries();
+    let mut entries = Vec::new(alloc);
+    for i in 0..stored.len() {
+        entries.push(stored.get(i).ok_or("an entry at each place")?)?;
+    }
+    Ok(entries)
+}
+
 fn total_of(entries: &[ProcEntry]) -> Usage {
     let mut usage = NONE;
     for entry in entries {
@@ -131,8 +141,9 @@ fn expect_filtered(
     summary: &Summary,
     order: Order,
 ) -> Result<(), Fail> {
+    let entries = entries_of(alloc, summary)?;
     for all in [false, true] {
-        let mut rows = command_rows(alloc, summary.entries(), order, all)?;
+        let mut rows = command_rows(alloc, entries.as_slice(), order, all)?;
         let found = commands_of(alloc, summary, order, [all, false])?;
         assert!(rt; found.as_slice() == rows.as_slice());
         rows.reverse();
@@ -148,7 +159,8 @@ fn expect_filtered_users(
     summary: &Summary,
     order: Order,
 ) -> Result<(), Fail> {
-    let mut rows = user_rows(alloc, summary.entries(), order)?;
+    let entries = entries_of(alloc, summary)?;
+    let mut rows = user_rows(alloc, entries.as_slice(), order)?;
     let found = users_of(alloc, summary, order, false)?;
     assert!(rt; found.as_slice() == rows.as_slice());
     rows.reverse();
@@ -188,7 +200,8 @@ fn answers_are_those_of_plain_filters(rt: HostRuntime) -> Result<(), Fail> {
         for count in [0, 1, 2, 4, 9] {
             let records = generated(rt.alloc(), seed, count)?;
             post(&rt, rt.alloc(), &mut summary, seed, records.as_slice())?;
-            assert!(rt; summary.total() == total_of(summary.entries()));
+            let entries = entries_of(rt.alloc(), &summary)?;
+            assert!(rt; summary.total() == total_of(entries.as_slice()));
             for order in [Order::Cpu, Order::Calls] {
                 expect_filtered(&rt, rt.alloc(), &summary, order)?;
                 expect_filtered_users(&rt, rt.alloc(), &summary, order)?;

@@ -1,6 +1,6 @@
 use Rattle.std.specs.Prelude.{◌≡◌, length, map, take}
 use Rattle.std.specs.List.{All}
-use Rattle.tally_cli.specs.Deals.{IsReadable}
+use Rattle.tally_cli.specs.Runs.{IsReadable}
 use Rattle.tally.proofs.opened.open_all.Given as goal
 
 abbrev pub invariant-loop-at : goal.invariant-loop-at

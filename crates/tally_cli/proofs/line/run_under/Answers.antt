@@ -1,16 +1,12 @@
-use Rattle.std.proofs.Common.{◌∙◌, Some, inr}
+use Rattle.std.proofs.Common.{ap, arith, length}
 use Rattle.std.proofs.lemmas.Result.{err_from_is_err_and}
-use Rattle.clap.specs.Words.{found_of, rows_of}
-use Rattle.tally_cli.proofs.LineLemmas.{file_fault, incomplete, no_file_words, no_texts, run_found, some_file_words}
+use Rattle.clap.specs.Words.{Text, found_of, rows_of}
+use Rattle.tally_cli.proofs.LineLemmas.{file_fault, no_file_words, run_found, some_file_words}
 use Rattle.tally_cli.proofs.line.run_under.Goals as goal
 
-pub returns-in_default-get_raw-clause-err : goal.returns-in_default-get_raw-clause-err
-returns-in_default-get_raw-clause-err c =
-    incomplete (Some (c.args.name.now, rows_of (found_of c.args.matches.now))) _ (inr (no_file_words (found_of c.args.matches.now) c.in_default-get_raw.ensures)) c.usage-in_default-get_raw.ensures.kind
-
-pub returns-then-is_empty-clause-err : goal.returns-then-is_empty-clause-err
-returns-then-is_empty-clause-err c =
-    incomplete (Some (c.args.name.now, rows_of (found_of c.args.matches.now))) _ (inr (some_file_words (found_of c.args.matches.now) c.in-Some-get_raw.words.now c.in-Some-get_raw.ensures ∙ no_texts _ c.if-is_empty.ensures)) c.usage-then-is_empty.ensures.kind
+pub unreachable-requires-in_default-get_raw : goal.unreachable-requires-in_default-get_raw
+unreachable-requires-in_default-get_raw c =
+    absurd (omega (arith, c.requires.file, ap (length {A = Text}) (no_file_words (found_of c.args.matches.now) c.in_default-get_raw.ensures)))
 
 pub returns-in_err-files-clause-err : goal.returns-in_err-files-clause-err
 returns-in_err-files-clause-err c =
@@ -20,4 +16,4 @@ returns-in_err-files-clause-err c =
 pub returns-clause-ok : goal.returns-clause-ok
 returns-clause-ok c =
     run_found c.args.name.now (rows_of (found_of c.args.matches.now)) _ c.in-Some-get_raw.words.now _ _ c.in-Some.ensures.named (some_file_words (found_of c.args.matches.now) c.in-Some-get_raw.words.now c.in-Some-get_raw.ensures)
-    c.if-is_empty.ensures c.job_from-job.ensures.report c.job_from-job.ensures.runnable c.job_from-job.ensures.few c.job_from-job.ensures.asked c.in_ok-files.ensures.ok
+    c.requires.file c.job_from-job.ensures.report c.job_from-job.ensures.runnable c.job_from-job.ensures.few c.job_from-job.ensures.asked c.job_from-job.ensures.form c.in_ok-files.ensures.ok

@@ -1,17 +1,18 @@
 use Rattle.std.proofs.Common.{◌∙◌, ℕ, ap, arith, subst, sym}
 use Rattle.tally_desk.specs.Passes.{PassState, first_pass}
 use Rattle.tally_cli.proofs.Ended.{ended_of, few, good_all, same_hosts}
-use Rattle.tally_cli.proofs.Failing.{allowed, can_fail_at, cause_is, named}
+use Rattle.tally_cli.proofs.Failing.{allowed, can_fail_at, cause_is, full_list, named}
 use Rattle.tally_cli.proofs.FirstPasses.{first_at, first_count}
 use Rattle.tally_cli.proofs.Outcomes.{IsBefore}
-use Rattle.tally_cli.specs.Runs.{IsAllowed, IsNamed, IsReadCause}
+use Rattle.tally_cli.specs.Runs.{IsAllowed, IsFullList, IsNamed}
+use Rattle.tally_cli.specs.inside.RunSteps.{IsReadCause}
 use Rattle.tally_cli.proofs.running.feed_all.Goals as goal
 
 pub work_through-requires-clause-callers : goal.work_through-requires-clause-callers
 work_through-requires-clause-callers g c κs within =
     let opened = c.in_ok-desk.ensures.opened in
     let count = first_count c.in_ok-desk.passes.items (first_pass c.in_ok-desk.desk.id _) _ opened.1 in
-    (opened.0 ∙ sym count, omega (arith, opened.0, c.in_ok-desk.ensures.few))
+    (opened.0 ∙ sym count, omega (arith, opened.0, c.requires.few))
 
 pub work_through-requires-clause-desk : goal.work_through-requires-clause-desk
 work_through-requires-clause-desk g c κs within =
@@ -31,13 +32,13 @@ pub work_through-requires-clause-sources : goal.work_through-requires-clause-sou
 work_through-requires-clause-sources g c =
     let opened = c.in_ok-desk.ensures.opened in
     let count = first_count c.in_ok-desk.passes.items (first_pass c.in_ok-desk.desk.id _) _ opened.1 in
-    omega (arith, count, c.len.ensures, c.args.sources.ok.0)
+    omega (arith, count, c.requires.callers)
 
 pub returns-in-None-clause-whole : goal.returns-in-None-clause-whole
 returns-in-None-clause-whole g c = λ inputs tell.
     let opened = c.in_ok-desk.ensures.opened in
     let book = c.in_ok-book.ensures in
-    let ended = ended_of c.in_ok-desk.desk.id _ c.in_ok-desk.passes.items opened.1 (book.callers ∙ opened.0) (omega (arith, c.len.ensures, c.args.sources.ok.0)) book.legal (c.entries_are_posts.ensures c.in_ok-book.book book.legal) book.worked in
+    let ended = ended_of c.in_ok-desk.desk.id _ c.in_ok-desk.passes.items opened.1 (book.callers ∙ opened.0) (omega (arith, c.requires.callers)) book.legal (c.entries_are_posts.ensures c.in_ok-book.book book.legal) book.worked in
     let before : (k : ℕ) → IsBefore k c.in_ok-book.failure = λ k. subst (IsBefore k) (sym c.in-None.is) tt in
     record { good = good_all ended inputs tell before; same = same_hosts ended inputs tell before }
 
@@ -45,27 +46,27 @@ pub returns-in-None-clause-calls : goal.returns-in-None-clause-calls
 returns-in-None-clause-calls g c =
     let opened = c.in_ok-desk.ensures.opened in
     let book = c.in_ok-book.ensures in
-    few (ended_of c.in_ok-desk.desk.id _ c.in_ok-desk.passes.items opened.1 (book.callers ∙ opened.0) (omega (arith, c.len.ensures, c.args.sources.ok.0)) book.legal (c.entries_are_posts.ensures c.in_ok-book.book book.legal) book.worked)
+    few (ended_of c.in_ok-desk.desk.id _ c.in_ok-desk.passes.items opened.1 (book.callers ∙ opened.0) (omega (arith, c.requires.callers)) book.legal (c.entries_are_posts.ensures c.in_ok-book.book book.legal) book.worked)
 
 pub returns-in-Some-clause-cause : goal.returns-in-Some-clause-cause
 returns-in-Some-clause-cause g c = λ inputs tell.
     let opened = c.in_ok-desk.ensures.opened in
     let book = c.in_ok-book.ensures in
-    let ended = ended_of c.in_ok-desk.desk.id _ c.in_ok-desk.passes.items opened.1 (book.callers ∙ opened.0) (omega (arith, c.len.ensures, c.args.sources.ok.0)) book.legal (c.entries_are_posts.ensures c.in_ok-book.book book.legal) book.worked in
+    let ended = ended_of c.in_ok-desk.desk.id _ c.in_ok-desk.passes.items opened.1 (book.callers ∙ opened.0) (omega (arith, c.requires.callers)) book.legal (c.entries_are_posts.ensures c.in_ok-book.book book.legal) book.worked in
     subst (IsReadCause inputs) (sym c.fault_of.ensures.value) (cause_is ended c.in-Some.failure c.in-Some.is inputs tell)
 
 pub returns-in-Some-clause-read : goal.returns-in-Some-clause-read
 returns-in-Some-clause-read g c = λ host is s.
     let opened = c.in_ok-desk.ensures.opened in
     let book = c.in_ok-book.ensures in
-    let ended = ended_of c.in_ok-desk.desk.id _ c.in_ok-desk.passes.items opened.1 (book.callers ∙ opened.0) (omega (arith, c.len.ensures, c.args.sources.ok.0)) book.legal (c.entries_are_posts.ensures c.in_ok-book.book book.legal) book.worked in
+    let ended = ended_of c.in_ok-desk.desk.id _ c.in_ok-desk.passes.items opened.1 (book.callers ∙ opened.0) (omega (arith, c.requires.callers)) book.legal (c.entries_are_posts.ensures c.in_ok-book.book book.legal) book.worked in
     can_fail_at ended c.in-Some.failure c.in-Some.is host (sym c.fault_of.ensures.value ∙ is) s
 
 pub returns-in-Some-clause-allowed : goal.returns-in-Some-clause-allowed
 returns-in-Some-clause-allowed g c =
     let opened = c.in_ok-desk.ensures.opened in
     let book = c.in_ok-book.ensures in
-    let ended = ended_of c.in_ok-desk.desk.id _ c.in_ok-desk.passes.items opened.1 (book.callers ∙ opened.0) (omega (arith, c.len.ensures, c.args.sources.ok.0)) book.legal (c.entries_are_posts.ensures c.in_ok-book.book book.legal) book.worked in
+    let ended = ended_of c.in_ok-desk.desk.id _ c.in_ok-desk.passes.items opened.1 (book.callers ∙ opened.0) (omega (arith, c.requires.callers)) book.legal (c.entries_are_posts.ensures c.in_ok-book.book book.legal) book.worked in
     subst (IsAllowed _) (sym c.fault_of.ensures.value) (allowed ended c.in-Some.failure c.in-Some.is _)
 
 pub returns-in-Some-clause-named : goal.returns-in-Some-clause-named
@@ -73,6 +74,13 @@ returns-in-Some-clause-named g c =
     let opened = c.in_ok-desk.ensures.opened in
     let book = c.in_ok-book.ensures in
     let passes = c.in_ok-desk.passes.items in
-    let ended = ended_of c.in_ok-desk.desk.id _ passes opened.1 (book.callers ∙ opened.0) (omega (arith, c.len.ensures, c.args.sources.ok.0)) book.legal (c.entries_are_posts.ensures c.in_ok-book.book book.legal) book.worked in
+    let ended = ended_of c.in_ok-desk.desk.id _ passes opened.1 (book.callers ∙ opened.0) (omega (arith, c.requires.callers)) book.legal (c.entries_are_posts.ensures c.in_ok-book.book book.legal) book.worked in
     let count = first_count passes (first_pass c.in_ok-desk.desk.id _) _ opened.1 in
-    subst (IsNamed _ _) (sym c.fault_of.ensures.value) (named ended c.in-Some.failure c.in-Some.is _ (omega (arith, count, c.len.ensures, c.args.sources.ok.0)))
+    subst (IsNamed _ _) (sym c.fault_of.ensures.value) (named ended c.in-Some.failure c.in-Some.is _ (omega (arith, count, c.requires.callers)))
+
+pub returns-in-Some-clause-full : goal.returns-in-Some-clause-full
+returns-in-Some-clause-full g c =
+    let opened = c.in_ok-desk.ensures.opened in
+    let book = c.in_ok-book.ensures in
+    let ended = ended_of c.in_ok-desk.desk.id _ c.in_ok-desk.passes.items opened.1 (book.callers ∙ opened.0) (omega (arith, c.requires.callers)) book.legal (c.entries_are_posts.ensures c.in_ok-book.book book.legal) book.worked in
+    subst (IsFullList c.args.sources.items) (sym c.fault_of.ensures.value) (full_list ended c.in-Some.failure c.in-Some.is)

@@ -1,11 +1,9 @@
-use Rattle.std.proofs.Common.{◌∙◌, ◌++◌, FitsSigned, ap, arith, length, map, rules, subst, sym, w32}
-use Rattle.std.proofs.lemmas.Int.{to_z-of_z}
+use Rattle.std.proofs.Common.{◌∙◌, ◌++◌, ap, arith, length, subst, sym}
 use Rattle.std.proofs.lemmas.Result.{on_ok_weaker}
 use Rattle.std.specs.List.{All}
 use Rattle.tally_book.specs.Answers.{IsAskable, NamesHostBelow}
-use Rattle.tally_print.specs.AnswerText.{answer_text}
 use Rattle.tally_print.specs.Output.{AppendsPrefix}
-use Rattle.tally_cli.specs.Output.{sections}
+use Rattle.tally_cli.specs.Output.{form_text}
 use Rattle.tally_cli.proofs.Asked.{all_questions, question_count, report_is}
 use Rattle.tally_cli.proofs.running.report.Goals as goal
 
@@ -31,16 +29,13 @@ answers_to-requires-clause-room g c =
 pub returns-clause-prefix : goal.returns-clause-prefix
 returns-clause-prefix g c = λ tells.
     let job = c.args.job.now in
-    let offset : FitsSigned w32 c.args.job.now.offset = search rules in
-    let is = ap (λ l. sections (map (λ a. answer_text a job.offset job.until) l)) c.as_slice-2.ensures.value
+    let is = ap (form_text job.form job.report job.offset job.until) c.as_slice-2.ensures.value
     ∙ report_is job c.args.kinds.now c.as_slice.result.now c.in_ok-answers.answers.items c.args.book.logins c.args.book.procs (c.as_slice.ensures.value ∙ c.in_ok-questions.ensures) c.in_ok-answers.ensures.value in
-    subst (AppendsPrefix (g.O.Output.written c.args.out.now) (g.O.Output.written c.print_sections.new.out)) is (simp to_z-of_z at (c.print_sections.ensures.prefix tells))
+    subst (AppendsPrefix (g.O.Output.written c.args.out.now) (g.O.Output.written c.print_answers.new.out)) is (c.print_answers.ensures.prefix tells)
 
 pub returns-clause-ok : goal.returns-clause-ok
 returns-clause-ok g c =
     let job = c.args.job.now in
-    let offset : FitsSigned w32 c.args.job.now.offset = search rules in
-    let printed = simp to_z-of_z at c.print_sections.ensures.ok in
-    let is = ap (λ l. sections (map (λ a. answer_text a job.offset job.until) l)) c.as_slice-2.ensures.value
+    let is = ap (form_text job.form job.report job.offset job.until) c.as_slice-2.ensures.value
     ∙ report_is job c.args.kinds.now c.as_slice.result.now c.in_ok-answers.answers.items c.args.book.logins c.args.book.procs (c.as_slice.ensures.value ∙ c.in_ok-questions.ensures) c.in_ok-answers.ensures.value in
-    on_ok_weaker c.print_sections.result (λ written tells. written tells ∙ ap (λ l. g.O.Output.written c.args.out.now ++ l) is) printed
+    on_ok_weaker c.print_answers.result (λ written tells. written tells ∙ ap (λ l. g.O.Output.written c.args.out.now ++ l) is) c.print_answers.ensures.ok

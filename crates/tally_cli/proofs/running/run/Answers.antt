@@ -1,7 +1,7 @@
 use Rattle.std.proofs.Common.{◌∙◌, ◌++◌, ap, map, subst, sym}
 use Rattle.std.specs.Prelude.{IsTrue}
 use Rattle.tally_print.specs.Output.{AppendsPrefix}
-use Rattle.tally_cli.specs.declared.sources.Source.{Source}
+use Rattle.tally_cli.specs.declared.running.source.Source.{Source}
 use Rattle.tally_cli.proofs.Reported.{kinds_told, on_ok_always, report_same, whole_prefix}
 use Rattle.tally_cli.proofs.running.run.Goals as goal
 

@@ -2,8 +2,8 @@ use Rattle.std.proofs.Common.{arith}
 use Rattle.std.proofs.lemmas.List.Elements.{All-contains, All-weaker}
 use Rattle.std.specs.List.{Contains, flat_map}
 use Rattle.tally_desk.specs.Passes.{HasDone, PassState, Stands}
-use Rattle.tally_cli.specs.declared.task.Task.{Task}
-use Rattle.tally_cli.specs.Tasks.{AreReady}
+use Rattle.tally_cli.specs.declared.running.task.Task.{Task}
+use Rattle.tally_cli.specs.inside.Tasks.{AreReady}
 use Rattle.tally_cli.proofs.Carried.{AreWorked, all_explained, all_unmap, carried_out, flat_count, same_desk, same_sum}
 use Rattle.tally_cli.proofs.running.work_through.Goals as goal
 

@@ -1,8 +1,9 @@
 use Rattle.std.proofs.Common.{refl, ℕ, ◌≡◌, ◌+◌, ◌-◌, ◌<◌, [], ◌∷◌, ◌++◌, map, List, sym, ap, ◌∙◌, arith, append_assoc}
 use Rattle.std.specs.List.{range_with_len}
-use Rattle.tally_desk.specs.declared.view.Known.{Known}
-use Rattle.tally_desk.specs.Views.{newcomer, newcomers}
-use Rattle.tally_desk.specs.Seats.{standing}
+use Rattle.tally_desk.specs.declared.lock.view.Known.{Known}
+use Rattle.tally_desk.specs.Callers.{newcomer}
+use Rattle.tally_desk.specs.inside.Views.{newcomers}
+use Rattle.tally_desk.specs.inside.Seats.{standing}
 use Rattle.tally_desk.specs.Passes.{PassState, first_pass, pass_of}
 use Rattle.tally_desk.proofs.Deals.{first_left, newcomer_sound}
 use Rattle.tally_desk.proofs.desk.deal_all.Goals as goal

@@ -2,8 +2,8 @@ use Rattle.std.proofs.Common.{◌≡◌, ℕ, ◌+◌, ◌≤◌, ◌++◌, map,
 use Rattle.std.specs.List.{range_with_len}
 use Rattle.std.specs.Vec.{vec_capacity}
 use Rattle.tally_desk.specs.Passes.{first_pass, first_passes}
-use Rattle.tally_desk.specs.Views.{newcomers}
-use Rattle.tally_desk.specs.Seats.{standing}
+use Rattle.tally_desk.specs.inside.Views.{newcomers}
+use Rattle.tally_desk.specs.inside.Seats.{standing}
 use Rattle.tally_desk.proofs.desk.deal_all.Given as goal
 
 -- the passes that are dealt, and those that are left

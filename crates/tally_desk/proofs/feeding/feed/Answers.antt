@@ -9,6 +9,7 @@ use Rattle.tally_desk.proofs.CountLemmas.{after_all, counts_full, counts_last, f
 use Rattle.tally_desk.proofs.FeedLemmas.{begins, some_batch, takes_end, takes_some, told_end, told_more, told_short, told_stops, told_unposted}
 use Rattle.tally_desk.proofs.KeepLemmas.{keeps_more}
 use Rattle.tally_desk.proofs.RefusalLemmas.{no_refusal, post_refusal}
+use Rattle.tally_desk.proofs.TakeLemmas.{takes_few, takes_last, takes_next}
 use Rattle.tally_desk.proofs.TurnLemmas.{last_turn_stops}
 use Rattle.tally_desk.proofs.feeding.feed.Goals as goal
 
@@ -85,6 +86,7 @@ loop-turn-preserved g c =
     let same : length c.next_batch.new.block ≡ length c.loop-turn.block.items = c.next_batch.auto.block ∙ ap length c.as_mut_slice.ensures.value in
     record {
       countable = next.failures ∙ c.loop-turn.invariant.countable;
+      taken = takes_next c.args.kind c.loop-turn.turn _ _ _ c.loop-turn.invariant.taken next.few;
       nature = next.nature ∙ c.loop-turn.invariant.nature;
       size = omega (
         arith,
@@ -146,3 +148,22 @@ returns-in_err-expect_end-clause-posts g c =
     let pass = c.loop-turn.pass in
     let last : c.loop-turn.turn ≡ 1024 = omega arith in
     rw (p.1, p.2) (full_cut c.args.kind c.args.pass.now pass pass c.loop-turn.turn _ c.loop-turn.invariant.posts (omega arith) refl (after_all c.args.kind c.loop-turn.turn _ last c.in_err-expect_end.ensures.err))
+
+pub returns-in_err-batch-clause-few : goal.returns-in_err-batch-clause-few
+returns-in_err-batch-clause-few g c = takes_few c.args.kind c.loop-turn.turn _ _ _ c.loop-turn.invariant.taken c.in_err-batch.ensures.few (omega arith)
+
+pub returns-in_default-clause-few : goal.returns-in_default-clause-few
+returns-in_default-clause-few g c = takes_few c.args.kind c.loop-turn.turn _ _ _ c.loop-turn.invariant.taken c.in_ok-batch.ensures.few (omega arith)
+
+pub returns-in_err-post-clause-few : goal.returns-in_err-post-clause-few
+returns-in_err-post-clause-few g c = takes_few c.args.kind c.loop-turn.turn _ _ _ c.loop-turn.invariant.taken c.in_ok-batch.ensures.few (omega arith)
+
+pub returns-in_err-expect_end-clause-few : goal.returns-in_err-expect_end-clause-few
+returns-in_err-expect_end-clause-few g c = takes_last c.args.kind c.loop-turn.turn _ _ _ c.loop-turn.invariant.taken c.in_err-expect_end.ensures.few (omega arith)
+
+pub returns-clause-few : goal.returns-clause-few
+returns-clause-few g c = takes_last c.args.kind c.loop-turn.turn _ _ _ c.loop-turn.invariant.taken c.in_ok-expect_end.ensures.few (omega arith)
+
+pub returns-then-records-lt-BATCH_LIMIT-clause-few :
+    goal.returns-then-records-lt-BATCH_LIMIT-clause-few
+returns-then-records-lt-BATCH_LIMIT-clause-few g c = takes_few c.args.kind c.loop-turn.turn _ _ _ c.loop-turn.invariant.taken c.in_ok-batch.ensures.few (omega arith)

@@ -1,6 +1,7 @@
-use Rattle.std.proofs.Common.{◌≡◌, ℕ, List, Some, length}
+use Rattle.std.proofs.Common.{◌≡◌, ◌*◌, ℕ, List, Some, length}
 use Rattle.tally_desk.specs.Blocks.{block_size}
 use Rattle.tally_desk.specs.Feeds.{Keeps, Posts}
+use Rattle.tally_desk.specs.Takings.{TakesAtMost}
 use Rattle.tally_desk.proofs.FeedLemmas.{FullPosts, Told}
 use Rattle.tally_desk.proofs.feeding.feed.Given as goal
 
@@ -8,6 +9,7 @@ abbrev pub invariant-loop-turn : goal.invariant-loop-turn
 invariant-loop-turn g l = record {
   countable : g.I.Input.failures l.input ≡ g.I.Input.failures l.initial.input;
   nature : g.I.Input.can_fail l.input ≡ g.I.Input.can_fail l.initial.input;
+  taken : TakesAtMost (l.turn * block_size l.kind) (g.I.Input.to_come l.initial.input) (g.I.Input.to_come l.input);
   size : length l.block.items ≡ block_size l.kind;
   keeps : Keeps l.initial.pass l.pass;
   posts : FullPosts l.kind (Posts l.initial.pass l.pass) l.turn;

@@ -1,28 +1,16 @@
-use Rattle.std.proofs.Common.{IsTrue, rules, arith, ◌∙◌}
+use Rattle.std.proofs.Common.{arith, refl}
 use Rattle.tally_print.specs.ConnectText.{connect_line}
-use Rattle.tally_print.proofs.PageLemmas.{printing_start, printing_row, printing_turn, prefix_from_put}
+use Rattle.tally_print.proofs.PageLemmas.{first_row, next_row, refused_row}
 use Rattle.tally_print.proofs.connect.print_connect.Goals as goal
 
 pub loop-row-init : goal.loop-row-init
-loop-row-init g c = rw c.in_ok-page.ensures (search (rules, printing_start))
+loop-row-init g c = first_row connect_line _ _ _ _ _ _ _ c.in_ok-page.ensures refl
 
 pub loop-row-preserved : goal.loop-row-preserved
 loop-row-preserved g c =
-    let held = c.loop-row.invariant in
     let turned = c.in_ok-turn_page.ensures in
-    record {
-      printing = λ tells.
-          let told : IsTrue (g.O.Output.tells c.loop-row.out) = rw held.stays tells in
-          let row = printing_row connect_line _ _ _ _ _ _ _ _ _ c.loop-row-test.true (held.printing tells) c.in_ok-push_row.ensures in
-          printing_turn _ _ _ _ _ _ _ row (turned.ok told) (turned.prefix told);
-      stays = turned.stays ∙ held.stays;
-      counts = omega (arith, turned.counts, held.counts);
-    }
+    next_row connect_line _ _ _ _ _ _ _ _ _ _ _ _ _ c.loop-row.invariant c.loop-row-test.true c.in_ok-push_row.ensures _ _ _ _ turned.ok turned.prefix turned.stays (omega (arith, turned.counts))
 
 pub returns-in_err-turn_page-clause-prefix : goal.returns-in_err-turn_page-clause-prefix
 returns-in_err-turn_page-clause-prefix g c =
-    let held = c.loop-row.invariant in
-    λ tells.
-    let told : IsTrue (g.O.Output.tells c.loop-row.out) = rw held.stays tells in
-    let row = printing_row connect_line _ _ _ _ _ _ _ _ _ c.loop-row-test.true (held.printing tells) c.in_ok-push_row.ensures in
-    prefix_from_put _ _ _ _ _ _ row (c.turn_page.ensures.prefix told)
+    refused_row connect_line _ _ _ _ _ _ _ _ _ _ _ _ _ c.loop-row.invariant c.loop-row-test.true c.in_ok-push_row.ensures _ c.turn_page.ensures.prefix

@@ -1,30 +1,18 @@
-use Rattle.std.proofs.Common.{IsTrue, arith, ◌∙◌, FitsSigned, w32}
+use Rattle.std.proofs.Common.{IsTrue, arith, FitsSigned, w32}
 use Rattle.std.proofs.lemmas.Int.{to_z-of_z}
 use Rattle.tally_print.specs.LastText.{stay_line}
-use Rattle.tally_print.proofs.PageLemmas.{printing_row, printing_turn, printing_ending, prefix_from_put}
+use Rattle.tally_print.proofs.PageLemmas.{next_row, printing_ending, prefix_from_put, refused_row}
 use Rattle.tally_print.proofs.last.print_last.Goals as goal
 
 pub loop-row-preserved : goal.loop-row-preserved
 loop-row-preserved g c =
-    let held = c.loop-row.invariant in
     let turned = c.in_ok-turn_page.ensures in
-    record {
-      printing = λ tells.
-          let told : IsTrue (g.O.Output.tells c.loop-row.out) = rw held.stays tells in
-          let row = printing_row (stay_line _ _) _ _ _ _ _ _ _ _ _ c.loop-row-test.true (held.printing tells) c.in_ok-push_stay.ensures in
-          printing_turn _ _ _ _ _ _ _ row (turned.ok told) (turned.prefix told);
-      stays = turned.stays ∙ held.stays;
-      counts = omega (arith, turned.counts, held.counts);
-    }
+    next_row (stay_line _ _) _ _ _ _ _ _ _ _ _ _ _ _ _ c.loop-row.invariant c.loop-row-test.true c.in_ok-push_stay.ensures _ _ _ _ turned.ok turned.prefix turned.stays (omega (arith, turned.counts))
 
 pub returns-in_err-turn_page-clause-prefix : goal.returns-in_err-turn_page-clause-prefix
 returns-in_err-turn_page-clause-prefix g c =
-    let held = c.loop-row.invariant in
     let offset : FitsSigned w32 c.args.offset = c.ranges.offset in
-    λ tells.
-    let told : IsTrue (g.O.Output.tells c.loop-row.out) = rw held.stays tells in
-    let row = printing_row (stay_line _ _) _ _ _ _ _ _ _ _ _ c.loop-row-test.true (held.printing tells) c.in_ok-push_stay.ensures in
-    simp to_z-of_z at (prefix_from_put _ _ _ _ _ _ row (c.turn_page.ensures.prefix told))
+    λ tells. simp to_z-of_z at (refused_row (stay_line _ _) _ _ _ _ _ _ _ _ _ _ _ _ _ c.loop-row.invariant c.loop-row-test.true c.in_ok-push_stay.ensures _ c.turn_page.ensures.prefix tells)
 
 pub returns-clause-prefix : goal.returns-clause-prefix
 returns-clause-prefix g c =

@@ -4,9 +4,9 @@ use Rattle.std.specs.Int.{int_max}
 use Rattle.std.specs.Ordering.{int_cmp, is_eq}
 use Rattle.std.specs.Prelude.{bytes_eq, unsigned_abs}
 use Rattle.tally_sessions.specs.declared.day_user_rows.DayUser.{DayUser}
-use Rattle.tally_sessions.specs.Changes.{change_of, change_on}
+use Rattle.tally_sessions.specs.inside.Changes.{change_of, change_on}
 use Rattle.tally_sessions.specs.Days.{day_of}
-use Rattle.tally_sessions.specs.Sums.{day_user_cmp}
+use Rattle.tally_sessions.specs.inside.Sums.{day_user_cmp}
 use Rattle.tally_sessions.proofs.DayChanges.{change_on-high, change_on-low, no_change_after, no_change_before, no_change_within}
 use Rattle.tally_sessions.proofs.DayUsers.{one_day_of_user}
 use Rattle.tally_sessions.proofs.DayWalk.{day_with_time, not_over, over}

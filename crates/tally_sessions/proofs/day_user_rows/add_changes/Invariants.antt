@@ -1,7 +1,7 @@
 use Rattle.std.proofs.Common.{ℕ, ℤ, List, pos, ◌-ℤ◌, ◌≤ℤ◌, cond}
 use Rattle.std.specs.Int.{int_max}
 use Rattle.std.specs.Prelude.{bytes_eq, unsigned_abs}
-use Rattle.tally_sessions.specs.Changes.{change_of, change_on}
+use Rattle.tally_sessions.specs.inside.Changes.{change_of, change_on}
 use Rattle.tally_sessions.proofs.UserChanges.{IsMoved}
 use Rattle.tally_sessions.proofs.day_user_rows.add_changes.Given as goal
 

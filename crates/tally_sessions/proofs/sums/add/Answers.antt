@@ -1,6 +1,6 @@
 use Rattle.std.proofs.Common.{◌≡◌, ◌+◌, cond, None, is_eq, subst, sym}
 use Rattle.std.specs.Map.{lookup}
-use Rattle.tally_sessions.specs.Sums.{sum_at}
+use Rattle.tally_sessions.specs.inside.Sums.{sum_at}
 use Rattle.tally_sessions.proofs.SumSteps.{sum_at-new}
 use Rattle.tally_sessions.proofs.sums.add.Goals as goal
 

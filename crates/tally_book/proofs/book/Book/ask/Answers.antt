@@ -6,7 +6,7 @@ use Rattle.tally_book.specs.declared.question.Answer.{Answer}
 use Rattle.tally_book.specs.Answers.{answer_of}
 use Rattle.tally_book.specs.Books.{IsLegal, asked, counts_of}
 use Rattle.tally_book.specs.Contents.{Contents}
-use Rattle.tally_book.specs.Kept.{contents_of}
+use Rattle.tally_book.specs.inside.Kept.{contents_of}
 use Rattle.tally_book.proofs.Growth.{asked_legal}
 use Rattle.tally_book.proofs.book.Book.ask.Goals as goal
 

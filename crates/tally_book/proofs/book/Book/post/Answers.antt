@@ -2,7 +2,7 @@ use Rattle.std.proofs.Common.{rules, ◌≡◌, subst, sym, arith}
 use Rattle.std.proofs.lemmas.Grind.{common_steps}
 use Rattle.tally_book.specs.Books.{IsLegal, posted}
 use Rattle.tally_book.specs.Contents.{Contents}
-use Rattle.tally_book.specs.Kept.{contents_of}
+use Rattle.tally_book.specs.inside.Kept.{contents_of}
 use Rattle.tally_book.proofs.Growth.{posted_legal}
 use Rattle.tally_book.proofs.book.Book.post.Goals as goal
 

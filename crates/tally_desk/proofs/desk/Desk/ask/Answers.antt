@@ -3,6 +3,16 @@ use Rattle.atomic_table.specs.Seated.{TableId}
 use Rattle.tally_desk.specs.Passes.{seen_as}
 use Rattle.tally_desk.proofs.Passes.{AskTells, both, asked_pass}
 use Rattle.tally_desk.proofs.desk.Desk.ask.Goals as goal
+use Rattle.tally_desk.proofs.desk.Desk.ask.Given as given
+
+-- what the report makes of the pass
+tells : (g : given.Over) (c : goal.After-ask g) → AskTells c.args.question.now c.ask.result c.args.pass.now (seen_as c.ask.new.seat.table_id c.ask.new.seat.me)
+tells g c =
+    let o = c.pass.invariant in
+    let id : TableId = c.pass.inside.seat.table_id in
+    let b = c.ask.ensures.asked o.0 o.1 in
+    let t = asked_pass id o.0 o.3 b.0 b.1 c.pass.inside.number c.args.question.now _ _ o.2 b.2 b.3 in
+    both (AskTells c.args.question.now c.ask.result) _ _ _ _ (sym c.pass.view_is ∙ ap (seen_as id) o.1) (λ i. seen_as (c.ask.ensures.table i) (t.1 i)) t.4
 
 pub invariant_of-pass : goal.invariant_of-pass
 invariant_of-pass g c =
@@ -11,65 +21,25 @@ invariant_of-pass g c =
     let t = asked_pass c.pass.inside.seat.table_id o.0 o.3 b.0 b.1 c.pass.inside.number c.args.question.now _ _ o.2 b.2 b.3 in (t.0, t.1, t.2, t.3)
 
 pub returns-clause-grows : goal.returns-clause-grows
-returns-clause-grows g c =
-    let o = c.pass.invariant in
-    let id : TableId = c.pass.inside.seat.table_id in
-    let b = c.ask.ensures.asked o.0 o.1 in
-    let t = asked_pass id o.0 o.3 b.0 b.1 c.pass.inside.number c.args.question.now _ _ o.2 b.2 b.3 in
-    let told = both (AskTells c.args.question.now c.ask.result) _ _ _ _ (sym c.pass.view_is ∙ ap (seen_as id) o.1) (λ i. seen_as (c.ask.ensures.table i) (t.1 i)) t.4 in told.grows
+returns-clause-grows g c = (tells g c).grows
 
 pub returns-clause-current : goal.returns-clause-current
-returns-clause-current g c =
-    let o = c.pass.invariant in
-    let id : TableId = c.pass.inside.seat.table_id in
-    let b = c.ask.ensures.asked o.0 o.1 in
-    let t = asked_pass id o.0 o.3 b.0 b.1 c.pass.inside.number c.args.question.now _ _ o.2 b.2 b.3 in
-    let told = both (AskTells c.args.question.now c.ask.result) _ _ _ _ (sym c.pass.view_is ∙ ap (seen_as id) o.1) (λ i. seen_as (c.ask.ensures.table i) (t.1 i)) t.4 in told.current
+returns-clause-current g c = (tells g c).current
 
 pub returns-clause-answered : goal.returns-clause-answered
-returns-clause-answered g c =
-    let o = c.pass.invariant in
-    let id : TableId = c.pass.inside.seat.table_id in
-    let b = c.ask.ensures.asked o.0 o.1 in
-    let t = asked_pass id o.0 o.3 b.0 b.1 c.pass.inside.number c.args.question.now _ _ o.2 b.2 b.3 in
-    let told = both (AskTells c.args.question.now c.ask.result) _ _ _ _ (sym c.pass.view_is ∙ ap (seen_as id) o.1) (λ i. seen_as (c.ask.ensures.table i) (t.1 i)) t.4 in told.answered
+returns-clause-answered g c = (tells g c).answered
 
 pub returns-clause-at : goal.returns-clause-at
-returns-clause-at g c =
-    let o = c.pass.invariant in
-    let id : TableId = c.pass.inside.seat.table_id in
-    let b = c.ask.ensures.asked o.0 o.1 in
-    let t = asked_pass id o.0 o.3 b.0 b.1 c.pass.inside.number c.args.question.now _ _ o.2 b.2 b.3 in
-    let told = both (AskTells c.args.question.now c.ask.result) _ _ _ _ (sym c.pass.view_is ∙ ap (seen_as id) o.1) (λ i. seen_as (c.ask.ensures.table i) (t.1 i)) t.4 in told.at
+returns-clause-at g c = (tells g c).at
 
 pub returns-clause-value : goal.returns-clause-value
-returns-clause-value g c =
-    let o = c.pass.invariant in
-    let id : TableId = c.pass.inside.seat.table_id in
-    let b = c.ask.ensures.asked o.0 o.1 in
-    let t = asked_pass id o.0 o.3 b.0 b.1 c.pass.inside.number c.args.question.now _ _ o.2 b.2 b.3 in
-    let told = both (AskTells c.args.question.now c.ask.result) _ _ _ _ (sym c.pass.view_is ∙ ap (seen_as id) o.1) (λ i. seen_as (c.ask.ensures.table i) (t.1 i)) t.4 in told.value
+returns-clause-value g c = (tells g c).value
 
 pub returns-clause-refused : goal.returns-clause-refused
-returns-clause-refused g c =
-    let o = c.pass.invariant in
-    let id : TableId = c.pass.inside.seat.table_id in
-    let b = c.ask.ensures.asked o.0 o.1 in
-    let t = asked_pass id o.0 o.3 b.0 b.1 c.pass.inside.number c.args.question.now _ _ o.2 b.2 b.3 in
-    let told = both (AskTells c.args.question.now c.ask.result) _ _ _ _ (sym c.pass.view_is ∙ ap (seen_as id) o.1) (λ i. seen_as (c.ask.ensures.table i) (t.1 i)) t.4 in told.refused
+returns-clause-refused g c = (tells g c).refused
 
 pub returns-clause-cause : goal.returns-clause-cause
-returns-clause-cause g c =
-    let o = c.pass.invariant in
-    let id : TableId = c.pass.inside.seat.table_id in
-    let b = c.ask.ensures.asked o.0 o.1 in
-    let t = asked_pass id o.0 o.3 b.0 b.1 c.pass.inside.number c.args.question.now _ _ o.2 b.2 b.3 in
-    let told = both (AskTells c.args.question.now c.ask.result) _ _ _ _ (sym c.pass.view_is ∙ ap (seen_as id) o.1) (λ i. seen_as (c.ask.ensures.table i) (t.1 i)) t.4 in told.cause
+returns-clause-cause g c = (tells g c).cause
 
 pub returns-clause-did : goal.returns-clause-did
-returns-clause-did g c =
-    let o = c.pass.invariant in
-    let id : TableId = c.pass.inside.seat.table_id in
-    let b = c.ask.ensures.asked o.0 o.1 in
-    let t = asked_pass id o.0 o.3 b.0 b.1 c.pass.inside.number c.args.question.now _ _ o.2 b.2 b.3 in
-    let told = both (AskTells c.args.question.now c.ask.result) _ _ _ _ (sym c.pass.view_is ∙ ap (seen_as id) o.1) (λ i. seen_as (c.ask.ensures.table i) (t.1 i)) t.4 in told.did
+returns-clause-did g c = (tells g c).did

@@ -1,7 +1,7 @@
 use Rattle.std.proofs.Common.{◌≡◌, ◌≤◌, ◌∙◌, sym, ap, refl}
 use Rattle.atomic_table.specs.Seated.{TableId}
 use Rattle.tally_desk.specs.Passes.{seen_as, told_pass}
-use Rattle.tally_desk.specs.Views.{told_of}
+use Rattle.tally_desk.specs.inside.Views.{told_of}
 use Rattle.tally_desk.proofs.Passes.{both, told_sound}
 use Rattle.tally_desk.proofs.desk.Desk.stored.Goals as goal
 

@@ -2,8 +2,8 @@ use Rattle.std.proofs.Common.{◌≡◌, List, [], ◌∷◌, subst, sym, ◌∙
 use Rattle.atomic_table.specs.Table.{opening}
 use Rattle.tally_book.specs.Books.{empty}
 use Rattle.tally_book.specs.Contents.{Contents}
-use Rattle.tally_desk.specs.Views.{opening_view}
-use Rattle.tally_desk.specs.Rule.{Orderly}
+use Rattle.tally_desk.specs.inside.Views.{opening_view}
+use Rattle.tally_desk.specs.inside.Rule.{Orderly}
 use Rattle.tally_desk.proofs.Seats.{starts}
 use Rattle.tally_desk.proofs.lock.TicketLock.open.Goals as goal
 

@@ -1,8 +1,8 @@
 use Rattle.std.proofs.Common.{◌∙◌, arith}
 use Rattle.tally_book.specs.Contents.{Contents}
 use Rattle.tally_book.specs.Books.{posted}
-use Rattle.tally_desk.specs.Steps.{Sat}
-use Rattle.tally_desk.specs.Views.{knowing}
+use Rattle.tally_desk.specs.Passes.{Sat}
+use Rattle.tally_desk.specs.inside.Views.{knowing}
 use Rattle.tally_desk.proofs.Histories.{posted_next}
 use Rattle.tally_desk.proofs.lock.TicketLock.post.Goals as goal
 

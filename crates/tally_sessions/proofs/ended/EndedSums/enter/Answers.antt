@@ -1,21 +1,15 @@
-use Rattle.std.proofs.Common.{◌≡◌, ℕ, List, cond, false, Option, None, Some, is_some, refl, rules}
+use Rattle.std.proofs.Common.{◌≡◌, ℕ, false, Option, None, Some, is_some, refl, sym, ◌∙◌}
 use Rattle.std.proofs.lemmas.Bool.{false≢true}
-use Rattle.std.specs.Map.{lookup}
-use Rattle.std.specs.Prelude.{bytes_eq}
 use Rattle.tally_sessions.proofs.EndedTables.{entered_by, kept_by}
 use Rattle.tally_sessions.proofs.ended.EndedSums.enter.Goals as goal
 
-updates : (c : goal.After-unwrap) → (name : List ℕ) → lookup (bytes_eq name) c.insert.new.self.entries ≡ cond (bytes_eq c.of-key.result name) (Some 0) (lookup (bytes_eq name) c.args.self.now.users.entries)
-updates c = search rules
-
-none_from : (o : Option ℕ) → false ≡ is_some o → o ≡ None
+none_from : (o : Option ℕ) → is_some o ≡ false → o ≡ None
 none_from None h = refl
-none_from (Some n) h = absurd (false≢true h)
+none_from (Some n) h = absurd (false≢true (sym h))
 
-pub returns-then-not-contains_key-clause-sums : goal.returns-then-not-contains_key-clause-sums
-returns-then-not-contains_key-clause-sums c None = refl
-returns-then-not-contains_key-clause-sums c (Some name) =
-    entered_by c.of-key.result c.args.self.now.users.entries c.insert.new.self.entries (updates c) (none_from (lookup (bytes_eq c.of-key.result) c.args.self.now.users.entries) c.if-not-contains_key.ensures) name
+pub returns-then-is_none-clause-sums : goal.returns-then-is_none-clause-sums
+returns-then-is_none-clause-sums c None = refl
+returns-then-is_none-clause-sums c (Some name) = entered_by c.args.user c.args.self.now.users.entries c.set.new.self.entries c.set.ensures.set (sym c.get.ensures ∙ none_from c.get.result c.if-is_none.ensures) name
 
-pub returns-then-not-contains_key-clause-kept : goal.returns-then-not-contains_key-clause-kept
-returns-then-not-contains_key-clause-kept c name is = kept_by c.of-key.result 0 c.args.self.now.users.entries c.insert.new.self.entries (updates c) name is
+pub returns-then-is_none-clause-kept : goal.returns-then-is_none-clause-kept
+returns-then-is_none-clause-kept c name is = kept_by c.args.user 0 c.args.self.now.users.entries c.set.new.self.entries c.set.ensures.set name is

@@ -1,6 +1,7 @@
-use Rattle.std.proofs.Common.{◌≡◌, sym, ap, ◌∙◌, subst, List, length, take, reverse, IfOk, arith}
+use Rattle.std.proofs.Common.{◌≡◌, ℕ, sym, ap, ◌∙◌, subst, List, take, reverse, IfOk, arith}
 use Rattle.tally_sessions.specs.declared.entry.Entry.{Entry}
 use Rattle.tally_sessions.specs.declared.entry.Stay.{Stay}
+use Rattle.tally_sessions.specs.Lent.{entries_in}
 use Rattle.tally_sessions.specs.State.{State}
 use Rattle.tally_sessions.specs.Totals.{latest_stays, limited, stays_of}
 use Rattle.tally_sessions.proofs.StayCounts.{stays_of-all}
@@ -10,20 +11,21 @@ use Rattle.tally_sessions.proofs.sessions.Sessions.stays.Goals as goal
 pub latest-requires-clause-track : goal.latest-requires-clause-track
 latest-requires-clause-track c =
     let hosts = ap (λ (s : State). s.hosts) c.self.view_is in
-    track_of c.self.inside c.args.host c.index-track.result.now c.entries-entries.result.now c.self.invariant (omega (arith, hosts, c.requires, c.self.invariant.few_hosts)) c.index-track.ensures
+    track_of c.self.inside c.args.host c.index-track.result.now (entries_in c.entries-entries.result) c.self.invariant (omega (arith, hosts, c.requires, c.self.invariant.few_hosts)) c.index-track.ensures
     (c.entries-entries.ensures.value ∙ sym (ap (λ (s : State). s.entries) c.self.view_is))
 
 pub latest-requires-in-None-clause-track : goal.latest-requires-in-None-clause-track
 latest-requires-in-None-clause-track c =
     let hosts = ap (λ (s : State). s.hosts) c.self.view_is in
-    track_of c.self.inside c.args.host c.index-track.result.now c.entries-entries.result.now c.self.invariant (omega (arith, hosts, c.requires, c.self.invariant.few_hosts)) c.index-track.ensures
+    track_of c.self.inside c.args.host c.index-track.result.now (entries_in c.entries-entries.result) c.self.invariant (omega (arith, hosts, c.requires, c.self.invariant.few_hosts)) c.index-track.ensures
     (c.entries-entries.ensures.value ∙ sym (ap (λ (s : State). s.entries) c.self.view_is))
 
 pub returns-in-None-clause-value : goal.returns-in-None-clause-value
 returns-in-None-clause-value c =
-    let es : List Entry = c.entries-entries.result.now in
-    let all : take (length es) (reverse (stays_of c.args.host es c.args.until)) ≡ latest_stays c.args.host c.args.limit c.args.self.now.entries c.args.until =
-    stays_of-all c.args.host es c.args.until
+    let es : List Entry = (entries_in c.entries-entries.result) in
+    let all : take c.len.result (reverse (stays_of c.args.host es c.args.until)) ≡ latest_stays c.args.host c.args.limit c.args.self.now.entries c.args.until =
+    ap (λ (n : ℕ). take n (reverse (stays_of c.args.host es c.args.until))) c.len.ensures
+    ∙ stays_of-all c.args.host es c.args.until
     ∙ ap (λ (xs : List Entry). reverse (stays_of c.args.host xs c.args.until)) c.entries-entries.ensures.value
     ∙ sym (ap (λ o. limited o (reverse (stays_of c.args.host c.args.self.now.entries c.args.until))) c.in-None.is) in
     subst (λ (xs : List Stay). IfOk c.latest-in-None.result (λ found. found ≡ xs)) all c.latest-in-None.ensures.value

@@ -11,6 +11,6 @@ returns-clause-clock c =
     let now = c.args.self.now.clock in
     let by = c.shift_of.result in
     let sum : held (held now +ℤ held by) ≡ now +ℤ by = omega (arith, ints, c.requires.low, c.requires.high, c.shift_of.ensures.low, c.shift_of.ensures.high) in
-    let fits : FitsSigned w32 c.args.r.now.time = search rules in
+    let fits : FitsSigned w32 c.args.time = search rules in
     sum ∙ ap (λ (z : ℤ). now +ℤ z) c.shift_of.ensures.value
-    ∙ ap (λ (z : ℤ). now +ℤ shift_at c.args.event c.args.self.now.old_time z) (to_z-of_z w32 c.args.r.now.time fits)
+    ∙ ap (λ (z : ℤ). now +ℤ shift_at c.args.event c.args.self.now.old_time z) (to_z-of_z w32 c.args.time fits)

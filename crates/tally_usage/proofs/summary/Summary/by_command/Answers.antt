@@ -1,22 +1,23 @@
 use Rattle.std.proofs.Common.{◌≡◌, ◌++◌, ◌∙◌, ap, filter, map, rules, subst, sym}
 use Rattle.std.proofs.lemmas.Fn.{always_returns_same}
 use Rattle.std.proofs.lemmas.List.Sorted.{ranks_by}
+use Rattle.std.proofs.lemmas.Result.{IfOk-weaker}
 use Rattle.std.specs.List.Sorted.{IsPermutation, IsSortedBy}
 use Rattle.std.specs.Ordering.{is_lt}
 use Rattle.tally_usage.specs.declared.command.CommandRow.{CommandRow}
 use Rattle.tally_usage.specs.Command.{command_row_cmp, command_rows, row_of_record}
-use Rattle.tally_usage.specs.Rows.{is_joined, joined_usage, others_row, own_rows}
+use Rattle.tally_usage.specs.inside.Rows.{is_joined, joined_usage, others_row, own_rows}
 use Rattle.tally_records.specs.Sorted.{in_order}
-use Rattle.tally_usage.specs.Sound.{stored_of}
+use Rattle.tally_usage.specs.inside.Entries.{records_kept}
+use Rattle.tally_usage.specs.inside.Sound.{stored_of}
 use Rattle.tally_usage.specs.Totals.{records_of}
-use Rattle.tally_usage.proofs.CommandLemmas.{command_cmp_total, command_rows-forward, command_rows-reversed, others-Fits, rows_in_order}
+use Rattle.tally_usage.proofs.CommandLemmas.{command_cmp_total, command_rows-turned, others-Fits, rows_in_order}
 use Rattle.tally_usage.proofs.SummaryLemmas.{stored-bounded, stored-few}
 use Rattle.tally_usage.proofs.summary.Summary.by_command.Goals as goal
-use Rattle.tally_usage.proofs.summary.Summary.by_command.Goals.{then-reverse, else-reverse}
 
 pub push_rows-requires : goal.push_rows-requires
 push_rows-requires c =
-    others-Fits c.args.all c.self.inside.commands.entries (records_of (stored_of c.self.inside)) c.self.invariant.commands c.len.ensures.unique
+    others-Fits c.args.all c.self.inside.commands.entries (records_kept (stored_of c.self.inside)) c.self.invariant.commands c.len.ensures.unique
     (stored-bounded c.self.inside c.self.invariant) (stored-few c.self.inside c.self.invariant)
 
 pub returns : goal.returns
@@ -24,7 +25,7 @@ returns c =
     let order = c.args.order in
     let xs = c.sort_unstable_by.new.self.items in
     let s = c.self.inside in
-    let rs = records_of (stored_of s) in
+    let rs = records_kept (stored_of s) in
     let sorted : IsSortedBy (λ x y. is_lt (command_row_cmp order x y)) xs =
     c.sort_unstable_by.ensures.sorted (λ x y. is_lt (command_row_cmp order x y)) (ranks_by (command_cmp_total order) (λ (r : CommandRow). r)) (always_returns_same _ _ _ (λ a r f k. search rules)) in
     let pushed = c.in_ok-push_rows.ensures ∙ ap (λ l. l ++ (own_rows c.args.all s.commands.entries ++ others_row (joined_usage (filter (is_joined c.args.all) s.commands.entries)))) c.in_ok-rows.ensures.items in
@@ -32,12 +33,5 @@ returns c =
     let done : xs ≡ in_order (command_row_cmp order) (map (row_of_record c.args.all rs) rs) = rows_in_order c.args.all s.commands.entries rs c.self.invariant.commands c.len.ensures.unique order xs moved sorted in
     let seen = ap (λ v. command_rows order c.args.all c.args.reverse (records_of v.entries)) c.self.view_is in
     record {
-      value = elim c.if-reverse.branch [
-        | then-reverse w ↦
-            c.from_vec.ensures ∙ ap (λ v. v.items) w.rows-is ∙ w.reverse.ensures.items ∙ command_rows-reversed order c.args.all rs xs done
-            ∙ ap (λ b. command_rows order c.args.all b rs) (sym w.if-reverse.true) ∙ seen
-        | else-reverse w ↦
-            c.from_vec.ensures ∙ ap (λ v. v.items) w.rows-is ∙ command_rows-forward order c.args.all rs xs done
-            ∙ ap (λ b. command_rows order c.args.all b rs) (sym w.if-reverse.false) ∙ seen
-      ];
+      value = IfOk-weaker c.turned.result _ _ (λ list is. is ∙ command_rows-turned order c.args.all c.args.reverse rs xs done ∙ seen) c.turned.ensures;
     }

@@ -1,0 +1,30 @@
+# bash completion for tally(1)
+
+_tally() {
+    local word=${COMP_WORDS[COMP_CWORD]} before=${COMP_WORDS[COMP_CWORD - 1]} options=
+    COMPREPLY=()
+    if [ "$COMP_CWORD" -eq 1 ]; then
+        COMPREPLY=($(compgen -W 'last ac sa all help -h --help -V --version' -- "$word"))
+        return
+    fi
+    case ${COMP_WORDS[1]} in
+        last) options='-n --until --csv --feeders --east --west -h --help' ;;
+        ac) options='-d -p --until --csv --feeders --east --west -h --help' ;;
+        sa) options='-a -m -n -r --csv --feeders --east --west -h --help' ;;
+        all) options='--askers --until --feeders --east --west -h --help' ;;
+        help)
+            COMPREPLY=($(compgen -W 'last ac sa all help' -- "$word"))
+            return
+            ;;
+    esac
+    case ${COMP_WORDS[1]}:$before in
+        last:-n | *:--until | *:--feeders | *:--east | *:--west | *:--askers) return ;;
+    esac
+    case $word in
+        -*) COMPREPLY=($(compgen -W "$options" -- "$word")) ;;
+        [wp]:*) [ "${COMP_WORDS[1]}" = all ] && COMPREPLY=($(compgen -P "${word%%:*}:" -f -- "${word#?:}")) ;;
+        *) COMPREPLY=($(compgen -f -- "$word")) ;;
+    esac
+}
+
+complete -o filenames -F _tally tally

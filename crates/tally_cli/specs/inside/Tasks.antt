@@ -1,0 +1,102 @@
+-- What a worker does of its tasks.
+use Rattle.std.specs.Prelude.{◌≡◌, ◌<◌, ◌-◌, ◌^◌, ◌∷◌, [], ℕ, Bool, List, Option, Some, ℤ, false, pos, true, ⊤, length, slice_index_or}
+use Rattle.std.specs.List.{All, Contains}
+use Rattle.tally_book.specs.declared.question.Question.{Question}
+use Rattle.tally_book.specs.declared.question.Question.TheVariants as questions
+use Rattle.tally_desk.specs.Feeds.{Counts, IsFeedRefusal, IsStopped, IsWhole, Keeps, Posts, Stops}
+use Rattle.tally_desk.specs.Passes.{DeskState, PassState}
+use Rattle.tally_desk.specs.Rounds.{AskStops, Asks, in_rounds}
+use Rattle.tally_desk.specs.declared.fault.FeedFault.{FeedFault}
+use Rattle.tally_desk.specs.declared.fault.FeedFault.TheVariants.{Read}
+use Rattle.tally_desk.specs.declared.feeding.Fed.{Fed}
+use Rattle.tally_records.specs.Records.{Records}
+use Rattle.tally_records.specs.declared.batch.Kind.{Kind}
+use Rattle.tally_usage.specs.declared.order.Order.TheVariants as order
+use Rattle.tally_cli.specs.declared.running.task.Task.{Task}
+use Rattle.tally_cli.specs.declared.running.task.Work.{Work}
+use Rattle.tally_cli.specs.declared.running.task.Work.TheVariants as work
+use Rattle.tally_cli.specs.declared.running.task.Outcome.{Outcome}
+use Rattle.tally_cli.specs.declared.running.task.Outcome.TheVariants as outcome
+
+-- the work was not tried
+abbrev pub IsUntried : Outcome → Type 0
+IsUntried o = o ≡ outcome.Untried
+
+-- the work was done whole
+abbrev pub IsDone : Outcome → Type 0
+IsDone (outcome.Fed fed) = ⊤
+IsDone (outcome.Asked count) = ⊤
+IsDone o = ⊥
+
+-- the work was tried, and something was refused
+abbrev pub HasFailed : Outcome → Type 0
+HasFailed (outcome.FeedFailed fault) = ⊤
+HasFailed (outcome.AskFailed fault) = ⊤
+HasFailed o = ⊥
+
+-- the failures of an input to be fed can be counted once more
+abbrev pub IsCountable : {I : Type 0} → (I → ℕ) → Work I → Type 0
+IsCountable failures (work.Feed kind input) = failures input < 2 ^ 64 - 1
+IsCountable failures (work.Ask until) = ⊤
+
+-- a feed that reached the end of its input
+pub record HasFed (told : Option (List ℕ)) (kind : Kind) (old new : PassState) (fed : Fed) : Type 0 where
+  pub counted : (batches : List Records) × Posts old new batches × Counts kind batches fed
+  pub whole : (bytes : List ℕ) → told ≡ Some bytes → IsWhole kind bytes (Posts old new)
+
+-- a feed that was refused
+pub record FailedToFeed (told : Option (List ℕ)) (can_fail : Bool) (kind : Kind) (old new : PassState) (fault : FeedFault) : Type 0 where
+  pub posts : IsStopped kind (Posts old new) fault
+  pub stops : (bytes : List ℕ) → told ≡ Some bytes → Stops kind bytes (Posts old new) new.seen fault
+  pub full : IsFeedRefusal kind new.seen fault
+  pub read : fault ≡ Read → can_fail ≡ true
+
+-- what an asker asks: the latest stays of the first host, connect time, and the usage of commands and users
+abbrev pub asked_once : Option ℤ → List Question
+asked_once until = questions.Last 0 (Some 10) until ∷ questions.Connect false false (pos 0) until
+    ∷ questions.Commands order.Cpu false false ∷ questions.Users order.Cpu false ∷ []
+
+-- all that it asks, in four rounds
+abbrev pub asker_questions : Option ℤ → List Question
+asker_questions until = in_rounds 4 (asked_once until)
+
+-- what a caller did of its work, by what it says of it
+abbrev pub IsOutcome : {I : Type 0} → (I → Option (List ℕ)) → (I → Bool) → Work I → PassState → PassState → Outcome → Type 0
+IsOutcome to_come can_fail (work.Feed kind input) old new outcome.Untried = new ≡ old
+IsOutcome to_come can_fail (work.Feed kind input) old new (outcome.Fed fed) = HasFed (to_come input) kind old new fed
+IsOutcome to_come can_fail (work.Feed kind input) old new (outcome.FeedFailed fault) =
+    FailedToFeed (to_come input) (can_fail input) kind old new fault
+IsOutcome to_come can_fail (work.Ask until) old new outcome.Untried = new ≡ old
+IsOutcome to_come can_fail (work.Ask until) old new (outcome.Asked count) = (count ≡ 16) × Asks old new (asker_questions until)
+IsOutcome to_come can_fail (work.Ask until) old new (outcome.AskFailed fault) = AskStops (asker_questions until) old new fault
+IsOutcome to_come can_fail w old new o = ⊥
+
+-- the task's work was done as its outcome says
+pub record Works {I : Type 0} (to_come : I → Option (List ℕ)) (can_fail : I → Bool) (old new : Task I) : Type 0 where
+  pub keeps : Keeps old.pass new.pass
+  pub outcome_is : IsOutcome to_come can_fail old.work old.pass new.pass new.outcome
+
+-- the same for each task of a list
+pub record EachWorks {I : Type 0} (to_come : I → Option (List ℕ)) (can_fail : I → Bool) (old new : List (Task I)) : Type 0 where
+  pub count : length new ≡ length old
+  pub each : (k : ℕ) (d : Task I) → k < length old → Works to_come can_fail (slice_index_or old k d) (slice_index_or new k d)
+
+-- a caller of the desk whose work can be begun
+pub record IsNew {I : Type 0} (failures : I → ℕ) (desk : DeskState) (t : Task I) : Type 0 where
+  pub desk_is : t.pass.desk ≡ desk.id
+  pub untried : IsUntried t.outcome
+  pub countable : IsCountable failures t.work
+
+-- tasks of callers of this desk in rising order of their numbers, none of which was tried
+pub record AreReady {I : Type 0} (failures : I → ℕ) (desk : DeskState) (ts : List (Task I)) : Type 0 where
+  pub new : All (IsNew failures desk) ts
+  pub rising : (j k : ℕ) (d : Task I) → j < k → k < length ts → (slice_index_or ts j d).pass.number < (slice_index_or ts k d).pass.number
+
+-- the task was tried, or that of a lesser caller among these has failed
+abbrev pub IsExplained : {I : Type 0} → List (Task I) → Task I → Type 0
+IsExplained ts t = IsUntried t.outcome
+    → (earlier : Task _) × Contains ts earlier × HasFailed earlier.outcome × (earlier.pass.number < t.pass.number)
+
+-- once a task has failed, none after it was tried
+abbrev pub StopAtFailure : {I : Type 0} → List (Task I) → Type 0
+StopAtFailure ts = (j k : ℕ) (d : Task _) → j < k → k < length ts → HasFailed (slice_index_or ts j d).outcome → IsUntried (slice_index_or ts k d).outcome

@@ -1,0 +1,127 @@
+//! One caller's work.
+ghost use Rattle.std.specs.Prelude.{◌≡◌, IfErr, IfOk, MatchBool, OnOk};
+ghost use Rattle.tally_desk.specs.Feeds.{Keeps};
+ghost use Rattle.tally_desk.specs.Rounds.{AskStops, Asks};
+ghost use Rattle.tally_cli.specs.inside.Tasks.{asked_once, asker_questions, HasFailed, IsCountable, IsDone, IsUntried, Works};
+
+use std::alloc::Global;
+use std::sync::Wait;
+use tally_book::{AskFault, Question};
+use tally_desk::{Desk, Fed, FeedFault, Gate, Input, Pass, ask_rounds, feed};
+use tally_records::Kind;
+use tally_usage::Order;
+
+/// What a caller is to do: feed its input, or ask reports.
+#[derive(Drop)]
+pub(crate) enum Work<I> {
+    Feed { kind: Kind, input: I },
+    Ask { until: Option<i32> },
+}
+
+/// What came of it.
+#[derive(Drop)]
+pub(crate) enum Outcome {
+    Untried,
+    Fed(Fed),
+    FeedFailed(FeedFault),
+    Asked(u64),
+    AskFailed(AskFault),
+}
+
+/// A caller's pass, with its work.
+#[derive(Drop)]
+pub(crate) struct Task<I> {
+    pub(crate) pass: Pass,
+    pub(crate) work: Work<I>,
+    pub(crate) outcome: Outcome,
+}
+
+/// How often an asker asks its questions.
+const ROUNDS: u32 = 4;
+
+/// The questions of an asker.
+fn questions(until: Option<i32>) -> [Question; 4]
+    ensures { result ≡ asked_once until }
+{
+    [
+        Question::Last {
+            host: 0,
+            limit: Some(10),
+            until,
+        },
+        Question::Connect {
+            by_day: false,
+            by_user: false,
+            offset: 0,
+            until,
+        },
+        Question::Commands {
+            order: Order::Cpu,
+            reverse: false,
+            all: false,
+        },
+        Question::Users {
+            order: Order::Cpu,
+            reverse: false,
+        },
+    ]
+}
+
+/// Asks as an asker does, and answers how many reports were given.
+fn ask<R: Wait, G: Gate>(
+    rt: &R,
+    alloc: Global,
+    desk: &Desk,
+    pass: &mut Pass,
+    until: Option<i32>,
+    gate: &G,
+) -> Result<u64, AskFault>
+    requires { pass.old.desk ≡ desk.now.id }
+    ensures keeps { Keeps pass.old pass.new }
+    ensures count { IfOk result (λ count. count ≡ 16) }
+    ensures asked { OnOk result (Asks pass.old pass.new (asker_questions until)) }
+    ensures stops { IfErr result (AskStops (asker_questions until) pass.old pass.new) }
+{
+    let questions = questions(until);
+    ask_rounds(rt, alloc, desk, pass, &questions, ROUNDS, gate)
+}
+
+/// Does the work, and says whether it was done.
+pub(crate) fn carry_out<R: Wait, I: Input, G: Gate>(
+    rt: &R,
+    alloc: Global,
+    desk: &Desk,
+    task: &mut Task<I>,
+    gate: &G,
+) -> bool
+    requires desk { task.old.pass.desk ≡ desk.now.id }
+    requires untried { IsUntried task.old.outcome }
+    requires countable { IsCountable I.failures task.old.work }
+    ensures works { Works I.to_come I.can_fail task.old task.new }
+    ensures done { MatchBool result (IsDone task.new.outcome) (HasFailed task.new.outcome) }
+{
+    match &mut task.work {
+        Work::Feed { kind, input } => {
+            match feed(rt, alloc, desk, &mut task.pass, *kind, input, gate) {
+                Ok(fed) => {
+                    task.outcome = Outcome::Fed(fed);
+                    true
+                }
+                Err(fault) => {
+                    task.outcome = Outcome::FeedFailed(fault);
+                    false
+                }
+            }
+        }
+        Work::Ask { until } => match ask(rt, alloc, desk, &mut task.pass, *until, gate) {
+            Ok(count) => {
+                task.outcome = Outcome::Asked(count);
+                true
+            }
+            Err(fault) => {
+                task.outcome = Outcome::AskFailed(fault);
+                false
+            }
+        },
+    }
+}

@@ -1,0 +1,6 @@
+//! Command lines, and whole runs over files in memory.
+
+mod ended;
+mod line;
+mod runs;
+mod together;

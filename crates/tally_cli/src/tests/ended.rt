@@ -1,0 +1,159 @@
+//! How a run ends: which call of its output is the last, and what is not touched after a failure.
+ghost use Rattle.std.specs.Prelude.{◌≡◌, None, [], false};
+ghost use Rattle.tally_cli.specs.Jobs.{IsRunnable};
+
+use crate::{Form, Job, Report, RunFault, Source, run};
+use std::alloc::{AllocError, Global};
+use std::hash::RandomState;
+use std::sync::Wait;
+use std::sync::atomic::{AtomicU64, Ordering};
+use std::test::Fail;
+use std::thread::Threads;
+use tally_desk::{FeedFault, Input, InputFault, OpenGate};
+use tally_print::{Output, OutputFault};
+use tally_records::Kind;
+
+/// A job of one feeder.
+fn alone(report: Report) -> Job
+    ensures { IsRunnable result }
+{
+    Job {
+        report,
+        form: Form::Text,
+        feeders: 1,
+        askers: 0,
+        offset: 0,
+        until: None,
+    }
+}
+
+/// An input of so many zeros, which counts how often it is taken from.
+#[derive(Drop)]
+struct Counted<'a> {
+    left: usize,
+    takes: &'a AtomicU64,
+}
+
+impl Input for Counted<'_> {
+    ghost to_come = { λ _. None };
+
+    ghost can_fail = { λ _. false };
+
+    ghost failures = { λ _. 0 };
+
+    fn take(&mut self, buf: &mut [u8]) -> Result<usize, InputFault> {
+        self.takes.fetch_add(1, Ordering::SeqCst);
+        let count = self.left.min(buf.len());
+        buf[..count].fill(0);
+        self.left -= count;
+        Ok(count)
+    }
+}
+
+/// An output that counts its bytes and how often it is finished, and may fail then.
+#[derive(Drop)]
+struct Closing {
+    bytes: usize,
+    finished: u32,
+    bytes_then: usize,
+    fails: bool,
+    failures: u64,
+}
+
+impl Closing {
+    fn new(fails: bool) -> Closing
+        ensures { result.failures ≡ 0 }
+    {
+        Closing {
+            bytes: 0,
+            finished: 0,
+            bytes_then: 0,
+            fails,
+            failures: 0,
+        }
+    }
+}
+
+impl Output for Closing {
+    ghost written = { λ _. [] };
+
+    ghost tells = { λ _. false };
+
+    ghost failures = { λ out. out.failures };
+
+    fn put(&mut self, bytes: &[u8]) -> Result<usize, OutputFault> {
+        self.bytes = self.bytes.saturating_add(bytes.len());
+        Ok(bytes.len())
+    }
+
+    fn finish(&mut self) -> Result<(), OutputFault> {
+        self.finished = self.finished.saturating_add(1);
+        self.bytes_then = self.bytes;
+        if self.fails {
+            self.failures += 1;
+            return Err(OutputFault);
+        }
+        Ok(())
+    }
+}
+
+/// What became of a run, and how often its inputs were taken from.
+#[derive(Drop)]
+struct Ended {
+    outcome: Result<(), RunFault>,
+    out: Closing,
+    takes: [u64; 2],
+}
+
+/// Prints all reports over two files of so many zeros.
+fn all_over<R: Threads + Wait + Sync>(
+    rt: &R,
+    alloc: Global,
+    keys: RandomState,
+    sizes: [usize; 2],
+    fails: bool,
+) -> Result<Ended, AllocError> {
+    let first = AtomicU64::new(0);
+    let second = AtomicU64::new(0);
+    let kind = Kind::Login;
+    let mut sources = Vec::new(alloc);
+    for (left, takes) in [(sizes[0], &first), (sizes[1], &second)] {
+        let input = Counted { left, takes };
+        sources.push(Source { kind, input })?;
+    }
+    let job = alone(Report::All);
+    let mut out = Closing::new(fails);
+    let outcome = run(rt, alloc, keys, &job, sources, &OpenGate, &mut out);
+    Ok(Ended {
+        outcome,
+        out,
+        takes: [first.load(Ordering::SeqCst), second.load(Ordering::SeqCst)],
+    })
+}
+
+#[test]
+fn an_output_is_finished_once_after_the_last_section(rt: HostRuntime) -> Result<(), Fail> {
+    let ended = all_over(&rt, rt.alloc(), RandomState::new(&rt)?, [384, 0], false)?;
+    assert!(rt; ended.outcome.is_ok() && ended.out.finished == 1);
+    assert!(rt; ended.out.bytes > 0 && ended.out.bytes_then == ended.out.bytes);
+    Ok(())
+}
+
+#[test]
+fn an_output_that_fails_at_its_end_fails_the_run(rt: HostRuntime) -> Result<(), Fail> {
+    let ended = all_over(&rt, rt.alloc(), RandomState::new(&rt)?, [384, 0], true)?;
+    assert!(rt; ended.outcome == Err(RunFault::Write) && ended.out.finished == 1);
+    Ok(())
+}
+
+#[test]
+fn a_feeder_stops_at_its_first_file_that_fails(rt: HostRuntime) -> Result<(), Fail> {
+    let ended = all_over(&rt, rt.alloc(), RandomState::new(&rt)?, [385, 384], false)?;
+    let fault = FeedFault::Torn {
+        records: 1,
+        rest: 1,
+    };
+    assert!(rt; ended.outcome == Err(RunFault::File { host: 0, fault }));
+    assert!(rt; ended.takes[0] > 0 && ended.takes[1] == 0 && ended.out.bytes == 0);
+    Ok(())
+}

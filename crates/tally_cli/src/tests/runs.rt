@@ -1,0 +1,287 @@
+//! What runs over small files write.
+ghost use Rattle.tally_cli.specs.Jobs.{IsRunnable};
+
+use crate::{Form, Job, Report, RunFault, Source, run};
+use std::alloc::{AllocError, Global};
+use std::hash::RandomState;
+use std::sync::Wait;
+use std::test::Fail;
+use std::thread::Threads;
+use tally_desk::{Bytes, FeedFault, OpenGate};
+use tally_print::{Kept, Output, OutputFault};
+use tally_records::Kind;
+use tally_usage::Order;
+
+const TOTAL: Report = Report::Connect {
+    by_day: false,
+    by_user: false,
+};
+
+fn plain(report: Report) -> Job
+    ensures { IsRunnable result }
+{
+    Job {
+        report,
+        form: Form::Text,
+        feeders: 4,
+        askers: 0,
+        offset: 0,
+        until: None,
+    }
+}
+
+// Writes a text into bytes.
+pub(crate) fn put_at(bytes: &mut [u8], at: usize, text: &[u8]) {
+    for (index, byte) in text.iter().enumerate() {
+        if let Some(place) = bytes.get_mut(at.saturating_add(index)) {
+            *place = *byte;
+        }
+    }
+}
+
+// The file of one hour: a login of ann on tty1 at 1000000, a logout at 1003600.
+fn one_hour(alloc: Global, rest: usize) -> Result<Vec<u8>, AllocError> {
+    let mut bytes = vec![in alloc; 0u8; 768]?;
+    put_at(bytes.as_mut_slice(), 0, &[7]);
+    put_at(bytes.as_mut_slice(), 8, b"tty1");
+    put_at(bytes.as_mut_slice(), 44, b"ann");
+    put_at(bytes.as_mut_slice(), 340, &[0x40, 0x42, 0x0F, 0]);
+    put_at(bytes.as_mut_slice(), 384, &[8]);
+    put_at(bytes.as_mut_slice(), 392, b"tty1");
+    put_at(bytes.as_mut_slice(), 724, &[0x50, 0x50, 0x0F, 0]);
+    bytes.truncate(rest);
+    Ok(bytes)
+}
+
+// What a run over a file of these bytes writes, and how it ends.
+fn run_over<R: Threads + Wait + Sync>(
+    rt: &R,
+    alloc: Global,
+    keys: RandomState,
+    report: Report,
+    kind: Kind,
+    bytes: Vec<u8>,
+) -> Result<(Result<(), RunFault>, Kept), AllocError> {
+    let mut sources = Vec::new(alloc);
+    let input = Bytes::new(bytes);
+    sources.push(Source { kind, input })?;
+    let mut out = Kept::new(alloc);
+    let outcome = run(
+        rt,
+        alloc,
+        keys,
+        &plain(report),
+        sources,
+        &OpenGate,
+        &mut out,
+    );
+    Ok((outcome, out))
+}
+
+// What `ac` writes of these bytes, and how it ends.
+fn ac<R: Threads + Wait + Sync>(
+    rt: &R,
+    alloc: Global,
+    keys: RandomState,
+    bytes: Vec<u8>,
+) -> Result<(Result<(), RunFault>, Kept), AllocError> {
+    run_over(rt, alloc, keys, TOTAL, Kind::Login, bytes)
+}
+
+#[test]
+fn an_hour_is_its_total(rt: HostRuntime) -> Result<(), Fail> {
+    let (outcome, out) = ac(
+        &rt,
+        rt.alloc(),
+        RandomState::new(&rt)?,
+        one_hour(rt.alloc(), 768)?,
+    )?;
+    assert!(rt; outcome.is_ok());
+    assert!(rt; out.bytes() == b"total                        1.00\n".as_slice());
+    Ok(())
+}
+
+#[test]
+fn an_hour_is_a_stay(rt: HostRuntime) -> Result<(), Fail> {
+    let report = Report::Last { limit: None };
+    let (outcome, out) = run_over(
+        &rt,
+        rt.alloc(),
+        RandomState::new(&rt)?,
+        report,
+        Kind::Login,
+        one_hour(rt.alloc(), 768)?,
+    )?;
+    assert!(rt; outcome.is_ok());
+    let stay =
+        b"ann      tty1                          1970-01-12 13:46:40 - 1970-01-12 14:46:40 (01:00)\n".as_slice();
+    assert!(rt; out.bytes().starts_with(stay));
+    assert!(rt; out.bytes().len() == stay.len() + 33);
+    Ok(())
+}
+
+// A call of make by user 0 that took 2 seconds, and 1 second of cpu.
+fn one_call(alloc: Global) -> Result<Vec<u8>, AllocError> {
+    let mut bytes = vec![in alloc; 0u8; 64]?;
+    put_at(bytes.as_mut_slice(), 1, &[2]);
+    put_at(bytes.as_mut_slice(), 12, &[100]);
+    put_at(bytes.as_mut_slice(), 16, &[200]);
+    put_at(bytes.as_mut_slice(), 36, b"make");
+    Ok(bytes)
+}
+
+#[test]
+fn a_call_is_a_row_of_its_own(rt: HostRuntime) -> Result<(), Fail> {
+    let report = Report::Commands {
+        order: Order::Cpu,
+        reverse: false,
+        all: true,
+    };
+    let (outcome, out) = run_over(
+        &rt,
+        rt.alloc(),
+        RandomState::new(&rt)?,
+        report,
+        Kind::Proc,
+        one_call(rt.alloc())?,
+    )?;
+    assert!(rt; outcome.is_ok());
+    assert!(rt;
+        out.bytes()
+            == b"       1         0.03re         0.02cp          0avio          0k\n       1         0.03re         0.02cp          0avio          0k make\n".as_slice()
+    );
+    Ok(())
+}
+
+#[test]
+fn a_call_is_counted_for_its_user(rt: HostRuntime) -> Result<(), Fail> {
+    let report = Report::Users {
+        order: Order::Cpu,
+        reverse: false,
+    };
+    let (outcome, out) = run_over(
+        &rt,
+        rt.alloc(),
+        RandomState::new(&rt)?,
+        report,
+        Kind::Proc,
+        one_call(rt.alloc())?,
+    )?;
+    assert!(rt; outcome.is_ok());
+    assert!(rt;
+        out.bytes()
+            == b"total             1         0.03re         0.02cp          0avio          0k\n0                 1         0.03re         0.02cp          0avio          0k\n".as_slice()
+    );
+    Ok(())
+}
+
+#[test]
+fn an_empty_file_has_the_total_zero(rt: HostRuntime) -> Result<(), Fail> {
+    let (outcome, out) = ac(
+        &rt,
+        rt.alloc(),
+        RandomState::new(&rt)?,
+        Vec::new(rt.alloc()),
+    )?;
+    assert!(rt; outcome.is_ok());
+    assert!(rt; out.bytes() == b"total                        0.00\n".as_slice());
+    Ok(())
+}
+
+#[test]
+fn a_torn_file_writes_nothing(rt: HostRuntime) -> Result<(), Fail> {
+    let (outcome, out) = ac(
+        &rt,
+        rt.alloc(),
+        RandomState::new(&rt)?,
+        one_hour(rt.alloc(), 385)?,
+    )?;
+    let fault = FeedFault::Torn {
+        records: 1,
+        rest: 1,
+    };
+    assert!(rt; outcome == Err(RunFault::File { host: 0, fault }));
+    assert!(rt; out.bytes().is_empty());
+    Ok(())
+}
+
+#[test]
+fn a_torn_second_file_is_named(rt: HostRuntime) -> Result<(), Fail> {
+    let mut sources = Vec::new(rt.alloc());
+    let kind = Kind::Login;
+    let whole = Bytes::new(one_hour(rt.alloc(), 768)?);
+    sources.push(Source { kind, input: whole })?;
+    let torn = Bytes::new(one_hour(rt.alloc(), 385)?);
+    sources.push(Source { kind, input: torn })?;
+    let mut out = Kept::new(rt.alloc());
+    let keys = RandomState::new(&rt)?;
+    let outcome = run(
+        &rt,
+        rt.alloc(),
+        keys,
+        &plain(Report::All),
+        sources,
+        &OpenGate,
+        &mut out,
+    );
+    let fault = FeedFault::Torn {
+        records: 1,
+        rest: 1,
+    };
+    assert!(rt; outcome == Err(RunFault::File { host: 1, fault }));
+    assert!(rt; out.bytes().is_empty());
+    Ok(())
+}
+
+// An output that takes so many bytes, one by one, and then fails.
+#[derive(Drop)]
+struct Narrow {
+    room: usize,
+    failures: u64,
+}
+
+impl Output for Narrow {
+    ghost use Rattle.std.specs.Prelude.{[], false};
+
+    ghost written = { λ _. [] };
+
+    ghost tells = { λ _. false };
+
+    ghost failures = { λ out. out.failures };
+
+    fn put(&mut self, bytes: &[u8]) -> Result<usize, OutputFault> {
+        if self.room == 0 {
+            self.failures += 1;
+            return Err(OutputFault);
+        }
+        self.room -= 1;
+        Ok(bytes.len().min(1))
+    }
+
+    fn finish(&mut self) -> Result<(), OutputFault> {
+        Ok(())
+    }
+}
+
+#[test]
+fn an_output_that_fails_ends_the_run(rt: HostRuntime) -> Result<(), Fail> {
+    let mut sources = Vec::new(rt.alloc());
+    let kind = Kind::Login;
+    let input = Bytes::new(one_hour(rt.alloc(), 768)?);
+    sources.push(Source { kind, input })?;
+    let mut out = Narrow {
+        room: 5,
+        failures: 0,
+    };
+    let outcome = run(
+        &rt,
+        rt.alloc(),
+        RandomState::new(&rt)?,
+        &plain(TOTAL),
+        sources,
+        &OpenGate,
+        &mut out,
+    );
+    assert!(rt; outcome == Err(RunFault::Write) && out.room == 0);
+    Ok(())
+}

@@ -1,0 +1,133 @@
+//! Files that are read while an asker asks, and the same files one after the other.
+ghost use Rattle.std.specs.Prelude.{◌≤◌};
+
+use crate::tests::runs::put_at;
+use crate::{Form, Job, Report, RunFault, Source, run};
+use std::alloc::{AllocError, Global};
+use std::hash::RandomState;
+use std::sync::Wait;
+use std::sync::atomic::{AtomicU64, Ordering};
+use std::test::Fail;
+use std::thread;
+use std::thread::Threads;
+use tally_desk::{Bytes, Gate, OpenGate};
+use tally_print::Kept;
+use tally_records::Kind;
+
+/// The most turns of the processor that a caller gives up while it waits for the others.
+const PATIENCE: u32 = 20_000_000;
+
+/// A gate that lets the second call of so many callers go on only when all have come to it.
+#[derive(Drop)]
+struct Meeting {
+    callers: u64,
+    arrived: AtomicU64,
+    late: AtomicU64,
+}
+
+impl Meeting {
+    fn of(callers: u64) -> Meeting {
+        Meeting {
+            callers,
+            arrived: AtomicU64::new(0),
+            late: AtomicU64::new(0),
+        }
+    }
+}
+
+impl Gate for Meeting {
+    fn before(&self, _caller: u32, turn: u32) {
+        if turn != 1 {
+            return;
+        }
+        self.arrived.fetch_add(1, Ordering::SeqCst);
+        for _ in 0..PATIENCE {
+            if self.arrived.load(Ordering::SeqCst) >= self.callers {
+                return;
+            }
+            thread::yield_now();
+        }
+        self.late.fetch_add(1, Ordering::SeqCst);
+    }
+}
+
+// A login file of two blocks: a login at 0, 1,023 empty records, a logout.
+fn two_blocks(alloc: Global, user: &[u8], logout: &[u8]) -> Result<Vec<u8>, AllocError> {
+    let mut bytes = vec![in alloc; 0u8; 393_600]?;
+    put_at(bytes.as_mut_slice(), 0, &[7]);
+    put_at(bytes.as_mut_slice(), 8, b"tty1");
+    put_at(bytes.as_mut_slice(), 44, user);
+    put_at(bytes.as_mut_slice(), 393_216, &[8]);
+    put_at(bytes.as_mut_slice(), 393_224, b"tty1");
+    put_at(bytes.as_mut_slice(), 393_556, logout);
+    Ok(bytes)
+}
+
+// What all reports on both files are, by so many feeders and askers that pass this gate.
+fn all_of_two<R: Threads + Wait + Sync, G: Gate + Sync>(
+    rt: &R,
+    alloc: Global,
+    keys: RandomState,
+    feeders: u32,
+    askers: u32,
+    gate: &G,
+) -> Result<(Result<(), RunFault>, Kept), AllocError>
+    requires { (1 ≤ feeders) × (feeders ≤ 64) × (askers ≤ 128) }
+{
+    let kind = Kind::Login;
+    let mut sources = Vec::new(alloc);
+    let ann = Bytes::new(two_blocks(alloc, b"ann", &[0x10, 0x0E])?);
+    sources.push(Source { kind, input: ann })?;
+    let bob = Bytes::new(two_blocks(alloc, b"bob", &[0x20, 0x1C])?);
+    sources.push(Source { kind, input: bob })?;
+    let job = Job {
+        report: Report::All,
+        form: Form::Text,
+        feeders,
+        askers,
+        offset: 0,
+        until: None,
+    };
+    let mut out = Kept::new(alloc);
+    let outcome = run(rt, alloc, keys, &job, sources, gate, &mut out);
+    Ok((outcome, out))
+}
+
+const ALL_OF_TWO: &[u8] = b"\
+ann      tty1                          1970-01-01 00:00:00 - 1970-01-01 01:00:00 (01:00)
+
+wtmp begins 1970-01-01 00:00:00
+
+bob      tty1                          1970-01-01 00:00:00 - 1970-01-01 02:00:00 (02:00)
+
+wtmp begins 1970-01-01 00:00:00
+
+total                        3.00
+
+       0         0.00re         0.00cp          0avio          0k
+";
+
+#[test]
+fn two_feeders_and_an_asker_go_on_together(rt: HostRuntime) -> Result<(), Fail> {
+    let gate = Meeting::of(3);
+    let (outcome, out) = all_of_two(&rt, rt.alloc(), RandomState::new(&rt)?, 2, 1, &gate)?;
+    assert!(rt; outcome == Ok(()) && gate.late.load(Ordering::SeqCst) == 0);
+    assert!(rt; out.bytes() == ALL_OF_TWO);
+    Ok(())
+}
+
+#[test]
+fn two_feeders_go_on_together(rt: HostRuntime) -> Result<(), Fail> {
+    let gate = Meeting::of(2);
+    let (outcome, out) = all_of_two(&rt, rt.alloc(), RandomState::new(&rt)?, 2, 0, &gate)?;
+    assert!(rt; outcome == Ok(()) && gate.late.load(Ordering::SeqCst) == 0);
+    assert!(rt; out.bytes() == ALL_OF_TWO);
+    Ok(())
+}
+
+#[test]
+fn one_feeder_alone_gives_the_same(rt: HostRuntime) -> Result<(), Fail> {
+    let (outcome, out) = all_of_two(&rt, rt.alloc(), RandomState::new(&rt)?, 1, 0, &OpenGate)?;
+    assert!(rt; outcome == Ok(()) && out.bytes() == ALL_OF_TWO);
+    Ok(())
+}

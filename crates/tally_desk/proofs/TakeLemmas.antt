@@ -1,0 +1,46 @@
+-- How much a feed takes from its input.
+use Rattle.std.proofs.Common.{◌≤◌, ◌<◌, ◌+◌, ◌*◌, ◌++◌, ℕ, List, [], Option, arith, length, length-append, take}
+use Rattle.std.proofs.KnownBytes.{Consumes-kept, Consumes-nil, Consumes-trans}
+use Rattle.std.proofs.lemmas.List.{length-take}
+use Rattle.std.specs.Io.KnownBytes.{Consumes, Keeps}
+use Rattle.tally_records.specs.declared.batch.Kind.{Kind}
+use Rattle.tally_records.specs.declared.batch.Kind.TheVariants.{Login, Proc}
+use Rattle.tally_desk.specs.Blocks.{block_size}
+use Rattle.tally_desk.specs.Takings.{TakesAtMost}
+
+pub takes_nothing : (most : ℕ) (a : Option (List ℕ)) → TakesAtMost most a a
+takes_nothing most a = ([], Consumes-nil a, omega arith)
+
+pub takes_part : (most n : ℕ) (a b : Option (List ℕ)) (buffer : List ℕ) → Consumes a b (take n buffer) → length buffer ≤ most → TakesAtMost most a b
+takes_part most n a b buffer taken few = (take n buffer, taken, omega (arith, length-take n buffer))
+
+pub takes_kept : (most n : ℕ) (a b c : Option (List ℕ)) (buffer : List ℕ) → Consumes a b (take n buffer) → Keeps b c → length buffer ≤ most → TakesAtMost most a c
+takes_kept most n a b c buffer taken kept few = takes_part most n a c buffer (Consumes-kept a b c _ taken kept) few
+
+pub takes_more : (m n most : ℕ) (a b c : Option (List ℕ)) → TakesAtMost m a b → TakesAtMost n b c → m + n ≤ most → TakesAtMost most a c
+takes_more m n most a b c first second few =
+    (first.0 ++ second.0, Consumes-trans a b c _ _ first.1 second.1, omega (arith, first.2, second.2, length-append first.0 second.0))
+
+few_blocks : (kind : Kind) (turn : ℕ) → turn < 1024 → turn * block_size kind + block_size kind ≤ 1024 * block_size kind + 1
+few_blocks Login turn early = omega arith
+few_blocks Proc turn early = omega arith
+
+next_block : (kind : Kind) (turn : ℕ) → turn * block_size kind + block_size kind ≤ (turn + 1) * block_size kind
+next_block Login turn = omega arith
+next_block Proc turn = omega arith
+
+all_blocks : (kind : Kind) (turn more : ℕ) → turn ≤ 1024 → more ≤ 1 → turn * block_size kind + more ≤ 1024 * block_size kind + 1
+all_blocks Login turn more early few = omega arith
+all_blocks Proc turn more early few = omega arith
+
+-- a feed took so many blocks
+module _ (kind : Kind) (turn : ℕ) (a b c : Option (List ℕ)) (so_far : TakesAtMost (turn * block_size kind) a b) where
+  pub takes_next : TakesAtMost (block_size kind) b c → TakesAtMost ((turn + 1) * block_size kind) a c
+  takes_next block = takes_more _ _ _ a b c so_far block (next_block kind turn)
+
+  pub takes_few : TakesAtMost (block_size kind) b c → turn < 1024 → TakesAtMost (1024 * block_size kind + 1) a c
+  takes_few block early = takes_more _ _ _ a b c so_far block (few_blocks kind turn early)
+
+  -- and then looked for the end
+  pub takes_last : TakesAtMost 1 b c → turn ≤ 1024 → TakesAtMost (1024 * block_size kind + 1) a c
+  takes_last byte early = takes_more _ _ _ a b c so_far byte (all_blocks kind turn 1 early (omega arith))

@@ -1,0 +1,24 @@
+-- Worked examples, computed by the definitions.
+use Rattle.std.proofs.Common.{◌≡◌, [], ◌∷◌, replicate, Some, None, Err, refl}
+use Rattle.tally_records.specs.declared.batch.Kind.TheVariants.{Login, Proc}
+use Rattle.tally_records.specs.declared.fault.BatchFault.TheVariants as batch
+use Rattle.tally_records.specs.declared.fault.RecordFault.TheVariants as record_fault
+use Rattle.tally_desk.specs.Blocks.{bad_record, block_fault, pieces}
+use Rattle.tally_desk.specs.declared.fault.FeedFault.TheVariants.{Torn, TooLong, Bad}
+
+-- bytes are cut into pieces, the last one shorter
+cut : pieces 3 (1 ∷ 2 ∷ 3 ∷ 4 ∷ 5 ∷ 6 ∷ 7 ∷ []) ∷ pieces 3 (1 ∷ 2 ∷ 3 ∷ []) ∷ pieces 3 [] ∷ [] ≡ ((1 ∷ 2 ∷ 3 ∷ []) ∷ (4 ∷ 5 ∷ 6 ∷ []) ∷ (7 ∷ []) ∷ []) ∷ ((1 ∷ 2 ∷ 3 ∷ []) ∷ []) ∷ [] ∷ []
+unfolding pieces
+cut = refl
+
+-- a bad record is numbered in its input: the sixth of the third block is 2053
+numbered : bad_record 2 (Err (batch.Bad 5 (record_fault.ProcVersion 9))) ∷ bad_record 2 (Err (batch.Memory)) ∷ [] ≡ Some (Bad 2053 (record_fault.ProcVersion 9)) ∷ None ∷ []
+numbered = refl
+
+-- a block with a rest is torn, and names the records and bytes of the whole input
+torn : block_fault Proc 130 (0, replicate 65 2) ∷ block_fault Login 65921 (0, replicate 3 7) ∷ [] ≡ Some (Torn 2 2) ∷ Some (Torn 171 257) ∷ []
+torn = refl
+
+-- the block after the last is too long, whatever it has
+too_long : block_fault Proc 67108865 (1024, 2 ∷ []) ∷ block_fault Login 402653184 (1024, []) ∷ [] ≡ Some TooLong ∷ Some TooLong ∷ []
+too_long = refl

@@ -1,0 +1,8 @@
+-- What no public contract cites.
+pub mod Knowledge
+pub mod Rule
+pub mod Seats
+pub mod Steps
+pub mod Totals
+pub mod Turns
+pub mod Views

@@ -1,0 +1,149 @@
+//! One block of an input.
+ghost use Rattle.std.specs.Prelude.{◌≡◌, ◌≢◌, ◌+◌, ◌-◌, ◌*◌, ◌^◌, ◌<◌, ◌≤◌, ◌/◌, ◌%◌, IfErr, IfOk, IfSome, OnErr, OnOk, Ok, None, Some, List, ℕ, length, take, true};
+ghost use Rattle.std.specs.Io.KnownBytes.{Consumes, IsAtEnd};
+ghost use Rattle.tally_desk.specs.Batches.{batch_of, record_size, records_in};
+ghost use Rattle.tally_desk.specs.Blocks.{block_fault, block_size};
+ghost use Rattle.tally_desk.specs.Feeds.{IsAfter};
+ghost use Rattle.tally_desk.specs.Takings.{TakesAtMost};
+ghost use Rattle.tally_desk.specs.inside.Turns.{IsLast, IsBatch, IsBatchRefusal, IsBlockRefusal, IsReadFault, Takes, TurnStops};
+ghost use Rattle.tally_desk.specs.declared.fault.FeedFault.TheVariants as fault;
+ghost use Rattle.tally_records.specs.Records.{IsAnswer, NamesRecordBelow, record_count};
+
+use crate::fault::FeedFault;
+use crate::feeding::input::{Input, InputFault};
+use std::alloc::Global;
+use tally_records::{BATCH_LIMIT, Batch, BatchFault, Kind, LOGIN_SIZE, PROC_SIZE};
+
+/// The bytes of a record.
+pub(crate) fn record_size(kind: Kind) -> usize
+    ensures { result ≡ record_size kind }
+{
+    match kind {
+        Kind::Login => LOGIN_SIZE,
+        Kind::Proc => PROC_SIZE,
+    }
+}
+
+/// The bytes of a full block.
+pub(crate) fn block_size(kind: Kind) -> usize
+    ensures { result ≡ block_size kind }
+{
+    BATCH_LIMIT * record_size(kind)
+}
+
+/// Fills the block up to its end or to the end of the input, and says how far.
+pub(crate) fn fill<I: Input>(input: &mut I, block: &mut [u8]) -> Result<usize, InputFault>
+    requires { I.failures input.old < 2 ^ 64 - 1 }
+    ensures bound { IfOk result (λ n. n ≤ length block.new) }
+    ensures bytes { IfOk result (λ n.
+        Consumes (I.to_come input.old) (I.to_come input.new) (take n block.new)) }
+    ensures end { IfOk result (λ n. n < length block.new → IsAtEnd (I.to_come input.new)) }
+    ensures few { TakesAtMost (length block.new) (I.to_come input.old) (I.to_come input.new) }
+    ensures nature { I.can_fail input.new ≡ I.can_fail input.old }
+    ensures ok { OnOk result (I.failures input.new ≡ I.failures input.old) }
+    ensures err { OnErr result (I.failures input.new ≡ I.failures input.old + 1) }
+    ensures cause { OnErr result (I.can_fail input.old ≡ true) }
+{
+    let mut filled = 0;
+    while filled < block.len() {
+        let count = input.take(&mut block[filled..])?;
+        if count == 0 {
+            return Ok(filled);
+        }
+        filled += count;
+    }
+    Ok(filled)
+}
+
+/// The batch of the bytes.
+fn read_batch(alloc: Global, kind: Kind, bytes: &[u8]) -> Result<Batch, BatchFault>
+    ensures exact { IsAnswer result (batch_of kind bytes.now) }
+    ensures place { IfErr result (NamesRecordBelow (length bytes.now / record_size kind)) }
+{
+    match kind {
+        Kind::Login => Batch::logins(alloc, bytes),
+        Kind::Proc => Batch::procs(alloc, bytes),
+    }
+}
+
+/// The batch of a block of whole records.
+fn block_batch(alloc: Global, kind: Kind, bytes: &[u8], turn: u32) -> Result<Batch, FeedFault>
+    requires room { length bytes.now ≤ block_size kind }
+    requires whole { length bytes.now % record_size kind ≡ 0 }
+    requires early { turn < 1024 }
+    ensures value { IfOk result (λ batch. batch ≡ records_in kind bytes.now) }
+    ensures good { OnOk result (batch_of kind bytes.now ≡ Ok (records_in kind bytes.now)) }
+    ensures count { IfOk result (λ batch.
+        record_count batch ≡ length bytes.now / record_size kind) }
+    ensures err { IfErr result (IsBatchRefusal kind turn bytes.now) }
+    ensures place { IfErr result (IsAfter kind turn) }
+{
+    match read_batch(alloc, kind, bytes) {
+        Ok(batch) => Ok(batch),
+        Err(BatchFault::Memory) => Err(FeedFault::Memory),
+        Err(BatchFault::Bad { index, fault }) => Err(FeedFault::Bad {
+            at: u64::from(turn) * 1024 + index as u64,
+            fault,
+        }),
+        Err(BatchFault::Length(_)) => unreachable!(),
+        Err(BatchFault::TooMany(_)) => unreachable!(),
+    }
+}
+
+/// The batch of the bytes of a block.
+fn whole_batch(alloc: Global, kind: Kind, bytes: &[u8], turn: u32) -> Result<Batch, FeedFault>
+    requires room { length bytes.now ≤ block_size kind }
+    requires early { turn < 1024 }
+    ensures whole { OnOk result (length bytes.now % record_size kind ≡ 0) }
+    ensures good { OnOk result
+        (block_fault kind (turn * block_size kind + length bytes.now) (turn, bytes.now) ≡ None) }
+    ensures value { IfOk result (λ batch. batch ≡ records_in kind bytes.now) }
+    ensures count { IfOk result (λ batch.
+        record_count batch ≡ length bytes.now / record_size kind) }
+    ensures err { IfErr result (IsBlockRefusal kind turn bytes.now) }
+    ensures place { IfErr result (IsAfter kind turn) }
+{
+    let size = record_size(kind);
+    if bytes.len() % size != 0 {
+        return Err(FeedFault::Torn {
+            records: u64::from(turn) * 1024 + (bytes.len() / size) as u64,
+            rest: (bytes.len() % size) as u64,
+        });
+    }
+    block_batch(alloc, kind, bytes, turn)
+}
+
+/// The batch of the input's next block, or none at the end of the input.
+pub(crate) fn next_batch<I: Input>(
+    alloc: Global,
+    kind: Kind,
+    input: &mut I,
+    block: &mut [u8],
+    turn: u32,
+) -> Result<Option<Batch>, FeedFault>
+    requires countable { I.failures input.old < 2 ^ 64 - 1 }
+    requires size { length block.old ≡ block_size kind }
+    requires early { turn < 1024 }
+    ensures few { TakesAtMost (block_size kind) (I.to_come input.old) (I.to_come input.new) }
+    ensures end { IfOk result (λ next. IsLast next → IsAtEnd (I.to_come input.new)) }
+    ensures failures { OnOk result (I.failures input.new ≡ I.failures input.old) }
+    ensures nature { I.can_fail input.new ≡ I.can_fail input.old }
+    ensures read { IfErr result (λ f. f ≡ fault.Read
+        → (I.failures input.new ≡ I.failures input.old + 1) × (I.can_fail input.old ≡ true)) }
+    ensures unfailed { IfErr result (λ f. f ≢ fault.Read
+        → I.failures input.new ≡ I.failures input.old) }
+    ensures reading { IfErr result IsReadFault }
+    ensures place { IfErr result (IsAfter kind turn) }
+    ensures batch { IfOk result (λ next. IfSome next (IsBatch kind)) }
+    ensures takes { IfOk result (λ next. (rest : List ℕ) → I.to_come input.old ≡ Some rest
+        → Takes kind turn rest (I.to_come input.new) next) }
+    ensures stops { IfErr result (λ f. (rest : List ℕ) → I.to_come input.old ≡ Some rest
+        → TurnStops kind turn rest f) }
+{
+    let filled = fill(input, block)?;
+    if filled == 0 {
+        return Ok(None);
+    }
+    let batch = whole_batch(alloc, kind, &block[..filled], turn)?;
+    Ok(Some(batch))
+}

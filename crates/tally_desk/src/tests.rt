@@ -1,0 +1,7 @@
+//! Desks and their callers at work, with inputs and gates that are made for it.
+
+mod desk;
+mod feeding;
+mod makers;
+mod rounds;
+mod threads;

@@ -1,0 +1,154 @@
+//! Desks, inputs and gates for tests.
+ghost use Rattle.std.specs.Prelude.{◌≡◌, IfOk, None, false};
+
+use crate::{Desk, Gate, Input, InputFault, Pass};
+use std::alloc::{AllocError, Global};
+use std::hash::RandomState;
+use std::io::{ErrorKind, Read};
+use std::sync::atomic::{AtomicU64, Ordering};
+use std::test::Fail;
+use std::{io, thread};
+use tally_book::Book;
+
+/// A desk of one caller, and its pass.
+pub(crate) fn opened(alloc: Global, keys: RandomState) -> Result<(Desk, Pass), Fail>
+    ensures { IfOk result (λ r. r.1.desk ≡ r.0.id) }
+{
+    let (desk, mut passes) = Desk::open(alloc, keys, 1)?;
+    let Some(pass) = passes.pop() else {
+        unreachable!()
+    };
+    Ok((desk, pass))
+}
+
+/// The book of a desk of one caller.
+pub(crate) fn closed(alloc: Global, desk: Desk, pass: Pass) -> Result<Option<Book>, Fail>
+    requires { pass.desk ≡ desk.id }
+{
+    let mut passes = Vec::new(alloc);
+    passes.push(pass)?;
+    Ok(desk.close(passes).ok())
+}
+
+/// Process records of version 2.
+pub(crate) fn twos(alloc: Global, count: usize) -> Result<Vec<u8>, AllocError> {
+    vec![in alloc; 2u8; count]
+}
+
+/// A reader of twos that gives at most `step` bytes a time, `left` in all, and may then fail.
+/// Its first reads are interrupted.
+#[derive(Drop)]
+pub(crate) struct Trickle {
+    pub(crate) step: usize,
+    pub(crate) left: usize,
+    pub(crate) fails: bool,
+    pub(crate) interrupts: usize,
+}
+
+impl Read for Trickle {
+    fn read(&mut self, buf: &mut [u8]) -> io::Result<usize> {
+        if self.interrupts > 0 {
+            self.interrupts -= 1;
+            return Err(io::Error::from(ErrorKind::Interrupted));
+        }
+        let count = self.left.min(self.step).min(buf.len());
+        if count == 0 && self.fails {
+            return Err(io::Error::from(ErrorKind::Other));
+        }
+        buf[..count].fill(2);
+        self.left -= count;
+        Ok(count)
+    }
+}
+
+/// A reader of twos, `left` in all, which fails when it is read after it has said that it is at its end.
+#[derive(Drop)]
+pub(crate) struct Once {
+    pub(crate) left: usize,
+    pub(crate) ended: bool,
+}
+
+impl Read for Once {
+    fn read(&mut self, buf: &mut [u8]) -> io::Result<usize> {
+        if self.ended {
+            return Err(io::Error::from(ErrorKind::Other));
+        }
+        let count = self.left.min(buf.len());
+        self.ended = count == 0 && !buf.is_empty();
+        buf[..count].fill(2);
+        self.left -= count;
+        Ok(count)
+    }
+}
+
+/// An input of zeros that never ends.
+#[derive(Drop)]
+pub(crate) struct Zeros;
+
+impl Input for Zeros {
+    ghost to_come = { λ _. None };
+
+    ghost can_fail = { λ _. false };
+
+    ghost failures = { λ _. 0 };
+
+    fn take(&mut self, buf: &mut [u8]) -> Result<usize, InputFault> {
+        buf.fill(0);
+        Ok(buf.len())
+    }
+}
+
+/// A gate that keeps the turns that it has seen, as digits from 1.
+#[derive(Drop)]
+pub(crate) struct Turns {
+    pub(crate) digits: AtomicU64,
+}
+
+impl Gate for Turns {
+    fn before(&self, _caller: u32, turn: u32) {
+        let before = self.digits.load(Ordering::SeqCst);
+        let digits = before.wrapping_mul(10).wrapping_add(u64::from(turn) + 1);
+        self.digits.store(digits, Ordering::SeqCst);
+    }
+}
+
+/// The most turns of the processor that a caller gives up while it waits for the others.
+const PATIENCE: u32 = 1_000_000;
+
+/// A gate that lets so many callers go on together, each time that all have come to it. A caller
+/// that has waited too long goes on alone, and is counted.
+#[derive(Drop)]
+pub(crate) struct Meeting {
+    callers: u64,
+    arrived: AtomicU64,
+    late: AtomicU64,
+}
+
+impl Meeting {
+    pub(crate) fn of(callers: u64) -> Meeting {
+        Meeting {
+            callers,
+            arrived: AtomicU64::new(0),
+            late: AtomicU64::new(0),
+        }
+    }
+
+    /// How often a caller went on alone.
+    pub(crate) fn late(&self) -> u64 {
+        self.late.load(Ordering::SeqCst)
+    }
+}
+
+impl Gate for Meeting {
+    fn before(&self, _caller: u32, _turn: u32) {
+        let before = self.arrived.fetch_add(1, Ordering::SeqCst);
+        for _ in 0..PATIENCE {
+            let together = self.arrived.load(Ordering::SeqCst) / self.callers.max(1);
+            if together > before / self.callers.max(1) {
+                return;
+            }
+            thread::yield_now();
+        }
+        self.late.fetch_add(1, Ordering::SeqCst);
+    }
+}

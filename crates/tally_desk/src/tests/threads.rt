@@ -1,0 +1,196 @@
+//! Callers that feed and ask side by side, each in a thread of its own.
+ghost use Rattle.std.specs.Prelude.{◌≡◌, IfOk};
+
+use crate::tests::makers::{Meeting, twos};
+use crate::{Bytes, Desk, Gate, Pass, feed};
+use std::alloc::Global;
+use std::hash::RandomState;
+use std::sync::Wait;
+use std::test::Fail;
+use std::thread::{Threads, join};
+use tally_book::{Book, Call, Question};
+use tally_records::Kind;
+
+const TOTAL: Question = Question::Connect {
+    by_day: false,
+    by_user: false,
+    offset: 0,
+    until: None,
+};
+
+/// Asks one question together with the others' calls, and says how many calls the desk then had,
+/// where that is at least the number of this one.
+fn ask_once<R: Wait>(
+    rt: &R,
+    alloc: Global,
+    desk: &Desk,
+    pass: &mut Pass,
+    gate: &Meeting,
+) -> Option<u64>
+    requires { pass.old.desk ≡ desk.now.id }
+    ensures { pass.new.desk ≡ pass.old.desk }
+{
+    gate.before(pass.number(), 0);
+    let served = desk.ask(rt, alloc, pass, &TOTAL).ok()?;
+    let stored = desk.stored(pass);
+    (stored >= served.call).then_some(stored)
+}
+
+/// Feeds 1,025 records as two posts and asks two questions, each call made together with the
+/// others' calls. Answers whether the desk then counted them each time.
+fn take_part<R: Wait>(
+    rt: &R,
+    alloc: Global,
+    desk: &Desk,
+    pass: &mut Pass,
+    gate: &Meeting,
+) -> Option<bool>
+    requires { pass.old.desk ≡ desk.now.id }
+    ensures { pass.new.desk ≡ pass.old.desk }
+{
+    let mut input = Bytes::new(twos(alloc, 65_600).ok()?);
+    let fed = feed(rt, alloc, desk, pass, Kind::Proc, &mut input, gate).ok()?;
+    let posted = desk.stored(pass);
+    let once = ask_once(rt, alloc, desk, pass, gate)?;
+    let twice = ask_once(rt, alloc, desk, pass, gate)?;
+    Some(fed.batches == 2 && posted >= 2 && once >= 3 && twice >= 4)
+}
+
+/// A caller's part in any thread.
+fn part_of<R: Wait>(
+    rt: &R,
+    alloc: Global,
+    desk: &Desk,
+    mut pass: Pass,
+    gate: &Meeting,
+) -> (Pass, bool)
+    requires { pass.desk ≡ desk.now.id }
+    ensures { result.0.desk ≡ pass.desk }
+{
+    let taken = take_part(rt, alloc, desk, &mut pass, gate).unwrap_or(false);
+    (pass, taken)
+}
+
+/// The parts of two callers, in a thread each.
+fn parts_of_two<R: Threads + Wait + Sync>(
+    rt: &R,
+    alloc: Global,
+    desk: &Desk,
+    first: Pass,
+    second: Pass,
+    gate: &Meeting,
+) -> (Pass, Pass, bool)
+    requires first { first.desk ≡ desk.now.id }
+    requires second { second.desk ≡ desk.now.id }
+    ensures first { result.0.desk ≡ first.desk }
+    ensures second { result.1.desk ≡ second.desk }
+{
+    let ((first, one), (second, other)) = join(
+        rt,
+        || part_of(rt, alloc, desk, first, gate),
+        || part_of(rt, alloc, desk, second, gate),
+    );
+    (first, second, one && other)
+}
+
+/// The closed book of two callers, where both took part.
+fn book_of_two<R: Threads + Wait + Sync>(
+    rt: &R,
+    alloc: Global,
+    keys: RandomState,
+    gate: &Meeting,
+) -> Result<Book, Fail> {
+    let (desk, mut passes) = Desk::open(alloc, keys, 2)?;
+    let second = passes.pop().ok_or("a second pass")?;
+    let first = passes.pop().ok_or("a first pass")?;
+    let (first, second, taken) = parts_of_two(rt, alloc, &desk, first, second, gate);
+    let mut handed = Vec::new(alloc);
+    handed.push(first)?;
+    handed.push(second)?;
+    let book = desk.close(handed).ok().ok_or("all passes are there")?;
+    if taken {
+        Ok(book)
+    } else {
+        Err("a call was refused")?
+    }
+}
+
+/// The closed book of four callers, where all took part.
+fn book_of_four<R: Threads + Wait + Sync>(
+    rt: &R,
+    alloc: Global,
+    keys: RandomState,
+    gate: &Meeting,
+) -> Result<Book, Fail> {
+    let (desk, mut passes) = Desk::open(alloc, keys, 4)?;
+    let fourth = passes.pop().ok_or("a fourth pass")?;
+    let third = passes.pop().ok_or("a third pass")?;
+    let second = passes.pop().ok_or("a second pass")?;
+    let first = passes.pop().ok_or("a first pass")?;
+    let ((first, second, one), (third, fourth, other)) = join(
+        rt,
+        || -> (Pass, Pass, bool)
+            requires { (first.desk ≡ desk.id) × (second.desk ≡ desk.id) }
+        { parts_of_two(rt, alloc, &desk, first, second, gate) },
+        || -> (Pass, Pass, bool)
+            requires { (third.desk ≡ desk.id) × (fourth.desk ≡ desk.id) }
+        { parts_of_two(rt, alloc, &desk, third, fourth, gate) },
+    );
+    let mut handed = Vec::new(alloc);
+    handed.push(first)?;
+    handed.push(second)?;
+    handed.push(third)?;
+    handed.push(fourth)?;
+    let book = desk.close(handed).ok().ok_or("all passes are there")?;
+    if one && other {
+        Ok(book)
+    } else {
+        Err("a call was refused")?
+    }
+}
+
+/// How many records are the caller's, how many posts it made, and how many questions it asked.
+fn share_of(book: &Book, number: u32) -> (usize, usize, usize) {
+    let entries = book.procs();
+    let records = (0..entries.len()).filter(
+        |place| matches!(entries.get(*place), Some(entry) if entry.host == number),
+    );
+    let calls = book.calls().iter();
+    let posts = calls.filter(
+        |call| matches!(call, Call::Posted { caller, .. } if *caller == number),
+    );
+    let calls = book.calls().iter();
+    let asks = calls.filter(|call| matches!(call, Call::Asked { caller, .. } if *caller == number));
+    (records.count(), posts.count(), asks.count())
+}
+
+/// Whether this many last calls are questions that were asked of this many records.
+fn all_asked_at(book: &Book, last: usize, procs: u64) -> bool {
+    let mut calls = book.calls().iter().rev().take(last);
+    calls.all(|call| matches!(call, Call::Asked { at, .. } if at.procs == procs))
+}
+
+#[test]
+fn two_callers_feed_and_ask_side_by_side(rt: HostRuntime) -> Result<(), Fail> {
+    let gate = Meeting::of(2);
+    let book = book_of_two(&rt, rt.alloc(), RandomState::new(&rt)?, &gate)?;
+    assert_eq!(rt; gate.late(), 0);
+    assert_eq!(rt; book.calls().len(), 8);
+    assert_eq!(rt; share_of(&book, 0), (1025, 2, 2));
+    assert_eq!(rt; share_of(&book, 1), (1025, 2, 2));
+    assert!(rt; all_asked_at(&book, 4, 2050));
+    Ok(())
+}
+
+#[test]
+fn four_callers_feed_and_ask_side_by_side(rt: HostRuntime) -> Result<(), Fail> {
+    let gate = Meeting::of(4);
+    let book = book_of_four(&rt, rt.alloc(), RandomState::new(&rt)?, &gate)?;
+    assert_eq!(rt; gate.late(), 0);
+    assert_eq!(rt; book.calls().len(), 16);
+    for number in 0..4 {
+        assert_eq!(rt; share_of(&book, number), (1025, 2, 2), "of {number}");
+    }
+    assert!(rt; all_asked_at(&book, 8, 4100));
+    Ok(())
+}

@@ -1,0 +1,40 @@
+-- A report as one table: the names of its columns, and the rows of its answers.
+use Rattle.std.specs.Prelude.{ℕ, ℤ, Bool, false, List, [], ◌∷◌, flat_map, map, None}
+use Rattle.tally_book.specs.declared.question.Answer.{Answer}
+use Rattle.tally_book.specs.declared.question.Answer.TheVariants as answers
+use Rattle.tally_book.specs.declared.question.ConnectRow.{ConnectRow}
+use Rattle.tally_print.specs.ConnectTable.{connect_fields, connect_header}
+use Rattle.tally_print.specs.StayTable.{stay_fields, stay_header}
+use Rattle.tally_print.specs.Tables.{Row, csv_text}
+use Rattle.tally_print.specs.UsageTable.{command_fields, command_header, user_fields, user_header}
+use Rattle.tally_print.specs.declared.report_table.Table.{Table}
+use Rattle.tally_print.specs.declared.report_table.Table.TheVariants.{Stays, Connect, Commands, Users}
+
+-- the names of a table's columns
+abbrev pub header : Table → Row
+header Stays = stay_header
+header (Connect by_day by_user) = connect_header by_day by_user
+header Commands = command_header
+header Users = user_header
+
+-- the connect times that are rows: the total, where they are neither by day nor by user
+abbrev pub connect_rows : Bool → Bool → List ConnectRow → ℕ → List ConnectRow
+connect_rows false false rows total = record { day = None; user = None; seconds = total } ∷ []
+connect_rows by_day by_user rows total = rows
+
+-- the rows of an answer, with moments at an offset in minutes east of UTC; an answer to another kind of question has none
+abbrev pub answer_rows : Table → ℤ → Answer → List Row
+answer_rows Stays offset (answers.Last rows first) = map (stay_fields offset) rows
+answer_rows (Connect by_day by_user) offset (answers.Connect rows total) =
+    map (connect_fields by_day by_user) (connect_rows by_day by_user rows total)
+answer_rows Commands offset (answers.Commands rows total) = map command_fields rows
+answer_rows Users offset (answers.Users rows total) = map user_fields rows
+answer_rows table offset answer = []
+
+-- the header once, and then the rows of all answers
+abbrev pub report_rows : Table → ℤ → List Answer → List Row
+report_rows table offset all = header table ∷ flat_map (answer_rows table offset) all
+
+-- the text of that table
+abbrev pub table_text : Table → ℤ → List Answer → List ℕ
+table_text table offset all = csv_text (report_rows table offset all)

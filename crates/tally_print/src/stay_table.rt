@@ -1,0 +1,207 @@
+//! Stays as CSV.
+ghost use Rattle.std.specs.Prelude.{◌≡◌, ◌+◌, ◌-◌, ◌^◌, ◌<◌, ◌++◌, ◌∷◌, [], IsTrue, OnOk, decimal, map};
+ghost use Rattle.std.specs.Fmt.{signed_decimal};
+ghost use Rattle.csv.specs.Writing.{default_writer, field_text, row_text};
+ghost use Rattle.tally_sessions.specs.Days.{IsOffset};
+ghost use Rattle.tally_print.specs.Output.{AppendsPrefix, failed_calls};
+ghost use Rattle.tally_print.specs.StayTable.{end_word, iso_moment, line_field, stay_fields, stay_header, user_field, zone};
+ghost use Rattle.tally_print.specs.Text.{shown};
+ghost use Rattle.tally_print.specs.Tables.{csv_text};
+
+use crate::date::{day_time, push_date};
+use crate::fields::{push_number, push_shown_field};
+use crate::put::{new_page, put_all, turn_page};
+use crate::text::{push_clock, push_two};
+use crate::{Output, PrintFault};
+use std::alloc::{AllocError, Global};
+use tally_sessions::{End, Stay};
+
+#[tactic(auto, unfolding(crate::specs::StayTable::zone))]
+fn push_zone(line: &mut Vec<u8>, offset: i32) -> Result<(), AllocError>
+    requires { IsOffset offset }
+    ensures { OnOk result (line.new.items ≡ line.old.items ++ zone offset) }
+{
+    if offset < 0 {
+        line.push(b'-')?;
+    } else {
+        line.push(b'+')?;
+    }
+    let minutes = offset.unsigned_abs();
+    push_two(line, (minutes / 60) as u8)?;
+    line.push(b':')?;
+    push_two(line, (minutes % 60) as u8)
+}
+
+#[tactic(auto, unfolding(crate::specs::StayTable::iso_moment))]
+fn push_iso(line: &mut Vec<u8>, time: i32, offset: i32) -> Result<(), AllocError>
+    requires { IsOffset offset }
+    ensures { OnOk result (line.new.items ≡ line.old.items ++ iso_moment time offset) }
+{
+    let moment = day_time(time, offset);
+    push_date(line, moment.day)?;
+    line.push(b'T')?;
+    push_clock(line, moment.second)?;
+    push_zone(line, offset)
+}
+
+/// Appends a time in seconds since 1970.
+fn push_time(line: &mut Vec<u8>, time: i32) -> Result<(), AllocError>
+    ensures { OnOk result (line.new.items ≡ line.old.items ++ signed_decimal time) }
+{
+    push_number(line, time)
+}
+
+/// Appends the number of a file, counted from 1.
+fn push_file(line: &mut Vec<u8>, host: u32) -> Result<(), AllocError>
+    ensures { OnOk result (line.new.items ≡ line.old.items ++ decimal (host + 1)) }
+{
+    push_number(line, u64::from(host) + 1)
+}
+
+fn push_user(line: &mut Vec<u8>, stay: &Stay) -> Result<(), AllocError>
+    ensures { OnOk result (line.new.items ≡ line.old.items ++ field_text default_writer (user_field stay.now)) }
+{
+    if stay.is_boot {
+        line.extend_from_slice(b"reboot")
+    } else {
+        push_shown_field(line, &stay.user)
+    }
+}
+
+fn push_line(line: &mut Vec<u8>, stay: &Stay) -> Result<(), AllocError>
+    ensures { OnOk result (line.new.items ≡ line.old.items ++ field_text default_writer (line_field stay.now)) }
+{
+    if stay.is_boot {
+        Ok(())
+    } else {
+        push_shown_field(line, &stay.line)
+    }
+}
+
+fn push_end(line: &mut Vec<u8>, end: End) -> Result<(), AllocError>
+    ensures { OnOk result (line.new.items ≡ line.old.items ++ field_text default_writer (end_word end)) }
+{
+    match end {
+        End::Logout => line.extend_from_slice(b"logout"),
+        End::Next => line.extend_from_slice(b"next"),
+        End::Down => line.extend_from_slice(b"down"),
+        End::Crash => line.extend_from_slice(b"crash"),
+        End::Still => line.extend_from_slice(b"still"),
+    }
+}
+
+fn push_remote(line: &mut Vec<u8>, stay: &Stay) -> Result<(), AllocError>
+    ensures { OnOk result (line.new.items
+        ≡ line.old.items ++ (field_text default_writer (shown stay.now.remote) ++ 44 ∷ [])) }
+{
+    push_shown_field(line, &stay.remote)?;
+    line.push(b',')?;
+    Ok(())
+}
+
+fn push_place(line: &mut Vec<u8>, stay: &Stay) -> Result<(), AllocError>
+    ensures { OnOk result (line.new.items ≡ line.old.items ++ (field_text default_writer (line_field stay.now) ++ 44 ∷ []
+        ++ (field_text default_writer (shown stay.now.remote) ++ 44 ∷ []))) }
+{
+    push_line(line, stay)?;
+    line.push(b',')?;
+    push_remote(line, stay)
+}
+
+fn push_who(line: &mut Vec<u8>, stay: &Stay) -> Result<(), AllocError>
+    ensures { OnOk result (line.new.items ≡ line.old.items ++ (decimal (stay.now.host + 1) ++ 44 ∷ []
+        ++ field_text default_writer (user_field stay.now) ++ 44 ∷ []
+        ++ (field_text default_writer (line_field stay.now) ++ 44 ∷ []
+        ++ (field_text default_writer (shown stay.now.remote) ++ 44 ∷ [])))) }
+{
+    push_file(line, stay.host)?;
+    line.push(b',')?;
+    push_user(line, stay)?;
+    line.push(b',')?;
+    push_place(line, stay)
+}
+
+fn push_begin(line: &mut Vec<u8>, stay: &Stay) -> Result<(), AllocError>
+    ensures { OnOk result (line.new.items ≡ line.old.items ++ (signed_decimal stay.now.begin ++ 44 ∷ [])) }
+{
+    push_time(line, stay.begin)?;
+    line.push(b',')?;
+    Ok(())
+}
+
+fn push_start(line: &mut Vec<u8>, stay: &Stay, offset: i32) -> Result<(), AllocError>
+    requires { IsOffset offset }
+    ensures { OnOk result (line.new.items ≡ line.old.items ++ (signed_decimal stay.now.start ++ 44 ∷ []
+        ++ iso_moment stay.now.start offset ++ 44 ∷ [] ++ (signed_decimal stay.now.begin ++ 44 ∷ []))) }
+{
+    push_time(line, stay.start)?;
+    line.push(b',')?;
+    push_iso(line, stay.start, offset)?;
+    line.push(b',')?;
+    push_begin(line, stay)
+}
+
+fn push_ending(line: &mut Vec<u8>, stay: &Stay, offset: i32) -> Result<(), AllocError>
+    requires { IsOffset offset }
+    ensures { OnOk result (line.new.items ≡ line.old.items ++ (field_text default_writer (end_word stay.now.end) ++ 44 ∷ []
+        ++ signed_decimal stay.now.end_time ++ 44 ∷ [] ++ iso_moment stay.now.end_time offset ++ 44 ∷ [])) }
+{
+    push_end(line, stay.end)?;
+    line.push(b',')?;
+    push_time(line, stay.end_time)?;
+    line.push(b',')?;
+    push_iso(line, stay.end_time, offset)?;
+    line.push(b',')?;
+    Ok(())
+}
+
+fn push_seconds(line: &mut Vec<u8>, stay: &Stay) -> Result<(), AllocError>
+    ensures { OnOk result (line.new.items ≡ line.old.items ++ (decimal stay.now.length ++ 10 ∷ [])) }
+{
+    push_number(line, stay.length)?;
+    line.push(b'\n')?;
+    Ok(())
+}
+
+fn push_row(line: &mut Vec<u8>, stay: &Stay, offset: i32) -> Result<(), AllocError>
+    requires { IsOffset offset }
+    ensures { OnOk result (line.new.items ≡ line.old.items ++ row_text default_writer (stay_fields offset stay.now)) }
+{
+    push_who(line, stay)?;
+    push_start(line, stay, offset)?;
+    push_ending(line, stay, offset)?;
+    push_seconds(line, stay)
+}
+
+/// The names of the columns.
+#[tactic(auto, unfolding(crate::specs::StayTable::stay_header, csv::specs::Writing::fields_text, csv::specs::Writing::is_blank))]
+pub(crate) fn stay_header() -> &'static [u8]
+    ensures { result.now ≡ row_text default_writer stay_header }
+{
+    b"file,user,line,remote,start,start_at,begin,end,end_time,end_at,seconds\n"
+}
+
+/// Prints a row for each stay, with moments at an offset in minutes east of UTC. `Write` is a
+/// failure of the output in this call; a first part of the text was written then.
+pub(crate) fn print_stay_rows<O: Output>(
+    alloc: Global,
+    rows: &[Stay],
+    offset: i32,
+    out: &mut O,
+) -> Result<(), PrintFault>
+    requires failures { O.failures out.old < 2 ^ 64 - 1 }
+    requires offset_in_range { IsOffset offset }
+    ensures prefix { IsTrue (O.tells out.old)
+        → AppendsPrefix (O.written out.old) (O.written out.new) (csv_text (map (stay_fields offset) rows.now)) }
+    ensures ok { OnOk result (IsTrue (O.tells out.old)
+        → O.written out.new ≡ O.written out.old ++ csv_text (map (stay_fields offset) rows.now)) }
+    ensures counts { O.failures out.new ≡ O.failures out.old + failed_calls result }
+    ensures stays { O.tells out.new ≡ O.tells out.old }
+{
+    let mut page = new_page(alloc)?;
+    for row in rows {
+        push_row(&mut page, row, offset)?;
+        turn_page(&mut page, out)?;
+    }
+    put_all(page.as_slice(), out)
+}

@@ -1,0 +1,184 @@
+//! Tables as CSV.
+ghost use Rattle.std.specs.Prelude.{◌≡◌, ◌≤◌, ◌↔◌, All, IfOk, length};
+ghost use Rattle.tally_book.specs.Answers.{HasDay, HasDays};
+ghost use Rattle.tally_sessions.specs.Days.{IsDay, IsOffset};
+
+use super::{boot, is_printed, login, name};
+use crate::{Kept, Table, print_table};
+use std::alloc::Global;
+use std::process::Abort;
+use tally_book::{Answer, ConnectRow};
+use tally_records::{Comm, List, Memory};
+use tally_sessions::{End, Stay};
+use tally_usage::{CommandRow, UidRow, Usage};
+
+/// 30 calls, with sums that differ.
+const USAGE: Usage = Usage {
+    count: 30,
+    real: 6001,
+    cpu: 180,
+    io: 1000,
+    mem_cpu: 90_000,
+};
+
+fn of_day(day: i32, user: &[u8], seconds: u64) -> ConnectRow
+    requires { length user.now ≤ 32 }
+    ensures { HasDay result ↔ IsDay day }
+{
+    ConnectRow {
+        day: Some(day),
+        user: Some(name(user)),
+        seconds,
+    }
+}
+
+fn list_of<T: Copy>(alloc: Global, rows: &[T]) -> Result<List<T>, Memory>
+    ensures { IfOk result (λ list. list ≡ rows.now) }
+{
+    List::from_vec(alloc, Vec::from_slice(alloc, rows)?)
+}
+
+/// Asserts that the answers print this table, or a first part of it where a growth is refused.
+fn expect_table(
+    rt: &impl Abort,
+    alloc: Global,
+    table: Table,
+    answers: &[Answer],
+    offset: i32,
+    text: &[u8],
+)
+    requires days { All HasDays answers.now }
+    requires offset { IsOffset offset }
+{
+    let mut out = Kept::new(alloc);
+    let printed = print_table(alloc, table, answers, offset, &mut out);
+    is_printed(rt, printed, &out, text);
+}
+
+/// The same of connect times.
+fn expect_connect(
+    rt: &impl Abort,
+    alloc: Global,
+    by_day: bool,
+    by_user: bool,
+    rows: &[ConnectRow],
+    text: &[u8],
+)
+    requires { All HasDay rows.now }
+{
+    let Ok(rows) = list_of(alloc, rows) else {
+        return;
+    };
+    let answer = Answer::Connect { rows, total: 600 };
+    expect_table(
+        rt,
+        alloc,
+        Table::Connect { by_day, by_user },
+        &[answer],
+        0,
+        text,
+    );
+}
+
+fn of_file(alloc: Global, stay: Stay) -> Result<Answer, Memory>
+    ensures { IfOk result HasDays }
+{
+    let rows = list_of(alloc, &[stay])?;
+    Ok(Answer::Last { rows, first: None })
+}
+
+fn command(text: &[u8], forked: bool, other: bool) -> CommandRow
+    requires { length text.now ≤ 17 }
+{
+    let mut name: Comm = [0; 17];
+    name[..text.len()].copy_from_slice(text);
+    CommandRow {
+        name,
+        forked,
+        other,
+        usage: USAGE,
+    }
+}
+
+#[test]
+fn hostile_names_are_quoted(rt: HostRuntime) {
+    let rows = [
+        of_day(0, b"a,b", 1),
+        of_day(1, b"say \"hi\"", 86_400),
+        of_day(-1, b"x\ny\xFF", 4_294_967_295),
+        of_day(2, b"\"", 0),
+    ];
+    let text = b"\
+day,user,seconds
+1970-01-01,\"a,b\",1
+1970-01-02,\"say \"\"hi\"\"\",86400
+1969-12-31,x?y?,4294967295
+1970-01-03,\"\"\"\",0
+";
+    expect_connect(&rt, rt.alloc(), true, true, &rows, text);
+}
+
+#[test]
+fn an_empty_report_is_its_header_and_a_total_stands_alone(rt: HostRuntime) {
+    for (by_day, by_user, text) in [
+        (true, false, "day,seconds\n"),
+        (false, true, "user,seconds\n"),
+        (false, false, "seconds\n600\n"),
+    ] {
+        expect_connect(&rt, rt.alloc(), by_day, by_user, &[], text.as_bytes());
+    }
+}
+
+#[test]
+fn stays_of_two_files_stand_under_one_header(rt: HostRuntime) {
+    let alloc = rt.alloc();
+    let Ok(first) = of_file(alloc, boot(1100, End::Still, 1100, 0)) else {
+        return;
+    };
+    let Ok(second) = of_file(alloc, login(b"ann", -200, End::Down, 1000, 1200)) else {
+        return;
+    };
+    let text = b"\
+file,user,line,remote,start,start_at,begin,end,end_time,end_at,seconds
+1,reboot,,,1100,1969-12-31T18:48:20-05:30,1100,still,1100,1969-12-31T18:48:20-05:30,0
+1,ann,tty1,,-200,1969-12-31T18:26:40-05:30,-200,down,1000,1969-12-31T18:46:40-05:30,1200
+";
+    expect_table(&rt, alloc, Table::Stays, &[first, second], -330, text);
+}
+
+#[test]
+fn usage_has_ticks_and_sums(rt: HostRuntime) {
+    let alloc = rt.alloc();
+    let rows = [
+        command(b"a\"b", true, false),
+        command(b"***other", false, true),
+    ];
+    let Ok(rows) = list_of(alloc, &rows) else {
+        return;
+    };
+    let answer = Answer::Commands { rows, total: USAGE };
+    let text = b"\
+command,forked,other,calls,real_ticks,cpu_ticks,io,mem_cpu
+\"a\"\"b\",1,0,30,6001,180,1000,90000
+***other,0,1,30,6001,180,1000,90000
+";
+    expect_table(&rt, alloc, Table::Commands, &[answer], 0, text);
+}
+
+#[test]
+fn usage_of_users_has_their_numbers(rt: HostRuntime) {
+    let alloc = rt.alloc();
+    let row = UidRow {
+        uid: 4_294_967_295,
+        usage: USAGE,
+    };
+    let Ok(rows) = list_of(alloc, &[row]) else {
+        return;
+    };
+    let answer = Answer::Users { rows, total: USAGE };
+    let text = b"\
+uid,calls,real_ticks,cpu_ticks,io,mem_cpu
+4294967295,30,6001,180,1000,90000
+";
+    expect_table(&rt, alloc, Table::Users, &[answer], 0, text);
+}

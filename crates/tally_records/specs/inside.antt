@@ -1,0 +1,4 @@
+-- What no public contract cites.
+pub mod Compact
+pub mod Items
+pub mod Values

@@ -1,0 +1,165 @@
+ghost use Rattle.std.specs.Prelude.{◌≡◌, ◌≤◌, ◌<◌, ◌+◌, ◌*◌, ◌++◌, ◌^◌, All, drop, length, map, slice_get, take, vec_len, vec_capacity, OnOk, OnErr};
+ghost use Rattle.tally_records.specs.inside.Compact.Layout.{IsHead, bytes_of, field_of, moved, record_at, size};
+
+use crate::fault::Memory;
+use crate::field::{Name, Remote};
+use crate::login::LoginRecord;
+use crate::login::key::Key;
+
+/// A record but for its texts, which stand one after another as words from a place on.
+#[derive(Clone, Copy)]
+pub(crate) struct Head {
+    pub(crate) time: i32,
+    pub(crate) start: u32,
+    pub(crate) kind: u8,
+    /// How many words each text has.
+    pub(crate) line: u8,
+    pub(crate) user: u8,
+    pub(crate) remote: u8,
+}
+
+/// Writes the bytes of words over the first of a field.
+fn lay(field: &mut [u8], words: &[u64])
+    requires { 8 * length words.now ≤ length field.old }
+    ensures { field.new ≡ bytes_of words.now ++ drop (8 * length words.now) field.old }
+{
+    for (k, word) in words.iter().enumerate() {
+        field[8 * k..8 * k + 8].copy_from_slice(&word.to_le_bytes());
+    }
+}
+
+/// The field of a text.
+pub(crate) fn unpack<const N: usize>(words: &[u64]) -> [u8; N]
+    requires { 8 * length words.now ≤ N }
+    ensures { result ≡ field_of N words.now }
+{
+    let mut field = [0; N];
+    lay(&mut field, words);
+    field
+}
+
+/// The head at a place.
+pub(crate) fn head_at(heads: &[Head], index: usize) -> Option<Head>
+    ensures { result ≡ slice_get heads.now index }
+{
+    heads.get(index).copied()
+}
+
+/// The line of a head.
+#[tactic(auto, using(crate::proofs::Compact::Laying::part_as), unfolding(crate::specs::inside::Compact::Layout::record_at))]
+pub(crate) fn line_of(words: &[u64], head: Head) -> Name
+    requires within { head.start + size head ≤ length words.now }
+    requires small { IsHead head }
+    ensures { result ≡ (record_at words.now head).line }
+{
+    let line = head.start as usize;
+    let user = line + usize::from(head.line);
+    unpack(&words[line..user])
+}
+
+/// The user of a head.
+#[tactic(auto, using(crate::proofs::Compact::Laying::part_as), unfolding(crate::specs::inside::Compact::Layout::record_at))]
+pub(crate) fn user_of(words: &[u64], head: Head) -> Name
+    requires within { head.start + size head ≤ length words.now }
+    requires small { IsHead head }
+    ensures { result ≡ (record_at words.now head).user }
+{
+    let user = head.start as usize + usize::from(head.line);
+    let remote = user + usize::from(head.user);
+    unpack(&words[user..remote])
+}
+
+/// The line of a head, as a key.
+#[tactic(auto, using(crate::proofs::Compact::Laying::part_as), unfolding(crate::specs::inside::Compact::Layout::record_at))]
+pub(crate) fn line_key(words: &[u64], head: Head) -> Key
+    requires within { head.start + size head ≤ length words.now }
+    requires small { IsHead head }
+    ensures { result ≡ (record_at words.now head).line }
+{
+    let line = head.start as usize;
+    let user = line + usize::from(head.line);
+    Key::of_words(&words[line..user])
+}
+
+/// The user of a head, as a key.
+#[tactic(auto, using(crate::proofs::Compact::Laying::part_as), unfolding(crate::specs::inside::Compact::Layout::record_at))]
+pub(crate) fn user_key(words: &[u64], head: Head) -> Key
+    requires within { head.start + size head ≤ length words.now }
+    requires small { IsHead head }
+    ensures { result ≡ (record_at words.now head).user }
+{
+    let user = head.start as usize + usize::from(head.line);
+    let remote = user + usize::from(head.user);
+    Key::of_words(&words[user..remote])
+}
+
+/// The remote host of a head.
+#[tactic(auto, using(crate::proofs::Compact::Laying::part_as), unfolding(crate::specs::inside::Compact::Layout::record_at))]
+fn remote_of(words: &[u64], head: Head) -> Remote
+    requires within { head.start + size head ≤ length words.now }
+    requires small { IsHead head }
+    ensures { result ≡ (record_at words.now head).remote }
+{
+    let remote = head.start as usize + usize::from(head.line) + usize::from(head.user);
+    let end = remote + usize::from(head.remote);
+    unpack(&words[remote..end])
+}
+
+/// The record of a head.
+pub(crate) fn record(words: &[u64], head: Head) -> LoginRecord
+    requires within { head.start + size head ≤ length words.now }
+    requires small { IsHead head }
+    ensures { result ≡ record_at words.now head }
+{
+    LoginRecord {
+        kind: head.kind,
+        line: line_of(words, head),
+        user: user_of(words, head),
+        remote: remote_of(words, head),
+        time: head.time,
+    }
+}
+
+/// Adds the heads, their words so much further on.
+fn push_moved(heads: &mut Vec<Head>, base: u32, more: &[Head])
+    requires room { vec_len heads.old + length more.now ≤ vec_capacity heads.old }
+    requires fits { All (λ h. base + h.start < 2 ^ 32) more.now }
+    ensures { heads.new.items ≡ heads.old.items ++ map (moved base) more.now }
+{
+    for head in more {
+        heads.push_reserved(Head {
+            start: base + head.start,
+            ..*head
+        });
+    }
+}
+
+/// Adds heads and their words, or none.
+pub(crate) fn append_parts(
+    heads: &mut Vec<Head>,
+    words: &mut Vec<u64>,
+    more_heads: &[Head],
+    more_words: &[u64],
+) -> Result<(), Memory>
+    requires few { length words.old.items < 2 ^ 32 }
+    requires fits { All (λ h. length words.old.items + h.start < 2 ^ 32) more_heads.now }
+    ensures heads { OnOk result (heads.new.items ≡ heads.old.items ++ map (moved (length words.old.items)) more_heads.now) }
+    ensures words { OnOk result (words.new.items ≡ words.old.items ++ more_words.now) }
+    ensures heads_kept { OnErr result (heads.new.items ≡ heads.old.items) }
+    ensures words_kept { OnErr result (words.new.items ≡ words.old.items) }
+{
+    heads.reserve(more_heads.len())?;
+    let base = words.len() as u32;
+    words.extend_from_slice(more_words)?;
+    push_moved(heads, base, more_heads);
+    Ok(())
+}
+
+/// Keeps so many heads, and the words before the next one's.
+pub(crate) fn keep_before(heads: &mut Vec<Head>, words: &mut Vec<u64>, count: usize, next: Head)
+    ensures heads { heads.new.items ≡ take count heads.old.items }
+    ensures words { words.new.items ≡ take next.start words.old.items }
+{
+    words.truncate(next.start as usize);
+    heads.truncate(count);
+}

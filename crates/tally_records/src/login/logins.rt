@@ -1,0 +1,151 @@
+ghost use Rattle.std.specs.Prelude.{◌≡◌, ◌≤◌, ◌<◌, ◌+◌, ◌++◌, [], length, option_map, take, slice_get, IfOk, IfErr, OnOk, OnErr};
+ghost use Rattle.tally_records.specs.Decoding.{decoded, IsRead};
+ghost use Rattle.tally_records.specs.Event.{event_of};
+ghost use Rattle.tally_records.specs.LoginRecord.{login_result};
+ghost use Rattle.tally_records.specs.Records.{NamesRecordBelow};
+
+use crate::batch::BATCH_LIMIT;
+use crate::fault::{BatchFault, Memory};
+use crate::field::Name;
+use crate::login::decode::{RECORD_WORDS, decode_all};
+use crate::login::events::event_at;
+use crate::login::head::{
+    Head, append_parts, head_at, keep_before, line_key, record, user_key, user_of,
+};
+use crate::login::key::Key;
+use crate::login::{Event, LOGIN_SIZE, LoginRecord};
+use std::alloc::Global;
+use std::marker::Model;
+
+/// The most login records.
+pub const LOGINS_LIMIT: usize = 1_048_576;
+
+/// Login records, kept without the zeros after their texts.
+#[derive(Drop)]
+pub struct Logins {
+    heads: Vec<Head>,
+    words: Vec<u64>,
+}
+
+impl Model for Logins {
+    ghost use Rattle.std.specs.Prelude.{List};
+    ghost use Rattle.tally_records.specs.declared.login.LoginRecord.{LoginRecord as Record};
+
+    ghost Value = { List Record };
+
+    ghost use Rattle.tally_records.specs.inside.Compact.Kept.{records_of, IsSound};
+
+    ghost view = { records_of };
+
+    ghost invariant = { IsSound };
+}
+
+impl Logins {
+    /// No records, which take no memory.
+    pub fn new(alloc: Global) -> Logins
+        ensures { result ≡ [] }
+    {
+        Logins {
+            heads: Vec::new(alloc),
+            words: Vec::new(alloc),
+        }
+    }
+
+    /// The records of the blocks, or the first block that is none.
+    pub fn read(alloc: Global, blocks: &[[u8; LOGIN_SIZE]]) -> Result<Logins, BatchFault>
+        requires { length blocks.now ≤ BATCH_LIMIT }
+        ensures exact { IsRead (decoded login_result 0 blocks.now) result }
+        ensures count { IfOk result (λ records. length records ≡ length blocks.now) }
+        ensures place { IfErr result (NamesRecordBelow (length blocks.now)) }
+    {
+        let Ok(mut heads) = Vec::with_capacity(alloc, blocks.len()) else {
+            return Err(BatchFault::Memory);
+        };
+        let Ok(mut words) = Vec::with_capacity(alloc, RECORD_WORDS * blocks.len()) else {
+            return Err(BatchFault::Memory);
+        };
+        decode_all(&mut heads, &mut words, blocks)?;
+        Ok(Logins { heads, words })
+    }
+
+    /// How many there are.
+    pub fn len(&self) -> usize
+        ensures { result ≡ length self.now }
+    {
+        self.heads.len()
+    }
+
+    /// The record at a place, counted from 0.
+    pub fn get(&self, index: usize) -> Option<LoginRecord>
+        ensures { result ≡ slice_get self.now index }
+    {
+        let head = head_at(self.heads.as_slice(), index)?;
+        Some(record(self.words.as_slice(), head))
+    }
+
+    /// When a record was written.
+    pub fn time(&self, index: usize) -> Option<i32>
+        ensures { result ≡ option_map (λ r. r.time) (slice_get self.now index) }
+    {
+        let head = head_at(self.heads.as_slice(), index)?;
+        Some(head.time)
+    }
+
+    /// The user of a record.
+    pub fn user(&self, index: usize) -> Option<Name>
+        ensures { result ≡ option_map (λ r. r.user) (slice_get self.now index) }
+    {
+        let head = head_at(self.heads.as_slice(), index)?;
+        Some(user_of(self.words.as_slice(), head))
+    }
+
+    /// The event of a record.
+    pub fn event(&self, index: usize) -> Option<Event>
+        ensures { result ≡ option_map event_of (slice_get self.now index) }
+    {
+        let head = head_at(self.heads.as_slice(), index)?;
+        Some(event_at(self.words.as_slice(), head))
+    }
+
+    /// The line of a record, as a key.
+    pub fn line_key(&self, index: usize) -> Option<Key>
+        ensures { result ≡ option_map (λ r. r.line) (slice_get self.now index) }
+    {
+        let head = head_at(self.heads.as_slice(), index)?;
+        Some(line_key(self.words.as_slice(), head))
+    }
+
+    /// The user of a record, as a key.
+    pub fn user_key(&self, index: usize) -> Option<Key>
+        ensures { result ≡ option_map (λ r. r.user) (slice_get self.now index) }
+    {
+        let head = head_at(self.heads.as_slice(), index)?;
+        Some(user_key(self.words.as_slice(), head))
+    }
+
+    /// Adds the records of another, or none.
+    pub fn append(&mut self, more: &Logins) -> Result<(), Memory>
+        requires { length self.old + length more.now ≤ LOGINS_LIMIT }
+        ensures added { OnOk result (self.new ≡ self.old ++ more.now) }
+        ensures refused { OnErr result (self.new ≡ self.old) }
+    {
+        let heads = more.heads.as_slice();
+        append_parts(
+            &mut self.heads,
+            &mut self.words,
+            heads,
+            more.words.as_slice(),
+        )?;
+        Ok(())
+    }
+
+    /// Keeps the first so many records.
+    pub fn truncate(&mut self, count: usize)
+        ensures { self.new ≡ take count self.old }
+    {
+        let Some(head) = head_at(self.heads.as_slice(), count) else {
+            return;
+        };
+        keep_before(&mut self.heads, &mut self.words, count, head);
+    }
+}

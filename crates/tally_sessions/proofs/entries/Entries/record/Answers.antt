@@ -1,0 +1,5 @@
+use Rattle.tally_sessions.proofs.Lending.{within_list}
+use Rattle.tally_sessions.proofs.entries.Entries.record.Goals as goal
+
+pub record-requires : goal.record-requires
+record-requires c = within_list c.args.self c.args.at c.requires

@@ -1,0 +1,129 @@
+use Rattle.std.proofs.Common.{◌≡◌, ◌∙◌, ◌+◌, ◌≤◌, ◌<◌, ◌^◌, ℕ, ℤ, List, Bool, true, false, cond, pos, ◌+ℤ◌, ◌-ℤ◌, FitsSigned, length, refl, sym, ap, subst, arith, rules, to_z, of_z, w32, w64}
+use Rattle.std.proofs.lemmas.Int.{ints, to_z-of_z}
+use Rattle.std.specs.Ordering.{int_cmp, is_eq}
+use Rattle.std.specs.Prelude.{int_lt, unsigned_abs}
+use Rattle.tally_sessions.specs.declared.sums.Session.{Session}
+use Rattle.tally_sessions.specs.inside.Changes.{change_at, change_of_day, day_at}
+use Rattle.tally_sessions.specs.Days.{IsDay}
+use Rattle.tally_sessions.specs.Sums.{seconds_of_day, sessions_of}
+use Rattle.tally_sessions.specs.inside.Sums.{sum_at}
+use Rattle.tally_sessions.proofs.DayChanges.{none_earlier, none_later, seconds_of_day-le}
+use Rattle.tally_sessions.proofs.DaysLemmas.{above}
+use Rattle.tally_sessions.proofs.DayWalk.{IsWalked, walk_end, walk_start, walk_step}
+use Rattle.tally_sessions.proofs.sessions.Sessions.day_sums.Goals as goal
+use Rattle.tally_sessions.proofs.sessions.Sessions.day_sums.Goals.{then-seconds-gt0+in_ok-add, else-seconds-gt0}
+
+abbrev held : ℤ → ℤ
+held z = to_z w32 (of_z w32 z)
+
+abbrev kept : ℤ → ℤ
+kept z = to_z w64 (of_z w64 z)
+
+few_seconds : (offset day : ℤ) (ss : List Session) → length ss ≤ 1048576 → seconds_of_day offset day ss ≤ 2 ^ 40
+few_seconds offset day ss few = let n = seconds_of_day-le offset day ss in omega (arith, n, few)
+
+sum_in_range : (seconds change : ℤ) (a b : ℕ) → seconds ≡ pos a → change ≡ pos b -ℤ pos a → a ≤ 2 ^ 40 → b ≤ 2 ^ 40 → FitsSigned w64 (seconds +ℤ kept change)
+sum_in_range seconds change a b is is' few few' = omega (arith, ints)
+
+sum_is : (seconds change : ℤ) (a b : ℕ) → seconds ≡ pos a → change ≡ pos b -ℤ pos a → a ≤ 2 ^ 40 → b ≤ 2 ^ 40 → kept (seconds +ℤ kept change) ≡ pos b
+sum_is seconds change a b is is' few few' = omega (arith, ints)
+
+same_before : (place : ℕ) → day_at place ≡ day_at (place + 1) -ℤ pos 1
+same_before place = omega (arith, ints)
+
+next_day : (place : ℕ) → day_at place +ℤ pos 1 ≡ day_at (place + 1)
+next_day place = omega (arith, ints)
+
+nothing : (b : Bool) (m n : ℕ) → n ≡ 0 → m ≡ m + cond b n 0
+nothing true m n h = omega arith
+nothing false m n h = omega arith
+
+none_at : (z : ℤ) (n : ℕ) → z ≡ pos n → int_lt (pos 0) z ≡ false → n ≡ 0
+none_at z n is le = let low = above (pos 0) z le in omega (arith, ints, is, low)
+
+amount_is : (z : ℤ) (n : ℕ) → z ≡ pos n → unsigned_abs z ≡ n
+amount_is z n is = ap unsigned_abs is
+
+pub loop-place-init : goal.loop-place-init
+loop-place-init c =
+    let ss = sessions_of c.args.self.now.entries c.args.until in
+    let offset = held c.args.offset in
+    let days : (d : ℤ) → 0 < seconds_of_day offset d ss → IsDay d = c.in_ok-table.ensures.days in record {
+      seconds = ap pos (sym (none_earlier offset (day_at 0 -ℤ pos 1) ss days (omega (arith, ints))));
+      walked = subst (λ es. IsWalked (λ (d : ℤ). seconds_of_day offset d ss) (λ (d : ℤ). 0) (sum_at int_cmp es) (day_at 0)) (sym c.new-sums.ensures.empty)
+          (walk_start (λ (d : ℤ). seconds_of_day offset d ss) (λ (d : ℤ). 0) (day_at 0) (λ d le. none_earlier offset d ss days le));
+    }
+
+pub overflow_add-seconds : goal.overflow_add-seconds
+overflow_add-seconds c =
+    let ss = sessions_of c.args.self.now.entries c.args.until in
+    let offset = held c.args.offset in
+    let place = c.loop-place.place in
+    let within : place < 49715 = omega (arith, c.loop-place-test.true, c.deref-change-items.ensures.len, c.in_ok-table.ensures.all_days) in
+    let change : change_at c.deref-change-items.result.now place ≡ change_of_day offset (day_at place) ss =
+    ap (λ table. change_at table place) c.deref-change-items.ensures.value ∙ c.in_ok-table.ensures.value place within in
+    sum_in_range (to_z w64 c.loop-place.seconds-bits) (change_at c.deref-change-items.result.now place) (seconds_of_day offset (day_at place -ℤ pos 1) ss) (seconds_of_day offset (day_at place) ss)
+    c.loop-place.invariant.seconds change (few_seconds offset (day_at place -ℤ pos 1) ss c.in_ok-table.ensures.few) (few_seconds offset (day_at place) ss c.in_ok-table.ensures.few)
+
+pub add-requires : goal.add-requires
+add-requires c =
+    let ss = sessions_of c.args.self.now.entries c.args.until in
+    let offset = held c.args.offset in
+    let place = c.loop-place.place in
+    let within : place < 49715 = omega (arith, c.loop-place-test.true, c.deref-change-items.ensures.len, c.in_ok-table.ensures.all_days) in
+    let change : change_at c.deref-change-items.result.now place ≡ change_of_day offset (day_at place) ss =
+    ap (λ table. change_at table place) c.deref-change-items.ensures.value ∙ c.in_ok-table.ensures.value place within in
+    let few = few_seconds offset (day_at place) ss c.in_ok-table.ensures.few in
+    let seconds = sum_is (to_z w64 c.loop-place.seconds-bits) (change_at c.deref-change-items.result.now place) (seconds_of_day offset (day_at place -ℤ pos 1) ss) (seconds_of_day offset (day_at place) ss)
+    c.loop-place.invariant.seconds change (few_seconds offset (day_at place -ℤ pos 1) ss c.in_ok-table.ensures.few) few in
+    let day : held c.day_at.result ≡ day_at place = to_z-of_z w32 c.day_at.result (search rules) ∙ c.day_at.ensures in
+    let none : sum_at int_cmp c.loop-place.sums.entries (held c.day_at.result) ≡ 0 = ap (sum_at int_cmp c.loop-place.sums.entries) day ∙ c.loop-place.invariant.walked.rest (day_at place) (omega (arith, ints)) in
+    let amount = amount_is _ _ seconds in
+    omega (arith, none, amount, few)
+
+pub loop-place-preserved : goal.loop-place-preserved
+loop-place-preserved c =
+    let ss = sessions_of c.args.self.now.entries c.args.until in
+    let offset = held c.args.offset in
+    let place = c.loop-place.place in
+    let within : place < 49715 = omega (arith, c.loop-place-test.true, c.deref-change-items.ensures.len, c.in_ok-table.ensures.all_days) in
+    let change : change_at c.deref-change-items.result.now place ≡ change_of_day offset (day_at place) ss =
+    ap (λ table. change_at table place) c.deref-change-items.ensures.value ∙ c.in_ok-table.ensures.value place within in
+    let seconds = sum_is (to_z w64 c.loop-place.seconds-bits) (change_at c.deref-change-items.result.now place) (seconds_of_day offset (day_at place -ℤ pos 1) ss) (seconds_of_day offset (day_at place) ss)
+    c.loop-place.invariant.seconds change (few_seconds offset (day_at place -ℤ pos 1) ss c.in_ok-table.ensures.few) (few_seconds offset (day_at place) ss c.in_ok-table.ensures.few) in
+    let amount : ℤ → ℕ = λ (d : ℤ). seconds_of_day offset d ss in
+    let now : ℤ → ℕ = sum_at int_cmp c.loop-place.sums.entries in
+    let next : ℤ → ℕ = sum_at int_cmp c.if-seconds-gt0.sums.entries in
+    let added : (d : ℤ) → next d ≡ now d + cond (is_eq (int_cmp (day_at place) d)) (amount (day_at place)) 0 = λ d.
+    elim c.if-seconds-gt0.branch [
+      | then-seconds-gt0+in_ok-add w ↦
+          let day : held w.day_at.result ≡ day_at place = to_z-of_z w32 w.day_at.result (search rules) ∙ w.day_at.ensures in
+          ap (λ m. sum_at int_cmp m.entries d) w.sums-is ∙ w.in_ok-add.ensures d
+          ∙ (λ i. now d + cond (is_eq (int_cmp (day i) d)) (amount_is _ (amount (day_at place)) seconds i) 0)
+      | else-seconds-gt0 w ↦
+          ap (λ m. sum_at int_cmp m.entries d) w.sums-is
+          ∙ nothing (is_eq (int_cmp (day_at place) d)) (now d) (amount (day_at place)) (none_at _ _ seconds w.if-seconds-gt0.false)
+    ] in record {
+      seconds = seconds ∙ ap (λ (d : ℤ). pos (seconds_of_day offset d ss)) (same_before place);
+      walked = subst (IsWalked amount (λ (d : ℤ). 0) next) (next_day place)
+          (walk_step amount (λ (d : ℤ). 0) now next (day_at place) (amount (day_at place)) c.loop-place.invariant.walked refl added);
+    }
+
+pub returns-clause-value : goal.returns-clause-value
+returns-clause-value c day =
+    let ss = sessions_of c.args.self.now.entries c.args.until in
+    let offset = held c.args.offset in
+    let place = c.loop-place.place in
+    let offset_is : offset ≡ c.args.offset = to_z-of_z w32 c.args.offset (search rules) in
+    let days : (d : ℤ) → 0 < seconds_of_day offset d ss → IsDay d = c.in_ok-table.ensures.days in
+    let all : 49714 ≤ place = omega (arith, c.loop-place-test.false, c.deref-change-items.ensures.len, c.in_ok-table.ensures.all_days) in
+    let sum = walk_end (λ (d : ℤ). seconds_of_day offset d ss) (λ (d : ℤ). 0) (sum_at int_cmp c.loop-place.sums.entries) (day_at place) c.loop-place.invariant.walked
+    (λ d le. none_later offset d ss place days all le) day in
+    let value : sum_at int_cmp c.loop-place.sums.entries day ≡ seconds_of_day offset day ss = omega (arith, sum) in
+    value ∙ ap (λ (z : ℤ). seconds_of_day z day ss) offset_is
+
+pub returns-clause-days : goal.returns-clause-days
+returns-clause-days c day lt =
+    let ss = sessions_of c.args.self.now.entries c.args.until in
+    let offset_is : held c.args.offset ≡ c.args.offset = to_z-of_z w32 c.args.offset (search rules) in
+    c.in_ok-table.ensures.days day (subst (λ n. 0 < n) (returns-clause-value c day ∙ ap (λ (z : ℤ). seconds_of_day z day ss) (sym offset_is)) lt)

@@ -1,0 +1,13 @@
+use Rattle.std.proofs.Common.{◌≡◌, length, map, take, unwrap_or}
+use Rattle.tally_sessions.specs.Lent.{entries_in}
+use Rattle.tally_sessions.specs.Sums.{sessions_among}
+use Rattle.tally_sessions.specs.inside.Track.{stay_now}
+use Rattle.tally_sessions.proofs.DayHosts.{Grows, HaveDays}
+use Rattle.tally_sessions.proofs.track.Track.add_day_changes.Given as goal
+
+abbrev pub invariant-loop-i : goal.invariant-loop-i
+invariant-loop-i l = record {
+  all_days : length l.table ≡ 49715;
+  grows : Grows l.fn.offset (sessions_among (map (stay_now l.host (entries_in l.entries) l.self.clock (unwrap_or l.fn.until l.self.last)) (take l.i l.self.stays.items))) l.fn.table l.table;
+  days : HaveDays l.fn.offset (sessions_among (map (stay_now l.host (entries_in l.entries) l.self.clock (unwrap_or l.fn.until l.self.last)) (take l.i l.self.stays.items)));
+}

@@ -1,0 +1,10 @@
+-- What no public contract cites.
+pub mod Changes
+pub mod Entries
+pub mod Joined
+pub mod Kept
+pub mod Numbers
+pub mod Sums
+pub mod Totals
+pub mod Track
+pub mod Tracking

@@ -1,0 +1,11 @@
+-- Stored entries by place.
+use Rattle.std.specs.Prelude.{ℕ, List, [], get_or, pos}
+use Rattle.tally_sessions.specs.declared.entry.Entry.{Entry}
+
+-- what a read of an entry gives past the end
+abbrev pub no_entry : Entry
+no_entry = record { host = 0; item = record { kind = 0; line = []; user = []; remote = []; time = pos 0 } }
+
+-- the entry at a place
+abbrev pub entry_at : List Entry → ℕ → Entry
+entry_at es i = get_or es i no_entry

@@ -1,0 +1,6 @@
+-- What no public contract cites.
+pub mod Entries
+pub mod Keys
+pub mod Rows
+pub mod Sound
+pub mod Usage

@@ -1,0 +1,35 @@
+//! Going over stored process records.
+ghost use Rattle.std.specs.Prelude.{◌≡◌};
+ghost use Rattle.std.specs.Iterator.{YieldsFirst, item_count};
+ghost use Rattle.tally_usage.specs.Entries.{entries_in, entries_left};
+
+use crate::entry::{KeptProc, ProcEntries, ProcEntry};
+
+/// Goes over lent entries in stored order.
+#[derive(Drop)]
+pub struct ProcEntryIter<'a> {
+    kept: &'a [KeptProc],
+}
+
+impl<'a> Iterator for ProcEntryIter<'a> {
+    type Item = ProcEntry;
+
+    ghost next_gives = { YieldsFirst entries_left };
+
+    ghost remaining = { item_count entries_left };
+
+    fn next(&mut self) -> Option<ProcEntry> {
+        let (first, rest) = self.kept.split_first()?;
+        self.kept = rest;
+        Some(first.entry())
+    }
+}
+
+impl<'a> ProcEntries<'a> {
+    /// Goes over the entries, whose numbers are worked out one by one.
+    pub fn iter(self) -> ProcEntryIter<'a>
+        ensures { entries_left result ≡ entries_in self.entry }
+    {
+        ProcEntryIter { kept: self.kept }
+    }
+}
