@@ -101,6 +101,7 @@ fn comm_at(bytes: &[u8; PROC_SIZE], offset: usize, size: usize) -> Comm
 /// The fields of struct acct, linux/acct.h.
 fn pack_version_2(bytes: &[u8; PROC_SIZE]) -> PackedProc
     ensures value { record_of result ≡ fields_2 bytes.now }
+    ensures bounded { IsBounded (record_of result) }
 {
     PackedProc {
         uid: number_at(bytes, 56),
@@ -119,6 +120,7 @@ fn pack_version_2(bytes: &[u8; PROC_SIZE]) -> PackedProc
 /// The fields of struct acct_v3, linux/acct.h.
 fn pack_version_3(bytes: &[u8; PROC_SIZE]) -> PackedProc
     ensures value { record_of result ≡ fields_3 bytes.now }
+    ensures bounded { IsBounded (record_of result) }
 {
     PackedProc {
         uid: number_at(bytes, 8),
