@@ -1,5 +1,5 @@
 -- A call on a legal book leaves a legal book.
-use Rattle.std.proofs.Common.{◌≡◌, ◌⊎◌, inl, inr, ℕ, ◌+◌, ◌<◌, ◌≤◌, List, [], ◌∷◌, ◌++◌, length, take, drop, map, sym, refl, ap, ◌∙◌, subst, arith, length-append}
+use Rattle.std.proofs.Common.{◌≡◌, ◌⊎◌, inl, inr, ℕ, ◌+◌, ◌<◌, ◌≤◌, List, [], ◌∷◌, ◌++◌, length, take, drop, sym, refl, ap, ◌∙◌, subst, arith, length-append}
 use Rattle.std.proofs.lemmas.List.{length-map, take-append-le, take_all, drop_at}
 use Rattle.std.proofs.lemmas.List.Elements.{All-nil, All-cons, All-push, All-weaker}
 use Rattle.std.specs.List.{All}
@@ -15,7 +15,7 @@ use Rattle.tally_sessions.specs.Hosts.{posted_by}
 use Rattle.tally_usage.specs.declared.entry.ProcEntry.{ProcEntry}
 use Rattle.tally_usage.specs.Summary.{entries_of}
 use Rattle.tally_book.specs.Answers.{answer_of, NamesHostBelow}
-use Rattle.tally_book.specs.Books.{IsPost, IsReport, IsCall, Chains, IsLegal, before_of, after_of, between, counts_of, counts_with, nothing, posted, asked}
+use Rattle.tally_book.specs.Books.{IsCall, Chains, IsLegal, before_of, after_of, between, counts_of, counts_with, nothing, posted, asked}
 use Rattle.tally_book.specs.Contents.{Contents}
 use Rattle.tally_book.specs.Refusals.{HasRoom}
 

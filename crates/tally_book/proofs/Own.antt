@@ -1,18 +1,16 @@
 -- A caller's entries are the records of its posts.
-use Rattle.std.proofs.Common.{◌≡◌, ℕ, ◌≤◌, List, [], ◌∷◌, ◌++◌, length, map, sym, refl, ap, ◌∙◌, subst, arith, cond, Bool, true, false, eqb}
+use Rattle.std.proofs.Common.{◌≡◌, ℕ, List, [], ◌∷◌, ◌++◌, length, map, sym, refl, ap, ◌∙◌, subst, arith, cond, Bool, true, false, eqb}
 use Rattle.std.proofs.lemmas.List.{take_all}
 use Rattle.std.proofs.lemmas.List.Elements.{All-nil, All-cons, All-head, All-tail}
 use Rattle.std.specs.List.{All, flat_map}
 use Rattle.tally_book.specs.declared.history.Call.{Call}
 use Rattle.tally_book.specs.declared.history.Call.TheVariants.{Posted, Asked}
 use Rattle.tally_book.specs.declared.history.Counts.{Counts}
-use Rattle.tally_records.specs.declared.login.LoginRecord.{LoginRecord}
-use Rattle.tally_records.specs.declared.process.ProcRecord.{ProcRecord}
 use Rattle.tally_sessions.specs.declared.entry.Entry.{Entry}
 use Rattle.tally_usage.specs.declared.entry.ProcEntry.{ProcEntry}
 use Rattle.tally_book.specs.Books.{IsCall, Chains, IsLegal, caller_of, before_of, after_of, between, counts_of, nothing, calls_of}
 use Rattle.tally_book.specs.Contents.{Contents}
-use Rattle.tally_book.specs.Deeds.{Deed, Post, Ask, deed, logins_added, procs_added, EntriesArePosts}
+use Rattle.tally_book.specs.Deeds.{Deed, deed, logins_added, procs_added, EntriesArePosts}
 use Rattle.tally_book.proofs.Parts.{Part, Joins, IsPart, of_part, owned, owned_is_parts, nothing_between}
 
 abbrev login_part : Call → Part

@@ -1,7 +1,7 @@
 -- A list that is made of the parts of some owners, one after another: an owner's items are those of its parts.
-use Rattle.std.proofs.Common.{◌≡◌, ◌≢◌, ℕ, ◌+◌, ◌<◌, ◌≤◌, List, [], ◌∷◌, ◌++◌, length, take, drop, map, sym, refl, ap, ◌∙◌, subst, arith, cond, Bool, eqb, eq-eqb, ne_eqb, ⊎_elim}
+use Rattle.std.proofs.Common.{◌≡◌, ◌≢◌, ℕ, ◌≤◌, List, [], ◌∷◌, ◌++◌, length, take, drop, map, sym, refl, ap, ◌∙◌, subst, arith, cond, eqb, eq-eqb, ne_eqb, ⊎_elim}
 use Rattle.std.proofs.lemmas.Bool.{cases_eq}
-use Rattle.std.proofs.lemmas.List.{take-append-drop, take-take, drop-append-le, length-take-le, append-nil, drop_at, take_all, map-append}
+use Rattle.std.proofs.lemmas.List.{take-append-drop, take-take, drop-append-le, length-take-le, append-nil, drop_at, map-append}
 use Rattle.std.proofs.lemmas.List.Elements.{All-head, All-tail, filter-append}
 use Rattle.std.specs.List.{All, filter, flat_map}
 use Rattle.tally_book.specs.Books.{between}

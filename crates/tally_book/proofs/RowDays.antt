@@ -1,5 +1,5 @@
 -- The days of rows of connect times.
-use Rattle.std.proofs.Common.{◌≡◌, List, Some, None, map, sym, subst}
+use Rattle.std.proofs.Common.{◌≡◌, List, map, sym, subst}
 use Rattle.std.specs.List.{All}
 use Rattle.tally_book.specs.declared.question.ConnectRow.{ConnectRow}
 use Rattle.tally_sessions.specs.declared.times.DayTime.{DayTime}

@@ -5,9 +5,7 @@ use Rattle.std.specs.List.{flat_map}
 use Rattle.std.specs.List.Sorted.{IsPermutation}
 use Rattle.tally_book.specs.declared.question.Question.{Question}
 use Rattle.tally_book.specs.declared.question.Question.TheVariants as questions
-use Rattle.tally_book.specs.declared.question.Answer.{Answer}
 use Rattle.tally_book.specs.declared.question.Answer.TheVariants as answers
-use Rattle.tally_records.specs.declared.process.ProcRecord.{ProcRecord}
 use Rattle.tally_sessions.specs.declared.entry.Entry.{Entry}
 use Rattle.tally_sessions.specs.Stays.{stays_from}
 use Rattle.tally_sessions.specs.Totals.{connect_of, every_host, limited, session_seconds, total_of, user_seconds}
@@ -18,7 +16,6 @@ use Rattle.tally_records.specs.Sorted.{in_order}
 use Rattle.tally_usage.specs.declared.entry.ProcEntry.{ProcEntry}
 use Rattle.tally_usage.specs.Laws.{RecordOrderIsFree}
 use Rattle.tally_usage.specs.Totals.{records_of}
-use Rattle.tally_usage.specs.declared.order.Order.{Order}
 use Rattle.tally_book.specs.Answers.{answer_of, connect_rows, row_of_day, row_of_day_user, row_of_user}
 use Rattle.tally_book.specs.Deeds.{SameOfEachHost}
 use Rattle.tally_book.proofs.Permuted.{same_items}

@@ -8,7 +8,11 @@ use Rattle.tally_book.specs.declared.history.Receipt.{Receipt}
 use Rattle.tally_book.specs.declared.history.Served.{Served}
 use Rattle.tally_book.specs.declared.question.Question.{Question}
 use Rattle.tally_book.specs.declared.question.Answer.{Answer}
+use Rattle.tally_book.specs.declared.book.TheConstants.{CALL_LIMIT}
+use Rattle.tally_records.specs.declared.batch.TheConstants.{BATCH_LIMIT}
 use Rattle.tally_records.specs.Records.{Records, logins_in, procs_in}
+use Rattle.tally_sessions.specs.declared.sessions.TheConstants as sessions
+use Rattle.tally_usage.specs.declared.entry.TheConstants as usage
 use Rattle.tally_sessions.specs.declared.entry.Entry.{Entry}
 use Rattle.tally_sessions.specs.Hosts.{posted_by}
 use Rattle.tally_usage.specs.declared.entry.ProcEntry.{ProcEntry}
@@ -35,7 +39,7 @@ after_of (Asked caller at question answer) = at
 abbrev pub between : {X : Type 0} → ℕ → ℕ → List X → List X
 between from to xs = drop from (take to xs)
 
--- a post added at most 1,024 records of one kind, under its caller
+-- a post added at most a batch of records of one kind, under its caller
 pub record IsPost (callers : ℕ) (logins : List Entry) (procs : List ProcEntry) (caller : ℕ) (before after : Counts) : Type 0 where
   pub caller_in : caller < callers
   pub logins_grow : before.logins ≤ after.logins
@@ -43,8 +47,8 @@ pub record IsPost (callers : ℕ) (logins : List Entry) (procs : List ProcEntry)
   pub logins_in : after.logins ≤ length logins
   pub procs_in : after.procs ≤ length procs
   pub one_kind : (after.logins ≡ before.logins) ⊎ (after.procs ≡ before.procs)
-  pub few_logins : after.logins ≤ before.logins + 1024
-  pub few_procs : after.procs ≤ before.procs + 1024
+  pub few_logins : after.logins ≤ before.logins + BATCH_LIMIT
+  pub few_procs : after.procs ≤ before.procs + BATCH_LIMIT
   pub own_logins : All (λ (e : Entry). e.host ≡ caller) (between before.logins after.logins logins)
   pub own_procs : All (λ (e : ProcEntry). e.host ≡ caller) (between before.procs after.procs procs)
 
@@ -77,10 +81,10 @@ nothing = record { logins = 0; procs = 0 }
 -- the calls are a history of one thread that stored these entries, within the limits
 pub record IsLegal (b : Contents) : Type 0 where
   pub some_callers : 1 ≤ b.callers
-  pub few_callers : b.callers ≤ 128
-  pub few_calls : length b.calls ≤ 65536
-  pub few_logins : length b.logins ≤ 1048576
-  pub few_procs : length b.procs ≤ 1048576
+  pub few_callers : b.callers ≤ sessions.HOST_LIMIT
+  pub few_calls : length b.calls ≤ CALL_LIMIT
+  pub few_logins : length b.logins ≤ sessions.ENTRY_LIMIT
+  pub few_procs : length b.procs ≤ usage.ENTRY_LIMIT
   pub chained : Chains nothing b.calls (counts_of b)
   pub sound : All (IsCall b.callers b.logins b.procs) b.calls
 

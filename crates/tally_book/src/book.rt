@@ -15,8 +15,8 @@ use crate::question::Question;
 use std::alloc::Global;
 use std::hash::RandomState;
 use std::marker::Model;
-use tally_records::{Batch, Kind, Memory};
-use tally_sessions::{ENTRY_LIMIT as LOGIN_LIMIT, Entries, EntryList, Sessions};
+use tally_records::{BATCH_LIMIT, Batch, Kind, Memory};
+use tally_sessions::{ENTRY_LIMIT as LOGIN_LIMIT, Entries, EntryList, HOST_LIMIT, Sessions};
 use tally_usage::{ENTRY_LIMIT as PROC_LIMIT, ProcEntries, ProcList, Summary};
 
 /// The most calls of a history.
@@ -62,7 +62,7 @@ fn check_room(stored: Counts, calls: usize, batch: &Batch) -> Result<(), PostFau
     requires few_calls { calls ≤ CALL_LIMIT }
     ensures room { OnOk result (HasRoom stored batch.now) }
     ensures calls { OnOk result (calls < CALL_LIMIT) }
-    ensures few { OnOk result (record_count batch.now ≤ 1024) }
+    ensures few { OnOk result (record_count batch.now ≤ BATCH_LIMIT) }
     ensures cause { IfErr result (IsPostRefusal stored calls batch.now) }
     ensures told { IfErr result (λ f. f ≢ PostFault.Memory) }
 {
@@ -127,7 +127,7 @@ impl Book {
     /// An empty book of so many callers. Its tables are hashed by the keys.
     pub fn new(alloc: Global, keys: RandomState, callers: u32) -> Result<Book, Memory>
         requires some { 1 ≤ callers }
-        requires few { callers ≤ 128 }
+        requires few { callers ≤ HOST_LIMIT }
         ensures empty { IfOk result (λ b. b ≡ empty callers) }
         ensures legal { IfOk result IsLegal }
     {

@@ -1,8 +1,6 @@
-use Rattle.std.proofs.Common.{rules, ◌≡◌, ◌++◌, ◌∷◌, [], List, ◌∙◌, subst, sym, arith}
+use Rattle.std.proofs.Common.{rules, ◌≡◌, ◌++◌, ◌∷◌, [], List, ◌∙◌, subst, sym}
 use Rattle.tally_book.specs.declared.history.Call.{Call}
 use Rattle.tally_book.specs.declared.history.Call.TheVariants.{Asked}
-use Rattle.tally_book.specs.declared.history.Counts.{Counts}
-use Rattle.tally_book.specs.declared.question.Answer.{Answer}
 use Rattle.tally_book.specs.Answers.{answer_of}
 use Rattle.tally_book.specs.Books.{IsLegal, asked, counts_of}
 use Rattle.tally_book.specs.Contents.{Contents}
