@@ -1,6 +1,7 @@
 -- What a batch holds, and the batch that bytes stand for.
 use Rattle.std.specs.Prelude.{ℕ, ◌<◌, ◌/◌, ◌%◌, ◌≡◌, List, [], length, Option, None, Result, Ok, Err, slice_get, nat_lt, ◌==◌, if◌then◌else◌}
 use Rattle.std.specs.Simd.{first_chunks}
+use Rattle.tally_records.specs.declared.batch.TheConstants.{BATCH_LIMIT}
 use Rattle.tally_records.specs.declared.login.LoginRecord.{LoginRecord}
 use Rattle.tally_records.specs.declared.fault.BatchFault.{BatchFault}
 use Rattle.tally_records.specs.declared.fault.BatchFault.TheVariants.{Memory, Length, TooMany, Bad}
@@ -64,7 +65,7 @@ as_batch batch (Err fault) = Err fault
 abbrev pub batch_of : {R : Type 0} → (List R → Records) → (List ℕ → Result R RecordFault) → ℕ → List ℕ → Result Records BatchFault
 batch_of batch read size bytes =
     if length bytes % size == 0 then (
-    if nat_lt 1024 (length bytes / size) then Err (TooMany (length bytes / size))
+    if nat_lt BATCH_LIMIT (length bytes / size) then Err (TooMany (length bytes / size))
     else as_batch batch (decoded read 0 (first_chunks size (length bytes / size) bytes)))
     else Err (Length (length bytes))
 

@@ -3,7 +3,7 @@ use Rattle.std.proofs.Common.{◌≡◌, ℕ, ◌+◌, ◌-◌, ◌*◌, ◌<◌
 use Rattle.std.proofs.lemmas.Grind.{flat_map-append}
 use Rattle.std.proofs.lemmas.List.{append-nil, drop-drop, drop-replicate, drop_at, length-take-le, take_at, take_more}
 use borrow.Rule.Slice.PartMut.{put_mid}
-use Rattle.tally_records.specs.inside.Compact.Layout.{bytes_of, field_of, part, word_bytes}
+use Rattle.tally_records.specs.inside.Compact.Layout.{bytes_of, field_of, word_bytes}
 
 pub length-word_bytes : (word : ℕ) → length (word_bytes word) ≡ 8
 unfolding word_bytes
@@ -40,7 +40,3 @@ unfolding field_of
 laid_zeros n words =
     ap (λ (zs : List ℕ). bytes_of words ++ zs) (drop-replicate (8 * length words) n 0)
     ∙ ap (λ (k : ℕ). bytes_of words ++ replicate (n - k) 0) (sym (length-bytes_of words))
-
--- a part as the code cuts it
-pub part_as : (n : ℕ) (words : List ℕ) (from to at count : ℕ) → from ≡ at → to ≡ from + count → field_of n (take (to - from) (drop from words)) ≡ field_of n (part at count words)
-part_as n words from to at count e f = let width : to - from ≡ count = omega arith in λ i. field_of n (take (width i) (drop (e i) words))

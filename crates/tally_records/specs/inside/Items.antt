@@ -1,5 +1,6 @@
 -- What a batch keeps, as records.
 use Rattle.std.specs.Prelude.{ℕ, ◌≤◌, All, length, vec_len}
+use Rattle.tally_records.specs.declared.batch.TheConstants.{BATCH_LIMIT}
 use Rattle.tally_records.specs.declared.batch.Items.{Items}
 use Rattle.tally_records.specs.declared.batch.Items.TheVariants as kept
 use Rattle.tally_records.specs.PackedProc.{unpacked}
@@ -18,5 +19,5 @@ count_of (kept.Procs v) = vec_len v
 
 -- what every batch keeps
 pub record IsSound (items : Items) : Type 0 where
-  pub few : count_of items ≤ 1024
+  pub few : count_of items ≤ BATCH_LIMIT
   pub bounded : All IsBounded (procs_in (records_of items))

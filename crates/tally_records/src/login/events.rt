@@ -5,7 +5,7 @@ ghost use Rattle.tally_records.specs.Text.{padded};
 ghost use Rattle.tally_records.specs.inside.Compact.Layout.{IsHead, field_of, record_at, size};
 
 use crate::login::Event;
-use crate::login::head::{Head, user_key};
+use crate::login::head::{Head, line_words, user_key, user_words};
 use crate::login::key::Key;
 
 /// The words of "shutdown".
@@ -26,9 +26,7 @@ fn line_byte(words: &[u64], head: Head) -> u8
     requires small { IsHead head }
     ensures { result ≡ slice_index (record_at words.now head).line 0 }
 {
-    let line = head.start as usize;
-    let user = line + usize::from(head.line);
-    first_byte(&words[line..user])
+    first_byte(line_words(words, head))
 }
 
 fn user_byte(words: &[u64], head: Head) -> u8
@@ -36,9 +34,7 @@ fn user_byte(words: &[u64], head: Head) -> u8
     requires small { IsHead head }
     ensures { result ≡ slice_index (record_at words.now head).user 0 }
 {
-    let user = head.start as usize + usize::from(head.line);
-    let remote = user + usize::from(head.user);
-    first_byte(&words[user..remote])
+    first_byte(user_words(words, head))
 }
 
 fn is_shutdown(words: &[u64], head: Head) -> bool

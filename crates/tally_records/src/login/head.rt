@@ -1,8 +1,8 @@
 ghost use Rattle.std.specs.Prelude.{◌≡◌, ◌≤◌, ◌<◌, ◌+◌, ◌*◌, ◌++◌, ◌^◌, All, drop, length, map, slice_get, take, vec_len, vec_capacity, OnOk, OnErr};
-ghost use Rattle.tally_records.specs.inside.Compact.Layout.{IsHead, bytes_of, field_of, moved, record_at, size};
+ghost use Rattle.tally_records.specs.inside.Compact.Layout.{IsHead, bytes_of, field_of, moved, part, record_at, size};
 
 use crate::fault::Memory;
-use crate::field::{Name, Remote};
+use crate::field::Name;
 use crate::login::LoginRecord;
 use crate::login::key::Key;
 
@@ -45,64 +45,67 @@ pub(crate) fn head_at(heads: &[Head], index: usize) -> Option<Head>
     heads.get(index).copied()
 }
 
-/// The line of a head.
-#[tactic(auto, using(crate::proofs::Compact::Laying::part_as), unfolding(crate::specs::inside::Compact::Layout::record_at))]
-pub(crate) fn line_of(words: &[u64], head: Head) -> Name
+/// The words of the line of a head.
+pub(crate) fn line_words(words: &[u64], head: Head) -> &[u64]
     requires within { head.start + size head ≤ length words.now }
     requires small { IsHead head }
-    ensures { result ≡ (record_at words.now head).line }
+    ensures { result.now ≡ part head.start head.line words.now }
 {
     let line = head.start as usize;
     let user = line + usize::from(head.line);
-    unpack(&words[line..user])
+    &words[line..user]
+}
+
+/// The words of the user of a head.
+pub(crate) fn user_words(words: &[u64], head: Head) -> &[u64]
+    requires within { head.start + size head ≤ length words.now }
+    requires small { IsHead head }
+    ensures { result.now ≡ part (head.start + head.line) head.user words.now }
+{
+    let user = head.start as usize + usize::from(head.line);
+    let remote = user + usize::from(head.user);
+    &words[user..remote]
+}
+
+/// The words of the remote host of a head.
+fn remote_words(words: &[u64], head: Head) -> &[u64]
+    requires within { head.start + size head ≤ length words.now }
+    requires small { IsHead head }
+    ensures { result.now ≡ part (head.start + head.line + head.user) head.remote words.now }
+{
+    let remote = head.start as usize + usize::from(head.line) + usize::from(head.user);
+    let end = remote + usize::from(head.remote);
+    &words[remote..end]
 }
 
 /// The user of a head.
-#[tactic(auto, using(crate::proofs::Compact::Laying::part_as), unfolding(crate::specs::inside::Compact::Layout::record_at))]
+#[tactic(auto, unfolding(crate::specs::inside::Compact::Layout::record_at))]
 pub(crate) fn user_of(words: &[u64], head: Head) -> Name
     requires within { head.start + size head ≤ length words.now }
     requires small { IsHead head }
     ensures { result ≡ (record_at words.now head).user }
 {
-    let user = head.start as usize + usize::from(head.line);
-    let remote = user + usize::from(head.user);
-    unpack(&words[user..remote])
+    unpack(user_words(words, head))
 }
 
 /// The line of a head, as a key.
-#[tactic(auto, using(crate::proofs::Compact::Laying::part_as), unfolding(crate::specs::inside::Compact::Layout::record_at))]
+#[tactic(auto, unfolding(crate::specs::inside::Compact::Layout::record_at))]
 pub(crate) fn line_key(words: &[u64], head: Head) -> Key
     requires within { head.start + size head ≤ length words.now }
     requires small { IsHead head }
     ensures { result ≡ (record_at words.now head).line }
 {
-    let line = head.start as usize;
-    let user = line + usize::from(head.line);
-    Key::of_words(&words[line..user])
+    Key::of_words(line_words(words, head))
 }
 
 /// The user of a head, as a key.
-#[tactic(auto, using(crate::proofs::Compact::Laying::part_as), unfolding(crate::specs::inside::Compact::Layout::record_at))]
+#[tactic(auto, unfolding(crate::specs::inside::Compact::Layout::record_at))]
 pub(crate) fn user_key(words: &[u64], head: Head) -> Key
     requires within { head.start + size head ≤ length words.now }
     requires small { IsHead head }
     ensures { result ≡ (record_at words.now head).user }
 {
-    let user = head.start as usize + usize::from(head.line);
-    let remote = user + usize::from(head.user);
-    Key::of_words(&words[user..remote])
-}
-
-/// The remote host of a head.
-#[tactic(auto, using(crate::proofs::Compact::Laying::part_as), unfolding(crate::specs::inside::Compact::Layout::record_at))]
-fn remote_of(words: &[u64], head: Head) -> Remote
-    requires within { head.start + size head ≤ length words.now }
-    requires small { IsHead head }
-    ensures { result ≡ (record_at words.now head).remote }
-{
-    let remote = head.start as usize + usize::from(head.line) + usize::from(head.user);
-    let end = remote + usize::from(head.remote);
-    unpack(&words[remote..end])
+    Key::of_words(user_words(words, head))
 }
 
 /// The record of a head.
@@ -113,9 +116,9 @@ pub(crate) fn record(words: &[u64], head: Head) -> LoginRecord
 {
     LoginRecord {
         kind: head.kind,
-        line: line_of(words, head),
-        user: user_of(words, head),
-        remote: remote_of(words, head),
+        line: unpack(line_words(words, head)),
+        user: unpack(user_words(words, head)),
+        remote: unpack(remote_words(words, head)),
         time: head.time,
     }
 }

@@ -1,8 +1,9 @@
-ghost use Rattle.std.specs.Prelude.{◌≡◌, ◌≤◌, ◌<◌, ◌+◌, ◌++◌, [], length, option_map, take, slice_get, IfOk, IfErr, OnOk, OnErr};
+ghost use Rattle.std.specs.Prelude.{◌≡◌, ◌≤◌, ◌<◌, ◌+◌, ◌++◌, [], length, option_map, take, slice_get, IfOk, IfErr, IfSome, OnOk, OnErr};
 ghost use Rattle.tally_records.specs.Decoding.{decoded, IsRead};
 ghost use Rattle.tally_records.specs.Event.{event_of};
 ghost use Rattle.tally_records.specs.LoginRecord.{login_result};
 ghost use Rattle.tally_records.specs.Records.{NamesRecordBelow};
+ghost use Rattle.tally_records.specs.inside.Compact.Layout.{IsHead, record_at, size};
 
 use crate::batch::BATCH_LIMIT;
 use crate::fault::{BatchFault, Memory};
@@ -75,12 +76,22 @@ impl Logins {
         self.heads.len()
     }
 
+    /// All words, and the head at a place.
+    fn part(&self, index: usize) -> Option<(&[u64], Head)>
+        ensures within { IfSome result (λ p. p.1.start + size p.1 ≤ length p.0.now) }
+        ensures small { IfSome result (λ p. IsHead p.1) }
+        ensures value { option_map (λ p. record_at p.0.now p.1) result ≡ slice_get self.now index }
+    {
+        let head = head_at(self.heads.as_slice(), index)?;
+        Some((self.words.as_slice(), head))
+    }
+
     /// The record at a place, counted from 0.
     pub fn get(&self, index: usize) -> Option<LoginRecord>
         ensures { result ≡ slice_get self.now index }
     {
-        let head = head_at(self.heads.as_slice(), index)?;
-        Some(record(self.words.as_slice(), head))
+        let (words, head) = self.part(index)?;
+        Some(record(words, head))
     }
 
     /// When a record was written.
@@ -95,32 +106,32 @@ impl Logins {
     pub fn user(&self, index: usize) -> Option<Name>
         ensures { result ≡ option_map (λ r. r.user) (slice_get self.now index) }
     {
-        let head = head_at(self.heads.as_slice(), index)?;
-        Some(user_of(self.words.as_slice(), head))
+        let (words, head) = self.part(index)?;
+        Some(user_of(words, head))
     }
 
     /// The event of a record.
     pub fn event(&self, index: usize) -> Option<Event>
         ensures { result ≡ option_map event_of (slice_get self.now index) }
     {
-        let head = head_at(self.heads.as_slice(), index)?;
-        Some(event_at(self.words.as_slice(), head))
+        let (words, head) = self.part(index)?;
+        Some(event_at(words, head))
     }
 
     /// The line of a record, as a key.
     pub fn line_key(&self, index: usize) -> Option<Key>
         ensures { result ≡ option_map (λ r. r.line) (slice_get self.now index) }
     {
-        let head = head_at(self.heads.as_slice(), index)?;
-        Some(line_key(self.words.as_slice(), head))
+        let (words, head) = self.part(index)?;
+        Some(line_key(words, head))
     }
 
     /// The user of a record, as a key.
     pub fn user_key(&self, index: usize) -> Option<Key>
         ensures { result ≡ option_map (λ r. r.user) (slice_get self.now index) }
     {
-        let head = head_at(self.heads.as_slice(), index)?;
-        Some(user_key(self.words.as_slice(), head))
+        let (words, head) = self.part(index)?;
+        Some(user_key(words, head))
     }
 
     /// Adds the records of another, or none.

@@ -1,10 +1,7 @@
-use Rattle.std.proofs.Common.{◌∙◌, ◌+◌, ℕ, List, get_or, ap, arith}
-use Rattle.tally_records.specs.inside.Compact.Layout.{record_at}
-use Rattle.tally_records.proofs.Compact.Laying.{part_as}
+use Rattle.std.proofs.Common.{◌∙◌, ℕ, List, get_or, ap}
+use Rattle.tally_records.specs.inside.Compact.Layout.{field_of, record_at}
 use Rattle.tally_records.proofs.login.events.user_byte.Goals as goal
 
 pub returns : goal.returns
 unfolding record_at
-returns c =
-    let h = c.args.head in
-    c.first_byte.ensures ∙ ap (λ (bs : List ℕ). get_or bs 0 0) (part_as 32 c.args.words.now (h.start + c.from.result) (h.start + c.from.result + c.from-2.result) (h.start + h.line) h.user (omega arith) (omega arith))
+returns c = c.first_byte.ensures ∙ ap (λ (words : List ℕ). get_or (field_of 32 words) 0 0) c.user_words.ensures

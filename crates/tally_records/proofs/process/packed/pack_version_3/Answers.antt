@@ -5,5 +5,5 @@ use Rattle.tally_records.proofs.process.packed.pack_version_3.Goals as goal
 
 pub returns-clause-bounded : goal.returns-clause-bounded
 returns-clause-bounded c =
-  packed_is_bounded (record {uid = _; begin = _; elapsed = c.number_at-3.result; user_ticks = _; system_ticks = _; mem = _; io = _; version = Three; flag = _; comm = _})
+    packed_is_bounded (record { uid = _; begin = _; elapsed = c.number_at-3.result; user_ticks = _; system_ticks = _; mem = _; io = _; version = Three; flag = _; comm = _ })
     (omega arith) (omega arith) (omega arith) (omega arith)
