@@ -141,67 +141,48 @@ fn row(name: Comm, forked: bool, other: bool, usage: Usage) -> CommandRow {
     }
 }
 
-/// Asserts that the rows by command of the three runs of make are these.
+/// The rows of the three runs of make, where a command of one run is joined to the others.
+fn joined() -> [CommandRow; 2] {
+    [
+        row(OTHER, false, true, EXECUTED),
+        row(MAKE, true, false, FORKED),
+    ]
+}
+
+/// Asserts that these are the rows by command.
 fn expect_commands(
     rt: &impl Abort,
     alloc: Global,
-    keys: RandomState,
+    summary: &Summary,
     order: Order,
     flags: [bool; 2],
     rows: &[CommandRow],
 ) -> Result<(), Fail> {
-    let summary = summary_of(rt, alloc, keys, &makes())?;
-    let found = commands_of(alloc, &summary, order, flags)?;
+    let found = commands_of(alloc, summary, order, flags)?;
     assert!(rt; found.as_slice() == rows);
     Ok(())
 }
 
 #[test]
 fn a_command_of_one_run_is_joined_to_the_others(rt: HostRuntime) -> Result<(), Fail> {
-    let rows = [
-        row(OTHER, false, true, EXECUTED),
-        row(MAKE, true, false, FORKED),
-    ];
-    expect_commands(
-        &rt,
-        rt.alloc(),
-        RandomState::new(&rt)?,
-        Order::Cpu,
-        [false, false],
-        &rows,
-    )
+    let summary = summary_of(&rt, rt.alloc(), RandomState::new(&rt)?, &makes())?;
+    expect_commands(&rt, rt.alloc(), &summary, Order::Cpu, [false, false], &joined())
 }
 
 #[test]
 fn the_command_of_most_calls_comes_first(rt: HostRuntime) -> Result<(), Fail> {
-    let rows = [
-        row(MAKE, true, false, FORKED),
-        row(OTHER, false, true, EXECUTED),
-    ];
-    expect_commands(
-        &rt,
-        rt.alloc(),
-        RandomState::new(&rt)?,
-        Order::Calls,
-        [false, false],
-        &rows,
-    )
+    let [executed, forked] = joined();
+    let rows = [forked, executed];
+    let summary = summary_of(&rt, rt.alloc(), RandomState::new(&rt)?, &makes())?;
+    expect_commands(&rt, rt.alloc(), &summary, Order::Calls, [false, false], &rows)
 }
 
 #[test]
 fn a_reversed_answer_is_the_reversed_list(rt: HostRuntime) -> Result<(), Fail> {
-    let rows = [
-        row(MAKE, true, false, FORKED),
-        row(OTHER, false, true, EXECUTED),
-    ];
-    expect_commands(
-        &rt,
-        rt.alloc(),
-        RandomState::new(&rt)?,
-        Order::Cpu,
-        [false, true],
-        &rows,
-    )
+    let [executed, forked] = joined();
+    let rows = [forked, executed];
+    let summary = summary_of(&rt, rt.alloc(), RandomState::new(&rt)?, &makes())?;
+    expect_commands(&rt, rt.alloc(), &summary, Order::Cpu, [false, true], &rows)
 }
 
 #[test]
@@ -210,14 +191,8 @@ fn all_commands_keep_their_names(rt: HostRuntime) -> Result<(), Fail> {
         row(MAKE, false, false, EXECUTED),
         row(MAKE, true, false, FORKED),
     ];
-    expect_commands(
-        &rt,
-        rt.alloc(),
-        RandomState::new(&rt)?,
-        Order::Cpu,
-        [true, false],
-        &rows,
-    )
+    let summary = summary_of(&rt, rt.alloc(), RandomState::new(&rt)?, &makes())?;
+    expect_commands(&rt, rt.alloc(), &summary, Order::Cpu, [true, false], &rows)
 }
 
 #[test]
@@ -244,9 +219,8 @@ fn commands_that_do_not_print_are_joined(rt: HostRuntime) -> Result<(), Fail> {
         io: 4,
         mem_cpu: 0,
     };
-    let found = commands_of(rt.alloc(), &summary, Order::Cpu, [false, false])?;
-    assert!(rt; found.as_slice() == [row(OTHER, false, true, usage)].as_slice());
-    Ok(())
+    let rows = [row(OTHER, false, true, usage)];
+    expect_commands(&rt, rt.alloc(), &summary, Order::Cpu, [false, false], &rows)
 }
 
 #[test]
