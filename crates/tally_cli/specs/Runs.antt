@@ -1,12 +1,14 @@
 -- What is known when a run ends.
-use Rattle.std.specs.Prelude.{◌≡◌, ◌⊎◌, ◌+◌, ◌<◌, ◌≤◌, ℕ, List, Option, None, Some, Result, Ok, Err, ⊤, length, map, min, slice_index_or, sum_by, ◌-◌, ◌^◌}
+use Rattle.std.specs.Prelude.{◌≡◌, ◌⊎◌, ◌+◌, ◌++◌, ◌<◌, ◌≤◌, ℕ, Bool, true, IsTrue, List, Option, None, Some, Result, Ok, Err, ⊤, length, map, min, slice_index_or, sum_by, ◌-◌, ◌^◌}
 use Rattle.std.specs.List.{All}
 use Rattle.tally_desk.specs.Batches.{records_in}
 use Rattle.tally_desk.specs.Blocks.{feed_fault}
 use Rattle.tally_desk.specs.Feeds.{good_batches}
 use Rattle.tally_desk.specs.declared.fault.FeedFault.{FeedFault}
+use Rattle.tally_print.specs.Output.{AppendsPrefix}
 use Rattle.tally_print.specs.declared.output.PrintFault.{PrintFault}
 use Rattle.tally_records.specs.Records.{Records, logins_in, procs_in}
+use Rattle.tally_records.specs.declared.batch.TheConstants.{BATCH_LIMIT}
 use Rattle.tally_records.specs.declared.batch.Kind.{Kind}
 use Rattle.tally_records.specs.declared.batch.Kind.TheVariants.{Login, Proc}
 use Rattle.tally_cli.specs.Output.{output}
@@ -17,6 +19,8 @@ use Rattle.tally_cli.specs.declared.running.source.Source.{Source}
 use Rattle.tally_book.specs.declared.fault.AskFault.TheVariants as ask
 use Rattle.tally_desk.specs.declared.fault.FeedFault.TheVariants as feed
 use Rattle.tally_print.specs.declared.output.PrintFault.TheVariants as print
+use Rattle.tally_sessions.specs.declared.sessions.TheConstants as sessions
+use Rattle.tally_usage.specs.declared.entry.TheConstants as usage
 
 -- an input that tells its bytes, and what kind of records they are
 pub record Told : Type 0 where
@@ -65,8 +69,8 @@ good_procs inputs = sum_by (λ i. sum_by (λ b. length (procs_in b)) (good_batch
 abbrev pub IsFileCause : List Told → Told → FeedFault → Type 0
 IsFileCause inputs input feed.Memory = ⊤
 IsFileCause inputs input feed.Read = ⊤
-IsFileCause inputs input (feed.LoginsFull stored) = 1048576 < good_logins inputs
-IsFileCause inputs input (feed.ProcsFull stored) = 1048576 < good_procs inputs
+IsFileCause inputs input (feed.LoginsFull stored) = sessions.ENTRY_LIMIT < good_logins inputs
+IsFileCause inputs input (feed.ProcsFull stored) = usage.ENTRY_LIMIT < good_procs inputs
 IsFileCause inputs input feed.CallsFull = ⊥
 IsFileCause inputs input fault = fault_of input ≡ Some fault
 
@@ -76,38 +80,48 @@ pub record IsFirstFault (inputs : List Told) (host : ℕ) (fault : FeedFault) : 
   pub earlier : (k : ℕ) (i : Told) → k < host → IsGood (slice_index_or inputs k i)
   pub own : (i : Told) → IsFileCause inputs (slice_index_or inputs host i) fault
 
--- what a fault shows of the sources, where `unwritten` says that nothing was written
-abbrev pub IsCause : List Told → Type 0 → RunFault → Type 0
-IsCause inputs unwritten Memory = unwritten ⊎ All IsGood inputs
-IsCause inputs unwritten (Callers count) = ⊤
-IsCause inputs unwritten (File host fault) = IsFirstFault inputs host fault
-IsCause inputs unwritten (Asker caller fault) = All IsGood inputs
-IsCause inputs unwritten Write = All IsGood inputs
+-- an output beside a run: whether it tells its bytes, and these before and after the run
+pub record Around : Type 0 where
+  pub tells : Bool
+  pub before : List ℕ
+  pub after : List ℕ
 
--- no source was read to its end, or its reports were refused: this holds
-abbrev pub Unwritten : Type 0 → RunFault → Type 0
-Unwritten unwritten Memory = ⊤
-Unwritten unwritten (Callers count) = unwritten
-Unwritten unwritten (File host fault) = unwritten
-Unwritten unwritten (Asker caller fault) = unwritten
-Unwritten unwritten Write = ⊤
+-- nothing was written
+abbrev pub IsUnwritten : Around → Type 0
+IsUnwritten out = IsTrue out.tells → out.after ≡ out.before
+
+-- a fault before the first report left the output unwritten
+abbrev pub IsUnwrittenBefore : Around → RunFault → Type 0
+IsUnwrittenBefore out Memory = ⊤
+IsUnwrittenBefore out (Callers count) = IsUnwritten out
+IsUnwrittenBefore out (File host fault) = IsUnwritten out
+IsUnwrittenBefore out (Asker caller fault) = IsUnwritten out
+IsUnwrittenBefore out Write = ⊤
+
+-- what a fault shows of the sources
+abbrev pub IsCause : List Told → Around → RunFault → Type 0
+IsCause inputs out Memory = IsUnwritten out ⊎ All IsGood inputs
+IsCause inputs out (Callers count) = ⊤
+IsCause inputs out (File host fault) = IsFirstFault inputs host fault
+IsCause inputs out (Asker caller fault) = All IsGood inputs
+IsCause inputs out Write = All IsGood inputs
 
 -- so many callers are refused: there are none, or more than a desk has passes
 abbrev pub IsWrongNumber : ℕ → Type 0
-IsWrongNumber callers = (callers ≡ 0) ⊎ (128 < callers)
+IsWrongNumber callers = (callers ≡ 0) ⊎ (sessions.HOST_LIMIT < callers)
 
 -- their fault names their number, as far as 32 bits hold it
 abbrev pub callers_fault : ℕ → RunFault
 callers_fault callers = Callers (min callers 4294967295)
 
--- so many records are stored that a full batch has no room
-abbrev pub HasNoRoom : ℕ → Type 0
-HasNoRoom stored = (stored ≤ 1048576) × (1048576 < stored + 1024)
+-- so many records are stored that a full batch has no room below a limit
+abbrev pub HasNoRoom : ℕ → ℕ → Type 0
+HasNoRoom limit stored = (stored ≤ limit) × (limit < stored + BATCH_LIMIT)
 
 -- a full list is that of the file's kind, and names how many records it has
 abbrev pub IsFullList : {I : Type 0} → List (Source I) → RunFault → Type 0
-IsFullList sources (File host (feed.LoginsFull stored)) = HasNoRoom stored × ((s : Source _) → (slice_index_or sources host s).kind ≡ Login)
-IsFullList sources (File host (feed.ProcsFull stored)) = HasNoRoom stored × ((s : Source _) → (slice_index_or sources host s).kind ≡ Proc)
+IsFullList sources (File host (feed.LoginsFull stored)) = HasNoRoom sessions.ENTRY_LIMIT stored × ((s : Source _) → (slice_index_or sources host s).kind ≡ Login)
+IsFullList sources (File host (feed.ProcsFull stored)) = HasNoRoom usage.ENTRY_LIMIT stored × ((s : Source _) → (slice_index_or sources host s).kind ≡ Proc)
 IsFullList sources fault = ⊤
 
 -- a number of callers is refused only where it is none or above 128, no file for the number of calls, and an asker for want of memory alone
@@ -133,3 +147,28 @@ abbrev pub failed_writes : Result (Unit {0}) RunFault → ℕ
 failed_writes (Ok done) = 0
 failed_writes (Err Write) = 1
 failed_writes (Err fault) = 0
+
+-- a whole run over sources that tell their bytes
+pub record IsReported (job : Job) (out : Around) (inputs : List Told) : Type 0 where
+  pub good : All IsGood inputs
+  pub written : IsTrue out.tells → out.after ≡ out.before ++ output_told job inputs
+
+-- what is so of a run that answers `Ok`
+pub record IsWholeRun {I : Type 0} (to_come : I → Option (List ℕ)) (job : Job) (sources : List (Source I)) (out : Around) : Type 0 where
+  pub some : 0 < length sources + job.askers
+  pub few : length sources + job.askers ≤ sessions.HOST_LIMIT
+  pub told : (inputs : List Told) → Tell to_come sources inputs → IsReported job out inputs
+
+-- a failed run over sources that tell their bytes
+pub record IsCutShort (job : Job) (out : Around) (fault : RunFault) (inputs : List Told) : Type 0 where
+  pub cause : IsCause inputs out fault
+  pub prefix : IsTrue out.tells → AppendsPrefix out.before out.after (output_told job inputs)
+
+-- what is so of a run that answers a fault: a read failed only where the input can fail
+pub record IsFailedRun {I : Type 0} (to_come : I → Option (List ℕ)) (can_fail : I → Bool) (job : Job) (sources : List (Source I)) (out : Around) (fault : RunFault) : Type 0 where
+  pub allowed : IsAllowed (length sources + job.askers) fault
+  pub named : IsNamed (length sources) (length sources + job.askers) fault
+  pub full : IsFullList sources fault
+  pub read : (host : ℕ) → fault ≡ File host feed.Read → (s : Source _) → can_fail (slice_index_or sources host s).input ≡ true
+  pub unwritten : IsUnwrittenBefore out fault
+  pub told : (inputs : List Told) → Tell to_come sources inputs → IsCutShort job out fault inputs

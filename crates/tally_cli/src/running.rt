@@ -5,7 +5,7 @@ ghost use Rattle.tally_book.specs.Books.{IsLegal};
 ghost use Rattle.tally_desk.specs.Passes.{HasDone, Stands, first_passes};
 ghost use Rattle.tally_desk.specs.declared.fault.FeedFault.TheVariants as feed_fault_of;
 ghost use Rattle.tally_print.specs.Output.{AppendsPrefix};
-ghost use Rattle.tally_cli.specs.Runs.{IsReadable, IsAllowed, IsCause, IsGood, IsFullList, IsNamed, IsWrongNumber, Tell, Told, Unwritten, callers_fault, failed_writes, output_told};
+ghost use Rattle.tally_cli.specs.Runs.{IsReadable, IsAllowed, IsFailedRun, IsFullList, IsNamed, IsWholeRun, IsWrongNumber, Tell, Told, callers_fault, failed_writes};
 ghost use Rattle.tally_cli.specs.Output.{report_text};
 ghost use Rattle.tally_cli.specs.Jobs.{IsRunnable};
 ghost use Rattle.tally_cli.specs.inside.RunSteps.{AreRead, AreWorkedThrough, IsPrintFault, IsReadCause, IsUnprinted, run_fault};
@@ -53,10 +53,10 @@ fn close_all(desk: Desk, passes: Vec<Pass>) -> Book
 
 /// How many callers there are, a source or an asker each, if a desk has passes for them.
 fn callers_of(sources: usize, askers: u32) -> Result<u32, RunFault>
-    requires { askers ≤ 128 }
+    requires { askers ≤ HOST_LIMIT }
     ensures count { IfOk result (λ callers. callers ≡ sources + askers) }
     ensures some { OnOk result (0 < sources + askers) }
-    ensures few { OnOk result (sources + askers ≤ 128) }
+    ensures few { OnOk result (sources + askers ≤ HOST_LIMIT) }
     ensures fault { IfErr result (λ f. f ≡ callers_fault (sources + askers)) }
     ensures wrong { OnErr result (IsWrongNumber (sources + askers)) }
 {
@@ -73,7 +73,7 @@ fn callers_of(sources: usize, askers: u32) -> Result<u32, RunFault>
 /// A desk of so many callers.
 fn open(alloc: Global, keys: RandomState, callers: u32) -> Result<(Desk, Vec<Pass>), AllocError>
     requires some { 0 < callers }
-    requires few { callers ≤ 128 }
+    requires few { callers ≤ HOST_LIMIT }
     ensures opened { IfOk result (λ r. (r.0.callers ≡ callers)
         × (r.1.items ≡ first_passes r.0.id callers)) }
 {
@@ -111,7 +111,7 @@ fn work_through<R: Threads + Wait + Sync, I: Input + Send, G: Gate + Sync>(
     gate: &G,
 ) -> Result<(Book, Option<Failure>), AllocError>
     requires feeders { (0 < feeders) × (feeders ≤ 64) }
-    requires callers { (desk.callers ≡ length passes.items) × (desk.callers ≤ 128) }
+    requires callers { (desk.callers ≡ length passes.items) × (desk.callers ≤ HOST_LIMIT) }
     requires desk { All (λ p. p.desk ≡ desk.id) passes.items }
     requires numbers { (k : ℕ) (p : _) → k < length passes.items → (slice_index_or passes.items k p).number ≡ k }
     requires sources { length sources.items ≤ length passes.items }
@@ -142,7 +142,7 @@ fn feed_all<R: Threads + Wait + Sync, I: Input + Send, G: Gate + Sync>(
     requires runnable { IsRunnable job.now }
     requires callers { callers ≡ length sources.items + job.now.askers }
     requires some { 0 < callers }
-    requires few { callers ≤ 128 }
+    requires few { callers ≤ HOST_LIMIT }
     requires readable { All (IsReadable I.failures) sources.items }
     ensures whole { IfOk result (λ b. (inputs : List Told) → Tell I.to_come sources.items inputs → AreRead inputs b) }
     ensures callers { IfOk result (λ b. b.callers ≡ callers) }
@@ -183,7 +183,7 @@ fn report<O: Output>(
 ) -> Result<(), RunFault>
     requires runnable { IsRunnable job.now }
     requires hosts { length kinds.now ≤ book.callers }
-    requires few { book.callers ≤ 128 }
+    requires few { book.callers ≤ HOST_LIMIT }
     requires some { 0 < book.callers }
     requires calls { length book.calls ≤ 4224 }
     requires failures { O.failures out.old < 2 ^ 64 - 1 }
@@ -229,27 +229,12 @@ pub fn run<R: Threads + Wait + Sync, I: Input + Send, G: Gate + Sync, O: Output>
     requires runnable { IsRunnable job.now }
     requires readable { All (IsReadable I.failures) sources.items }
     requires writable { O.failures out.old < 2 ^ 64 - 1 }
-    ensures whole { OnOk result ((inputs : List Told) → Tell I.to_come sources.items inputs
-        → All IsGood inputs) }
-    ensures written { OnOk result ((inputs : List Told) → Tell I.to_come sources.items inputs
-        → IsTrue (O.tells out.old) → O.written out.new
-        ≡ O.written out.old ++ output_told job.now inputs) }
-    ensures few { OnOk result (length sources.items + job.now.askers ≤ 128) }
-    ensures some { OnOk result (0 < length sources.items + job.now.askers) }
+    ensures whole { OnOk result (IsWholeRun I.to_come job.now sources.items
+        (record { tells = O.tells out.old; before = O.written out.old; after = O.written out.new })) }
+    ensures failed { IfErr result (IsFailedRun I.to_come I.can_fail job.now sources.items
+        (record { tells = O.tells out.old; before = O.written out.old; after = O.written out.new })) }
     ensures callers { IsWrongNumber (length sources.items + job.now.askers)
         → result ≡ Err (callers_fault (length sources.items + job.now.askers)) }
-    ensures prefix { (inputs : List Told) → Tell I.to_come sources.items inputs
-        → IsTrue (O.tells out.old) → AppendsPrefix (O.written out.old) (O.written out.new)
-        (output_told job.now inputs) }
-    ensures cause { IfErr result (λ f. (inputs : List Told) → Tell I.to_come sources.items inputs
-        → IsCause inputs (IsTrue (O.tells out.old) → O.written out.new ≡ O.written out.old) f) }
-    ensures unwritten { IfErr result (Unwritten
-        (IsTrue (O.tells out.old) → O.written out.new ≡ O.written out.old)) }
-    ensures allowed { IfErr result (IsAllowed (length sources.items + job.now.askers)) }
-    ensures named { IfErr result (IsNamed (length sources.items) (length sources.items + job.now.askers)) }
-    ensures full { IfErr result (IsFullList sources.items) }
-    ensures read { IfErr result (λ f. (host : ℕ) → f ≡ RunFault.File host feed_fault_of.Read
-        → (s : Source _) → I.can_fail (slice_index_or sources.items host s).input ≡ true) }
     ensures counts { O.failures out.new ≡ O.failures out.old + failed_writes result }
     ensures stays { O.tells out.new ≡ O.tells out.old }
 {
