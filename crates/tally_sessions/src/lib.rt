@@ -31,12 +31,4 @@ pub use crate::sessions::{ENTRY_LIMIT, HOST_LIMIT, Sessions};
 pub use crate::times::{DayTime, DayUserTime, UserTime};
 
 #[cfg(test)]
-mod lists;
-#[cfg(test)]
-mod scan;
-#[cfg(test)]
-mod scripts;
-#[cfg(test)]
 mod tests;
-#[cfg(test)]
-mod until_tests;

@@ -2,9 +2,9 @@
 ghost use Rattle.std.specs.Prelude.{◌≡◌, ◌<◌, IfOk};
 
 use crate::entry::Entry;
-use crate::scan;
-use crate::scripts::{post_below, utmp};
 use crate::sessions::Sessions;
+use crate::tests::scan;
+use crate::tests::scripts::{post_below, utmp};
 use std::alloc::Global;
 use std::hash::RandomState;
 use std::test::Fail;

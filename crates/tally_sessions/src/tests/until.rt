@@ -1,5 +1,5 @@
 //! Stays that nothing has ended, counted up to a given moment.
-use crate::scripts::{name, played, text_of};
+use crate::tests::scripts::{name, played, text_of};
 use std::alloc::Global;
 use std::fmt::Write;
 use std::hash::RandomState;
