@@ -1,18 +1,18 @@
-//! Lists for the tests that follow no rule, and the scan that they are compared with.
+//! Lists that follow no rule, compared with the scan.
 ghost use Rattle.std.specs.Prelude.{◌≡◌, ◌<◌, IfOk};
 
 use crate::entry::Entry;
 use crate::sessions::Sessions;
-use crate::tests::scan;
-use crate::tests::scripts::{post_below, utmp};
+use crate::tests::scripts::post_below;
+use crate::tests::{login_record, scan};
 use std::alloc::Global;
 use std::hash::RandomState;
 use std::test::Fail;
 
 /// Numbers that follow no rule that a session knows.
 #[derive(Drop)]
-pub(crate) struct Numbers {
-    pub(crate) state: u32,
+struct Numbers {
+    state: u32,
 }
 
 impl Numbers {
@@ -46,7 +46,7 @@ impl Numbers {
             8 => 0,
             _ => 7,
         };
-        utmp(kind, line, user, now)
+        login_record(kind, line, user, now)
     }
 
     fn time_after(&mut self, now: i32) -> i32 {
@@ -60,11 +60,7 @@ impl Numbers {
 }
 
 /// The sessions of up to 60 records.
-pub(crate) fn drawn(
-    alloc: Global,
-    keys: RandomState,
-    numbers: &mut Numbers,
-) -> Result<Sessions, Fail>
+fn drawn(alloc: Global, keys: RandomState, numbers: &mut Numbers) -> Result<Sessions, Fail>
     ensures { IfOk result (λ s. s.hosts ≡ 3) }
 {
     let mut sessions = Sessions::new(alloc, keys, 3)?;
@@ -78,7 +74,7 @@ pub(crate) fn drawn(
 }
 
 /// Whether the stays of each host, and the total, are those of the scan.
-pub(crate) fn agrees(alloc: Global, sessions: &Sessions, until: Option<i32>) -> Result<bool, Fail>
+fn agrees(alloc: Global, sessions: &Sessions, until: Option<i32>) -> Result<bool, Fail>
     requires { sessions.now.hosts ≡ 3 }
 {
     let entries: Vec<Entry> = sessions.entries().iter().collect(alloc)?;
@@ -90,4 +86,19 @@ pub(crate) fn agrees(alloc: Global, sessions: &Sessions, until: Option<i32>) -> 
         }
     }
     Ok(sessions.total(until) == scan::total(&entries, until))
+}
+
+#[test]
+fn sessions_are_those_of_a_scan_of_the_whole_list(rt: HostRuntime) -> Result<(), Fail> {
+    let mut numbers = Numbers { state: 1 };
+    for list in 0..300 {
+        let sessions = drawn(rt.alloc(), RandomState::new(&rt)?, &mut numbers)?;
+        for until in [None, Some(i32::MIN), Some(1500)] {
+            assert!(rt;
+                agrees(rt.alloc(), &sessions, until)?,
+                "list {list} until {until:?}"
+            );
+        }
+    }
+    Ok(())
 }

@@ -1,47 +1,12 @@
-//! Scripts for the tests: records as words, and the sessions that they make.
+//! Scripts: records as words, and the sessions that they make.
 ghost use Rattle.std.specs.Prelude.{◌≡◌, ◌≤◌, ◌<◌, ◌+◌, IfOk, OnOk, length};
 
 use crate::sessions::Sessions;
+use crate::tests::login_record;
 use std::alloc::Global;
 use std::hash::RandomState;
 use std::test::Fail;
-use tally_records::{Batch, Name};
-
-fn put(bytes: &mut [u8; 384], at: usize, text: &[u8])
-    requires { at + 32 ≤ 384 }
-{
-    for (to, from) in bytes[at..at + 32].iter_mut().zip(text) {
-        *to = *from;
-    }
-}
-
-pub(crate) fn utmp(kind: u8, line: &str, user: &str, time: i32) -> [u8; 384] {
-    let mut bytes = [0; 384];
-    bytes[0] = kind;
-    put(&mut bytes, 8, line.as_bytes());
-    put(&mut bytes, 44, user.as_bytes());
-    put(&mut bytes, 340, &time.to_le_bytes());
-    bytes
-}
-
-pub(crate) fn name(text: &str) -> Name {
-    let mut bytes = [0; 32];
-    for (to, from) in bytes.iter_mut().zip(text.as_bytes()) {
-        *to = *from;
-    }
-    bytes
-}
-
-/// The text of a name.
-pub(crate) fn text_of(alloc: Global, name: &Name) -> Result<String, Fail> {
-    let mut text = String::new(alloc);
-    for byte in name {
-        if *byte != 0 {
-            text.push(char::from(*byte))?;
-        }
-    }
-    Ok(text)
-}
+use tally_records::Batch;
 
 /// The `ut_type` that a word of a script stands for.
 fn kind_of(word: &str) -> u8 {
@@ -64,7 +29,7 @@ pub(crate) fn record_of(script: &str) -> Result<(u32, [u8; 384]), Fail> {
     let line = words.next().unwrap_or("");
     let user = words.next().unwrap_or("");
     let time = words.next().unwrap_or("").parse::<i32>()?;
-    Ok((host, utmp(kind, line, user, time)))
+    Ok((host, login_record(kind, line, user, time)))
 }
 
 /// Posts one record.
