@@ -9,9 +9,9 @@ use Rattle.std.specs.declared.cmp.Ordering.TheVariants.{Equal}
 use Rattle.tally_records.proofs.Members.{Contains-from_Member, Member, Member-filter, Member-from_filter, Member-from_map, Member-map}
 use Rattle.tally_records.proofs.SortedLemmas.{in_order-has}
 use Rattle.tally_records.specs.Sorted.{in_order}
-use Rattle.tally_sessions.specs.declared.day_user_rows.DayUser.{DayUser}
+use Rattle.tally_sessions.specs.declared.connect.day_user_rows.DayUser.{DayUser}
 use Rattle.tally_sessions.specs.declared.entry.Entry.{Entry}
-use Rattle.tally_sessions.specs.declared.sums.Session.{Session}
+use Rattle.tally_sessions.specs.declared.connect.sums.Session.{Session}
 use Rattle.tally_sessions.specs.declared.times.DayTime.{DayTime}
 use Rattle.tally_sessions.specs.declared.times.DayUserTime.{DayUserTime}
 use Rattle.tally_sessions.specs.declared.times.UserTime.{UserTime}

@@ -11,9 +11,9 @@ use Rattle.tally_records.specs.declared.login.Event.{Event}
 use Rattle.tally_records.specs.declared.login.Event.TheVariants.{Login, Logout, Boot, Down, OldTime, NewTime, Nothing}
 use Rattle.tally_records.specs.Event.{event_of}
 use Rattle.tally_sessions.specs.declared.entry.Entry.{Entry}
-use Rattle.tally_sessions.specs.declared.ended.EndedSums.{EndedSums}
-use Rattle.tally_sessions.specs.declared.ending.Ending.{Ending}
-use Rattle.tally_sessions.specs.declared.ending.TrackedStay.{TrackedStay}
+use Rattle.tally_sessions.specs.declared.track.ended.EndedSums.{EndedSums}
+use Rattle.tally_sessions.specs.declared.track.ending.Ending.{Ending}
+use Rattle.tally_sessions.specs.declared.track.ending.TrackedStay.{TrackedStay}
 use Rattle.tally_sessions.specs.inside.Entries.{entry_at}
 use Rattle.tally_sessions.specs.inside.Track.{is_login_event, no_stay, stay_at, start_of, counts, ended_length, ended_sum, sum_of, started, HasSums, IsEntered, LengthFits}
 use Rattle.tally_sessions.specs.Stays.{starts_stay}

@@ -4,8 +4,8 @@ use Rattle.std.proofs.lemmas.List.{take_all, length-map, at_drop_more, reverse-a
 use Rattle.std.proofs.Math.Seq.{take-length}
 use Rattle.tally_sessions.specs.declared.entry.Entry.{Entry}
 use Rattle.tally_sessions.specs.declared.entry.Stay.{Stay}
-use Rattle.tally_sessions.specs.declared.ending.Ending.{Ending}
-use Rattle.tally_sessions.specs.declared.ending.TrackedStay.{TrackedStay}
+use Rattle.tally_sessions.specs.declared.track.ending.Ending.{Ending}
+use Rattle.tally_sessions.specs.declared.track.ending.TrackedStay.{TrackedStay}
 use Rattle.tally_sessions.specs.declared.track.Track.{Track}
 use Rattle.tally_sessions.specs.Hosts.{of_host}
 use Rattle.tally_sessions.specs.Stays.{last_time}

@@ -8,7 +8,7 @@ use Rattle.std.specs.List.{flat_map}
 use Rattle.std.specs.Prelude.{◌&&◌, bytes_eq, not, sum_by}
 use Rattle.tally_sessions.specs.declared.entry.Entry.{Entry}
 use Rattle.tally_sessions.specs.declared.entry.Stay.{Stay}
-use Rattle.tally_sessions.specs.declared.sums.Session.{Session}
+use Rattle.tally_sessions.specs.declared.connect.sums.Session.{Session}
 use Rattle.tally_sessions.specs.inside.Sums.{seconds_of_user}
 use Rattle.tally_sessions.specs.Sums.{session_of, sessions_among, sessions_of}
 use Rattle.tally_sessions.specs.Totals.{connect_of, every_host, stays_of, user_seconds}

@@ -12,7 +12,7 @@ use Rattle.tally_records.specs.declared.login.Event.{Event}
 use Rattle.tally_records.specs.declared.login.Event.TheVariants.{Login, Logout, Boot, Down, OldTime, NewTime, Nothing}
 use Rattle.tally_records.specs.Event.{event_of}
 use Rattle.tally_sessions.specs.declared.entry.Entry.{Entry}
-use Rattle.tally_sessions.specs.declared.ending.TrackedStay.{TrackedStay}
+use Rattle.tally_sessions.specs.declared.track.ending.TrackedStay.{TrackedStay}
 use Rattle.tally_sessions.specs.inside.Entries.{entry_at}
 use Rattle.tally_sessions.specs.Stays.{ends_event, ends_stay, starts_stay}
 use Rattle.tally_sessions.specs.inside.Track.{is_login_event, no_stay, stay_at, start_of, behind, IsWithin, IsTracked, IsOnLine, AreTracked, started, LeadsTo}

@@ -11,7 +11,7 @@ use Rattle.std.specs.Prelude.{nat_lt}
 use Rattle.std.specs.declared.cmp.Ordering.TheVariants.{Equal}
 use Rattle.tally_records.specs.Sorted.{in_order}
 use Rattle.tally_sessions.specs.declared.entry.Entry.{Entry}
-use Rattle.tally_sessions.specs.declared.sums.Session.{Session}
+use Rattle.tally_sessions.specs.declared.connect.sums.Session.{Session}
 use Rattle.tally_sessions.specs.declared.times.UserTime.{UserTime}
 use Rattle.tally_sessions.specs.inside.Sums.{above_zero, user_time_of, sum_at}
 use Rattle.tally_sessions.specs.Rows.{user_time, user_time_cmp, user_times}

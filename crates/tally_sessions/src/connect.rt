@@ -8,6 +8,11 @@ ghost use Rattle.tally_sessions.specs.inside.Sums.{above_zero, day_time_of, day_
 ghost use Rattle.tally_sessions.specs.Rows.{day_times, day_user_times, user_times};
 ghost use Rattle.tally_sessions.specs.Totals.{connect_of};
 
+mod day_sums;
+mod day_user_rows;
+pub(crate) mod sums;
+mod user_sums;
+
 use crate::sessions::{HOST_LIMIT, Sessions};
 use crate::times::{DayTime, DayUserTime, UserTime};
 use std::alloc::{AllocError, Global};

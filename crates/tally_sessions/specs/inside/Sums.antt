@@ -4,8 +4,8 @@ use Rattle.std.specs.Map.{lookup}
 use Rattle.std.specs.Cmp.Lexicographic.{slice_cmp}
 use Rattle.std.specs.Ordering.{int_cmp, is_eq, nat_cmp, ordering_then}
 use Rattle.std.specs.declared.cmp.Ordering.{Ordering}
-use Rattle.tally_sessions.specs.declared.day_user_rows.DayUser.{DayUser}
-use Rattle.tally_sessions.specs.declared.sums.Session.{Session}
+use Rattle.tally_sessions.specs.declared.connect.day_user_rows.DayUser.{DayUser}
+use Rattle.tally_sessions.specs.declared.connect.sums.Session.{Session}
 use Rattle.tally_sessions.specs.declared.times.DayTime.{DayTime}
 use Rattle.tally_sessions.specs.declared.times.DayUserTime.{DayUserTime}
 use Rattle.tally_sessions.specs.declared.times.UserTime.{UserTime}

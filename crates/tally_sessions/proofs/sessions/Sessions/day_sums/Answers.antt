@@ -2,7 +2,7 @@ use Rattle.std.proofs.Common.{◌≡◌, ◌∙◌, ◌+◌, ◌≤◌, ◌<◌,
 use Rattle.std.proofs.lemmas.Int.{ints, to_z-of_z}
 use Rattle.std.specs.Ordering.{int_cmp, is_eq}
 use Rattle.std.specs.Prelude.{int_lt, unsigned_abs}
-use Rattle.tally_sessions.specs.declared.sums.Session.{Session}
+use Rattle.tally_sessions.specs.declared.connect.sums.Session.{Session}
 use Rattle.tally_sessions.specs.inside.Changes.{change_at, change_of_day, day_at}
 use Rattle.tally_sessions.specs.Days.{IsDay}
 use Rattle.tally_sessions.specs.Sums.{seconds_of_day, sessions_of}

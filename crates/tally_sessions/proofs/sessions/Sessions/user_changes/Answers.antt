@@ -2,7 +2,7 @@ use Rattle.std.proofs.Common.{◌≡◌, ◌∙◌, ◌+◌, ◌<◌, ◌≤◌,
 use Rattle.std.proofs.lemmas.Int.{to_z-of_z}
 use Rattle.std.specs.List.{flat_map, range_with_len}
 use Rattle.tally_sessions.specs.declared.entry.Entry.{Entry}
-use Rattle.tally_sessions.specs.declared.sums.Session.{Session}
+use Rattle.tally_sessions.specs.declared.connect.sums.Session.{Session}
 use Rattle.tally_sessions.specs.inside.Changes.{change_of, change_of_day_user}
 use Rattle.tally_sessions.specs.Lent.{entries_in}
 use Rattle.tally_sessions.specs.State.{State}
