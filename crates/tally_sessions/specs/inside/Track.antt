@@ -49,8 +49,8 @@ abbrev pub end_if : Bool → Ending → Option Ending
 end_if ends ending = if ends then Some ending else None
 
 -- a tracked stay, after one record more
-abbrev pub behind : List Entry → ℤ → LoginRecord → TrackedStay → TrackedStay
-behind es now by t = record t { ended = option_or t.ended (end_if (ends_stay (start_of es t) by) (ending_of (start_of es t) (now -ℤ t.clock_at) by)) }
+abbrev pub after : List Entry → ℤ → LoginRecord → TrackedStay → TrackedStay
+after es now by t = record t { ended = option_or t.ended (end_if (ends_stay (start_of es t) by) (ending_of (start_of es t) (now -ℤ t.clock_at) by)) }
 
 -- whether an event is a login
 abbrev pub is_login_event : Event → Bool

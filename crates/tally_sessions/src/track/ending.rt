@@ -79,7 +79,7 @@ fn ended_by(
     requires now { spec.IsWithin ENTRY_LIMIT clock }
     requires told { event ≡ event_of (entry_at entries.now at).item }
     requires ends { ends_stay (spec.start_of entries.now stay) (entry_at entries.now at).item ≡ true }
-    ensures value { result ≡ spec.behind entries.now clock (entry_at entries.now at).item stay }
+    ensures value { result ≡ spec.after entries.now clock (entry_at entries.now at).item stay }
     ensures fits { spec.LengthFits stay → spec.LengthFits result }
 {
     if stay.ended.is_some() {
@@ -130,7 +130,7 @@ fn end_stay(
     requires told { event ≡ event_of (entry_at entries.now at).item }
     requires ends { ends_stay (spec.start_of entries.now (spec.stay_at stays.old i)) (entry_at entries.now at).item ≡ true }
     requires sums { spec.HasSums entries.now sums.old stays.old }
-    ensures stays { stays.new ≡ slice_set stays.old i (spec.behind entries.now clock (entry_at entries.now at).item (spec.stay_at stays.old i)) }
+    ensures stays { stays.new ≡ slice_set stays.old i (spec.after entries.now clock (entry_at entries.now at).item (spec.stay_at stays.old i)) }
     ensures sums { spec.HasSums entries.now sums.new stays.new }
     ensures spare { sums.new.users.spare ≡ sums.old.users.spare }
 {
@@ -157,9 +157,9 @@ fn sweep(
     requires now { spec.IsWithin ENTRY_LIMIT clock }
     requires told { event ≡ event_of (entry_at entries.now at).item }
     requires ends { (k : ℕ) → k < length stays.old → ends_stay (spec.start_of entries.now (spec.stay_at stays.old k)) (entry_at entries.now at).item ≡ true }
-    requires ended { (k : ℕ) → k < from → spec.behind entries.now clock (entry_at entries.now at).item (spec.stay_at stays.old k) ≡ spec.stay_at stays.old k }
+    requires ended { (k : ℕ) → k < from → spec.after entries.now clock (entry_at entries.now at).item (spec.stay_at stays.old k) ≡ spec.stay_at stays.old k }
     requires sums { spec.HasSums entries.now sums.old stays.old }
-    ensures stays { stays.new ≡ map (spec.behind entries.now clock (entry_at entries.now at).item) stays.old }
+    ensures stays { stays.new ≡ map (spec.after entries.now clock (entry_at entries.now at).item) stays.old }
     ensures sums { spec.HasSums entries.now sums.new stays.new }
     ensures spare { sums.new.users.spare ≡ sums.old.users.spare }
 {
@@ -187,7 +187,7 @@ pub(crate) fn end_pending(
     requires now { spec.IsWithin ENTRY_LIMIT clock }
     requires told { event ≡ event_of (entry_at entries.now at).item }
     requires sums { spec.HasSums entries.now sums.old stays.old }
-    ensures stays { stays.new ≡ map (spec.behind entries.now clock (entry_at entries.now at).item) stays.old }
+    ensures stays { stays.new ≡ map (spec.after entries.now clock (entry_at entries.now at).item) stays.old }
     ensures sums { spec.HasSums entries.now sums.new stays.new }
     ensures spare { sums.new.users.spare ≡ sums.old.users.spare }
 {

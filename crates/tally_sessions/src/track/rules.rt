@@ -12,7 +12,7 @@ use crate::entry::End;
 use tally_records::{Event, Key};
 
 /// The old time that waits for its new one, after one record more.
-pub(crate) fn pending_behind(pending: Option<i32>, event: Event, time: i32) -> Option<i32>
+pub(crate) fn pending_after(pending: Option<i32>, event: Event, time: i32) -> Option<i32>
     ensures { result ≡ pending_at event time pending }
 {
     match event {

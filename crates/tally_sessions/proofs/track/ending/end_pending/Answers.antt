@@ -8,7 +8,7 @@ use Rattle.tally_sessions.specs.inside.Entries.{entry_at}
 use Rattle.tally_sessions.specs.inside.Track as spec
 use Rattle.tally_sessions.specs.inside.Track.{ends_every_stay, ends_line_stay}
 use Rattle.tally_sessions.proofs.Places.{map-at, map-same}
-use Rattle.tally_sessions.proofs.TrackSteps.{behind-nothing, ends_on_line, line_event, not_by_test, some_inj, some≢none, behind-line_event}
+use Rattle.tally_sessions.proofs.TrackSteps.{after-nothing, ends_on_line, line_event, not_by_test, some_inj, some≢none, after-line_event}
 use Rattle.tally_sessions.proofs.track.ending.end_pending.Goals as goal
 
 pub end_stay-requires-clause-i_in : goal.end_stay-requires-clause-i_in
@@ -33,8 +33,8 @@ returns-in-Some-clause-stays c =
     subst (λ k. lookup (bytes_eq k) c.args.lines.now.entries ≡ Some c.in-Some.i) c.line_key-line.ensures (sym c.get.ensures ∙ c.in-Some.is) in
     let i = c.in-Some.i in
     c.end_stay.ensures.stays
-    ∙ map-at (spec.behind es c.args.clock x) spec.no_stay c.args.stays.now i _ (c.requires.tracked.on _ _ leads).within (ap (λ z. spec.behind es z x (spec.stay_at c.args.stays.now i)) same)
-    (λ k lt other. behind-line_event es c.args.at c.args.lines.now.entries c.args.swept c.args.stays.now c.args.clock x c.args.event c.requires.tracked (sym c.requires.told) (line_event c.args.event (sym c.ends_line.ensures ∙ c.if-ends_line.true))
+    ∙ map-at (spec.after es c.args.clock x) spec.no_stay c.args.stays.now i _ (c.requires.tracked.on _ _ leads).within (ap (λ z. spec.after es z x (spec.stay_at c.args.stays.now i)) same)
+    (λ k lt other. after-line_event es c.args.at c.args.lines.now.entries c.args.swept c.args.stays.now c.args.clock x c.args.event c.requires.tracked (sym c.requires.told) (line_event c.args.event (sym c.ends_line.ensures ∙ c.if-ends_line.true))
     k lt (λ at. other (some_inj k i (sym at ∙ leads))))
 
 pub returns-in_default-clause-stays : goal.returns-in_default-clause-stays
@@ -43,8 +43,8 @@ returns-in_default-clause-stays c =
     let x = (entry_at es c.args.at).item in
     let nowhere : lookup (bytes_eq x.line) c.args.lines.now.entries ≡ None =
     subst (λ k. lookup (bytes_eq k) c.args.lines.now.entries ≡ None) c.line_key-line.ensures (sym c.get.ensures ∙ c.in_default.is) in
-    sym (map-same (spec.behind es c.args.clock x) spec.no_stay c.args.stays.now
-    (λ k lt. behind-line_event es c.args.at c.args.lines.now.entries c.args.swept c.args.stays.now c.args.clock x c.args.event c.requires.tracked (sym c.requires.told) (line_event c.args.event (sym c.ends_line.ensures ∙ c.if-ends_line.true))
+    sym (map-same (spec.after es c.args.clock x) spec.no_stay c.args.stays.now
+    (λ k lt. after-line_event es c.args.at c.args.lines.now.entries c.args.swept c.args.stays.now c.args.clock x c.args.event c.requires.tracked (sym c.requires.told) (line_event c.args.event (sym c.ends_line.ensures ∙ c.if-ends_line.true))
     k lt (λ at. some≢none k (sym at ∙ nowhere))))
 
 pub returns-else-ends_line-clause-stays : goal.returns-else-ends_line-clause-stays
@@ -54,7 +54,7 @@ returns-else-ends_line-clause-stays c =
     let every = sym c.ends_every.ensures ∙ c.if-ends_every.false in
     let line = sym c.ends_line.ensures ∙ c.if-ends_line.false in
     let ev = c.requires.told in
-    sym (map-same (spec.behind es c.args.clock x) spec.no_stay c.args.stays.now
-    (behind-nothing es c.args.at c.args.lines.now.entries c.args.swept c.args.stays.now c.args.clock x c.requires.tracked
+    sym (map-same (spec.after es c.args.clock x) spec.no_stay c.args.stays.now
+    (after-nothing es c.args.at c.args.lines.now.entries c.args.swept c.args.stays.now c.args.clock x c.requires.tracked
     (λ e. not_by_test ends_line_stay c.args.event Login line refl (ev ∙ e)) (λ e. not_by_test ends_line_stay c.args.event Logout line refl (ev ∙ e))
     (λ e. not_by_test ends_every_stay c.args.event Boot every refl (ev ∙ e)) (λ e. not_by_test ends_every_stay c.args.event Down every refl (ev ∙ e))))

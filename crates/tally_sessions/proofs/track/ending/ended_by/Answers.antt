@@ -4,7 +4,7 @@ use Rattle.std.specs.Int.{w32, w64}
 use Rattle.std.specs.Prelude.{FitsSigned}
 use Rattle.tally_sessions.specs.inside.Entries.{entry_at}
 use Rattle.tally_sessions.proofs.Lengths.{held}
-use Rattle.tally_sessions.proofs.TrackSteps.{behind-closes}
+use Rattle.tally_sessions.proofs.TrackSteps.{after-closes}
 use Rattle.tally_sessions.specs.inside.Track as spec
 use Rattle.tally_sessions.proofs.track.ending.ended_by.Goals as goal
 
@@ -21,4 +21,4 @@ returns-clause-value c =
     let time = to_z-of_z w32 c.time.result time_fits ∙ c.time.ensures in
     let ending = c.ending_at.ensures.value ∙ (λ i. spec.ending_at (start i) (gap i) (time i) (c.requires.told i)) in
     let pending : is_some c.args.stay.ended ≡ false = sym c.is_some.ensures ∙ c.if-is_some.false in
-    behind-closes c.args.entries.now c.args.clock (entry_at c.args.entries.now c.args.at).item c.args.stay _ c.ending_at.result pending c.requires.ends same ending
+    after-closes c.args.entries.now c.args.clock (entry_at c.args.entries.now c.args.at).item c.args.stay _ c.ending_at.result pending c.requires.ends same ending
