@@ -9,7 +9,7 @@ use Rattle.tally_sessions.specs.Totals.{every_host, stays_of}
 
 -- what is counted of a login's stay
 abbrev pub session_of : Stay → Session
-session_of s = record { user = s.user; begin = s.begin; end_time = s.end_time; length = s.length }
+session_of s = record { user = s.user; begin = s.begin; end_time = s.end_time }
 
 -- the sessions among stays
 abbrev pub sessions_among : List Stay → List Session

@@ -12,7 +12,6 @@ pub(crate) struct Session {
     pub(crate) user: Name,
     pub(crate) begin: i32,
     pub(crate) end_time: i32,
-    pub(crate) length: u32,
 }
 
 /// Adds seconds to the sum of a key.

@@ -121,7 +121,6 @@ impl Track {
             user: entries.user(at),
             begin: ending.begin,
             end_time: ending.end_time,
-            length: ending.length,
         })
     }
 
