@@ -9,6 +9,7 @@ use Rattle.tally_sessions.specs.declared.track.ending.TrackedStay.{TrackedStay}
 use Rattle.tally_sessions.specs.declared.track.Track.{Track}
 use Rattle.tally_sessions.specs.Hosts.{of_host}
 use Rattle.tally_sessions.specs.Stays.{last_time}
+use Rattle.tally_sessions.specs.Sums.{sessions_among}
 use Rattle.tally_sessions.specs.inside.Totals.{seconds_of}
 use Rattle.tally_sessions.specs.Totals.{stays_of}
 use Rattle.tally_sessions.specs.inside.Track.{ended_sum, pending_sum, stay_now, tracked_in, IsTrack}
@@ -39,6 +40,12 @@ stays_now host es a until h =
     ∙ ap (λ (z : ℤ). map (completed host z (unwrap_or until a.last)) (tracked_from host [] (of_host host es))) (h.clock ∙ ap clock all)
     ∙ ap (λ (z : ℤ). map (completed host (clock (of_host host es)) (unwrap_or until z)) (tracked_from host [] (of_host host es))) (h.last ∙ ap (last_time (pos 0)) all)
     ∙ sym (stays_from-tracked host [] (of_host host es) until (pos 0))
+
+-- once all stays are gone over, their sessions are those of the host
+pub sessions_now : (host : ℕ) (es : List Entry) (a : Track) (until : Option ℤ) (i : ℕ) → length a.stays.items ≤ i → IsTrack host es (length es) a
+    → sessions_among (map (stay_now host es a.clock (unwrap_or until a.last)) (take i a.stays.items)) ≡ sessions_among (stays_of host es until)
+sessions_now host es a until i all h =
+    ap (λ ts. sessions_among (map (stay_now host es a.clock (unwrap_or until a.last)) ts)) (take_all i a.stays.items all) ∙ ap sessions_among (stays_now host es a until h)
 
 -- the sessions are those that have ended and those that are pending
 pub seconds_are : (who : Option (List ℕ)) (host : ℕ) (es : List Entry) (a : Track) (until : Option ℤ) → IsTrack host es (length es) a

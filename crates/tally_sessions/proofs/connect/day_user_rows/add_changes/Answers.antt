@@ -10,7 +10,8 @@ use Rattle.tally_sessions.specs.inside.Sums.{day_user_cmp}
 use Rattle.tally_sessions.proofs.DayChanges.{change_on-high, change_on-low, no_change_after, no_change_before, no_change_within}
 use Rattle.tally_sessions.proofs.DayUsers.{one_day_of_user}
 use Rattle.tally_sessions.proofs.DayWalk.{day_with_time, not_over, over}
-use Rattle.tally_sessions.proofs.UserChanges.{IsMoved, moved_end, moved_jump, moved_start, moved_step, none_if}
+use Rattle.tally_sessions.proofs.UserChanges.{no_more, none_if}
+use Rattle.tally_sessions.proofs.Walked.{IsWalked, walk_end, walk_jump, walk_start, walk_step}
 use Rattle.tally_sessions.proofs.connect.day_user_rows.add_changes.Goals as goal
 
 abbrev held : ℤ → ℤ
@@ -18,6 +19,14 @@ held z = to_z w32 (of_z w32 z)
 
 abbrev kept : ℤ → ℤ
 kept z = to_z w64 (of_z w64 z)
+
+-- what a session adds to the changes of a user, by day
+abbrev amount : ℤ → ℤ → ℤ → List ℕ → List ℕ → ℤ → ℤ
+amount offset b e name user day = cond (bytes_eq name user) (change_on offset day b e) (pos 0)
+
+-- the changes of a user in a table, by day
+abbrev by_day : List (DayUser × ℤ) → List ℕ → ℤ → ℤ
+by_day changes user day = change_of changes (record { day = day; user = user })
 
 pub loop-day-init : goal.loop-day-init
 loop-day-init c = record {
@@ -27,10 +36,10 @@ loop-day-init c = record {
       let offset = held c.args.offset in
       let begin : held s.begin ≡ s.begin = to_z-of_z w32 s.begin (search rules) in
       let first : held c.day_of-first.result ≡ day_of offset s.begin = to_z-of_z w32 c.day_of-first.result (search rules) ∙ c.day_of-first.ensures.value ∙ ap (day_of offset) begin in
-      let amount : ℤ → ℤ = λ (d : ℤ). cond (bytes_eq s.user user) (change_on offset d s.begin s.end_time) (pos 0) in
-      let old : ℤ → ℤ = λ d. change_of c.args.changes.now.entries (record { day = d; user = user }) in
-      subst (IsMoved amount old old) (sym first)
-      (moved_start amount old (day_of offset s.begin) (λ d le. none_if (bytes_eq s.user user) _ (no_change_before offset d s.begin s.end_time le)));
+      let added : ℤ → ℤ = amount offset s.begin s.end_time s.user user in
+      let old : ℤ → ℤ = by_day c.args.changes.now.entries user in
+      subst (IsWalked ◌+ℤ◌ added old old) (sym first)
+      (walk_start ◌+ℤ◌ (pos 0) no_more added old (day_of offset s.begin) (λ d le. none_if (bytes_eq s.user user) _ (no_change_before offset d s.begin s.end_time le)));
 }
 
 pub change_on-requires-clause-after_first : goal.change_on-requires-clause-after_first
@@ -62,18 +71,14 @@ few_kept z x is low high = ap kept is ∙ same x low high
     same : (y : ℤ) → neg_ℤ (pos 86400) ≤ℤ y → y ≤ℤ pos 86400 → kept y ≡ y
     same y low high = omega (arith, ints)
 
--- the changes of a user, by day
-abbrev amount : ℤ → ℤ → ℤ → List ℕ → List ℕ → ℤ → ℤ
-amount offset b e name user day = cond (bytes_eq name user) (change_on offset day b e) (pos 0)
-
 one_more : (offset b e : ℤ) (name user : List ℕ) (old now next : List (DayUser × ℤ)) (day seconds : ℤ)
-    → IsMoved (amount offset b e name user) (λ d. change_of old (record { day = d; user = user })) (λ d. change_of now (record { day = d; user = user })) day → seconds ≡ change_on offset day b e
-    → ((d : ℤ) → change_of next (record { day = d; user = user }) ≡ change_of now (record { day = d; user = user }) +ℤ cond (is_eq (day_user_cmp (record { day = day; user = name }) (record { day = d; user = user }))) seconds (pos 0))
-    → IsMoved (amount offset b e name user) (λ d. change_of old (record { day = d; user = user })) (λ d. change_of next (record { day = d; user = user })) (day +ℤ pos 1)
+    → IsWalked ◌+ℤ◌ (amount offset b e name user) (by_day old user) (by_day now user) day → seconds ≡ change_on offset day b e
+    → ((d : ℤ) → by_day next user d ≡ by_day now user d +ℤ cond (is_eq (day_user_cmp (record { day = day; user = name }) (record { day = d; user = user }))) seconds (pos 0))
+    → IsWalked ◌+ℤ◌ (amount offset b e name user) (by_day old user) (by_day next user) (day +ℤ pos 1)
 one_more offset b e name user old now next day seconds h is added =
-    moved_step (amount offset b e name user) (λ d. change_of old (record { day = d; user = user })) (λ d. change_of now (record { day = d; user = user })) (λ d. change_of next (record { day = d; user = user })) day h
-    (λ d. added d ∙ ap (λ m. change_of now (record { day = d; user = user }) +ℤ m) (one_day_of_user day d name user seconds)
-    ∙ ap (λ m. change_of now (record { day = d; user = user }) +ℤ cond (is_eq (int_cmp day d)) (cond (bytes_eq name user) m (pos 0)) (pos 0)) is)
+    walk_step ◌+ℤ◌ (pos 0) no_more (amount offset b e name user) (by_day old user) (by_day now user) (by_day next user) day h
+    (λ d. added d ∙ ap (λ m. by_day now user d +ℤ m) (one_day_of_user day d name user seconds)
+    ∙ ap (λ m. by_day now user d +ℤ cond (is_eq (int_cmp day d)) (cond (bytes_eq name user) m (pos 0)) (pos 0)) is)
 
 pub add_change-requires-clause-seconds_low : goal.add_change-requires-clause-seconds_low
 add_change-requires-clause-seconds_low c =
@@ -115,7 +120,7 @@ loop-day-preserved-then-day-first c =
     let next : held c.max-day.result ≡ int_max (day_of offset s.end_time) (day +ℤ pos 1) = to_z-of_z w32 c.max-day.result (search rules) ∙ c.max-day.ensures.value ∙ (λ i. int_max (last_is i) (next_day i)) in record {
       from = omega (arith, ints, c.max-day.ensures, last.low, last.high, within, c.loop-day.invariant.from);
       moved = λ user.
-          moved_jump (amount offset s.begin s.end_time s.user user) (λ d. change_of c.args.changes.now.entries (record { day = d; user = user })) (λ d. change_of c.add_change.new.changes.entries (record { day = d; user = user })) (day +ℤ pos 1) (held c.max-day.result) (omega (arith, ints, c.max-day.ensures, last.low, last.high, within))
+          walk_jump ◌+ℤ◌ (pos 0) no_more (amount offset s.begin s.end_time s.user user) (by_day c.args.changes.now.entries user) (by_day c.add_change.new.changes.entries user) (day +ℤ pos 1) (held c.max-day.result) (omega (arith, ints, c.max-day.ensures, last.low, last.high, within))
           (one_more offset s.begin s.end_time s.user user c.args.changes.now.entries c.loop-day.changes.entries c.add_change.new.changes.entries day (kept c.change_on.result) (c.loop-day.invariant.moved user)
           (few_kept c.change_on.result _ c.change_on.ensures (change_on-low offset day s.begin s.end_time) (change_on-high offset day s.begin s.end_time))
           (λ d. c.in_ok-add_change.ensures.value (record { day = d; user = user })))
@@ -139,7 +144,7 @@ loop-day-preserved c =
     let next : held (day +ℤ pos 1) ≡ day +ℤ pos 1 = omega (arith, ints, last.low, last.high, within) in record {
       from = omega (arith, ints, next, c.loop-day.invariant.from);
       moved = λ user.
-          subst (IsMoved (amount offset s.begin s.end_time s.user user) (λ d. change_of c.args.changes.now.entries (record { day = d; user = user })) (λ d. change_of c.add_change.new.changes.entries (record { day = d; user = user }))) (sym next)
+          subst (IsWalked ◌+ℤ◌ (amount offset s.begin s.end_time s.user user) (by_day c.args.changes.now.entries user) (by_day c.add_change.new.changes.entries user)) (sym next)
           (one_more offset s.begin s.end_time s.user user c.args.changes.now.entries c.loop-day.changes.entries c.add_change.new.changes.entries day (kept c.change_on.result) (c.loop-day.invariant.moved user)
           (few_kept c.change_on.result _ c.change_on.ensures (change_on-low offset day s.begin s.end_time) (change_on-high offset day s.begin s.end_time))
           (λ d. c.in_ok-add_change.ensures.value (record { day = d; user = user })));
@@ -155,7 +160,7 @@ returns-clause-value c k =
     let last = c.day_of-last.ensures.range in
     let past = over day (held (held c.day_of-last.result +ℤ pos 1)) c.loop-day-test.false in
     let offset_is : offset ≡ c.args.offset = to_z-of_z w32 c.args.offset (search rules) in
-    moved_end (amount offset s.begin s.end_time s.user k.user) (λ d. change_of c.args.changes.now.entries (record { day = d; user = k.user })) (λ d. change_of c.loop-day.changes.entries (record { day = d; user = k.user })) day (c.loop-day.invariant.moved k.user)
+    walk_end ◌+ℤ◌ (pos 0) no_more (amount offset s.begin s.end_time s.user k.user) (by_day c.args.changes.now.entries k.user) (by_day c.loop-day.changes.entries k.user) day (c.loop-day.invariant.moved k.user)
     (λ d le. none_if (bytes_eq s.user k.user) _ (no_change_after offset d s.begin s.end_time (omega (arith, ints, last_is, last.low, last.high, past, le)))) k.day
     ∙ ap (λ (z : ℤ). change_of c.args.changes.now.entries k +ℤ cond (bytes_eq s.user k.user) (change_on z k.day s.begin s.end_time) (pos 0)) offset_is
 

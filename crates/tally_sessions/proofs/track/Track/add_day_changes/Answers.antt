@@ -1,16 +1,15 @@
 use Rattle.std.proofs.Common.{◌≡◌, ◌∙◌, ◌<◌, ◌+◌, ◌++◌, ◌∷◌, ◌+ℤ◌, ℤ, List, [], length, map, take, unwrap_or, sym, ap, subst, arith, rules, to_z, of_z, w32}
 use Rattle.std.proofs.lemmas.Int.{to_z-of_z}
-use Rattle.std.proofs.lemmas.List.{append-nil, take_all}
+use Rattle.std.proofs.lemmas.List.{append-nil}
 use Rattle.tally_sessions.specs.declared.track.ending.TrackedStay.{TrackedStay}
 use Rattle.tally_sessions.specs.declared.connect.sums.Session.{Session}
 use Rattle.tally_sessions.specs.inside.Changes.{change_at, change_of_day, day_at}
 use Rattle.tally_sessions.specs.Lent.{entries_in}
 use Rattle.tally_sessions.specs.Sums.{seconds_of_day, sessions_among}
-use Rattle.tally_sessions.specs.Totals.{stays_of}
 use Rattle.tally_sessions.specs.inside.Track.{no_stay, stay_at, stay_now}
 use Rattle.tally_sessions.proofs.DayHosts.{Grows, HaveDays, days_joined, days_one, grown_high, grown_low, grows_more}
 use Rattle.tally_sessions.proofs.SessionLists.{few_among, sessions_more}
-use Rattle.tally_sessions.proofs.StaysNow.{stays_now}
+use Rattle.tally_sessions.proofs.StaysNow.{sessions_now}
 use Rattle.tally_sessions.proofs.track.Track.add_day_changes.Goals as goal
 use Rattle.tally_sessions.proofs.track.Track.add_day_changes.Goals.{in-Some, in_default}
 
@@ -68,9 +67,7 @@ pub returns-clause-value : goal.returns-clause-value
 returns-clause-value c place lt =
     let es = entries_in c.args.entries in
     let a = c.args.self.now in
-    let f = stay_now c.args.host es a.clock (unwrap_or c.args.until a.last) in
-    let all : sessions_among (map f (take c.loop-i.i a.stays.items)) ≡ sessions_among (stays_of c.args.host es c.args.until) =
-    ap (λ ts. sessions_among (map f ts)) (take_all c.loop-i.i a.stays.items (omega (arith, a.stays.ok.0))) ∙ ap sessions_among (stays_now c.args.host es a c.args.until c.requires.track) in
+    let all = sessions_now c.args.host es a c.args.until c.loop-i.i (omega (arith, a.stays.ok.0)) c.requires.track in
     c.loop-i.invariant.grows place lt
     ∙ (λ j. change_at c.args.table.now place +ℤ change_of_day (to_z-of_z w32 c.args.offset (search rules) j) (day_at place) (all j))
 
@@ -78,8 +75,6 @@ pub returns-clause-days : goal.returns-clause-days
 returns-clause-days c day lt =
     let es = entries_in c.args.entries in
     let a = c.args.self.now in
-    let f = stay_now c.args.host es a.clock (unwrap_or c.args.until a.last) in
-    let all : sessions_among (map f (take c.loop-i.i a.stays.items)) ≡ sessions_among (stays_of c.args.host es c.args.until) =
-    ap (λ ts. sessions_among (map f ts)) (take_all c.loop-i.i a.stays.items (omega (arith, a.stays.ok.0))) ∙ ap sessions_among (stays_now c.args.host es a c.args.until c.requires.track) in
+    let all = sessions_now c.args.host es a c.args.until c.loop-i.i (omega (arith, a.stays.ok.0)) c.requires.track in
     let offset : held c.args.offset ≡ c.args.offset = to_z-of_z w32 c.args.offset (search rules) in
     c.loop-i.invariant.days day (subst (λ n. 0 < n) (λ j. seconds_of_day (sym offset j) day (sym all j)) lt)

@@ -1,16 +1,15 @@
 use Rattle.std.proofs.Common.{◌≡◌, ◌∙◌, ◌<◌, ◌+◌, ◌++◌, ◌∷◌, ◌+ℤ◌, ℤ, List, [], length, map, take, unwrap_or, sym, ap, subst, arith, rules, to_z, of_z, w32}
 use Rattle.std.proofs.lemmas.Int.{to_z-of_z}
-use Rattle.std.proofs.lemmas.List.{append-nil, take_all}
+use Rattle.std.proofs.lemmas.List.{append-nil}
 use Rattle.tally_sessions.specs.declared.connect.day_user_rows.DayUser.{DayUser}
 use Rattle.tally_sessions.specs.declared.track.ending.TrackedStay.{TrackedStay}
 use Rattle.tally_sessions.specs.declared.connect.sums.Session.{Session}
 use Rattle.tally_sessions.specs.inside.Changes.{change_of, change_of_day_user}
 use Rattle.tally_sessions.specs.Lent.{entries_in}
 use Rattle.tally_sessions.specs.Sums.{seconds_of_day_user, sessions_among}
-use Rattle.tally_sessions.specs.Totals.{stays_of}
 use Rattle.tally_sessions.specs.inside.Track.{no_stay, stay_at, stay_now}
 use Rattle.tally_sessions.proofs.SessionLists.{few_among, sessions_more}
-use Rattle.tally_sessions.proofs.StaysNow.{stays_now}
+use Rattle.tally_sessions.proofs.StaysNow.{sessions_now}
 use Rattle.tally_sessions.proofs.UserHosts.{HaveUserDays, UsersGrow, user_days_joined, user_days_one, users_high, users_low, users_more}
 use Rattle.tally_sessions.proofs.track.Track.add_user_changes.Goals as goal
 use Rattle.tally_sessions.proofs.track.Track.add_user_changes.Goals.{in-Some+in_ok-add_changes, in_default}
@@ -72,9 +71,7 @@ pub returns-clause-value : goal.returns-clause-value
 returns-clause-value c k =
     let es = entries_in c.args.entries in
     let a = c.args.self.now in
-    let f = stay_now c.args.host es a.clock (unwrap_or c.args.until a.last) in
-    let all : sessions_among (map f (take c.loop-i.i a.stays.items)) ≡ sessions_among (stays_of c.args.host es c.args.until) =
-    ap (λ ts. sessions_among (map f ts)) (take_all c.loop-i.i a.stays.items (omega (arith, a.stays.ok.0))) ∙ ap sessions_among (stays_now c.args.host es a c.args.until c.requires.track) in
+    let all = sessions_now c.args.host es a c.args.until c.loop-i.i (omega (arith, a.stays.ok.0)) c.requires.track in
     c.loop-i.invariant.grows k
     ∙ (λ j. change_of c.args.changes.now.entries k +ℤ change_of_day_user (to_z-of_z w32 c.args.offset (search rules) j) k (all j))
 
@@ -82,8 +79,6 @@ pub returns-clause-days : goal.returns-clause-days
 returns-clause-days c k lt =
     let es = entries_in c.args.entries in
     let a = c.args.self.now in
-    let f = stay_now c.args.host es a.clock (unwrap_or c.args.until a.last) in
-    let all : sessions_among (map f (take c.loop-i.i a.stays.items)) ≡ sessions_among (stays_of c.args.host es c.args.until) =
-    ap (λ ts. sessions_among (map f ts)) (take_all c.loop-i.i a.stays.items (omega (arith, a.stays.ok.0))) ∙ ap sessions_among (stays_now c.args.host es a c.args.until c.requires.track) in
+    let all = sessions_now c.args.host es a c.args.until c.loop-i.i (omega (arith, a.stays.ok.0)) c.requires.track in
     let offset : held c.args.offset ≡ c.args.offset = to_z-of_z w32 c.args.offset (search rules) in
     c.loop-i.invariant.days k (subst (λ n. 0 < n) (λ j. seconds_of_day_user (sym offset j) k.day k.user (sym all j)) lt)
