@@ -24,7 +24,7 @@ use Rattle.tally_sessions.proofs.Clocks.{pending_old_time-push}
 use Rattle.tally_sessions.proofs.EndedSteps.{HasSums-start}
 use Rattle.tally_sessions.proofs.Forward.{clock-push, last_time-push, tracked_from-push}
 use Rattle.tally_sessions.proofs.HostSteps.{of_host-take_same}
-use Rattle.tally_sessions.proofs.TrackSteps.{tracked_in-after, ends_all}
+use Rattle.tally_sessions.proofs.TrackSteps.{tracked_in-after, ends_alike}
 use Rattle.tally_sessions.proofs.TrackedAdvance.{AreTracked-advance, Sweeps}
 
 map-tracked_in : (host : ℕ) (es : List Entry) (now : ℤ) (x : LoginRecord) (ts : List TrackedStay) → map (tracked_in host es) (map (after es now x) ts) ≡ map (advanced host now x) (map (tracked_in host es) ts)
@@ -97,8 +97,8 @@ pub sweeps_all : (es : List Entry) (x : LoginRecord) → ends_every_stay (event_
 sweeps_all es x h t starts = by (event_of x) refl h
   where
     by : (e : Event) → event_of x ≡ e → ends_every_stay e ≡ true → ends_stay (start_of es t) x ≡ true
-    by Boot e h = ends_all (start_of es t) x Boot e starts (λ b. refl) (λ b. refl)
-    by Down e h = ends_all (start_of es t) x Down e starts (λ b. refl) (λ b. refl)
+    by Boot e h = ends_alike (start_of es t) x Boot true e starts (λ b. refl) (λ b. refl)
+    by Down e h = ends_alike (start_of es t) x Down true e starts (λ b. refl) (λ b. refl)
     by Login e h = absurd (false≢true h)
     by Logout e h = absurd (false≢true h)
     by OldTime e h = absurd (false≢true h)

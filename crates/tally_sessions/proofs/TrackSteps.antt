@@ -13,8 +13,17 @@ use Rattle.tally_sessions.specs.declared.entry.Entry.{Entry}
 use Rattle.tally_sessions.specs.declared.track.ending.Ending.{Ending}
 use Rattle.tally_sessions.specs.declared.track.ending.TrackedStay.{TrackedStay}
 use Rattle.tally_sessions.specs.Stays.{ends_event, ends_stay, starts_stay}
-use Rattle.tally_sessions.specs.inside.Track.{stay_at, start_of, ending_of, end_if, after, ends_line_stay, stay_with, tracked_in, IsTracked, AreTracked}
+use Rattle.tally_sessions.specs.inside.Track.{is_login_event, stay_at, start_of, ending_of, end_if, after, ends_line_stay, stay_with, tracked_in, IsTracked, AreTracked}
 use Rattle.tally_sessions.specs.inside.Tracking.{Tracked, advanced, advance_if, ended_by}
+
+pub is_login_of_event : (e : Event) → is_login_event e ≡ true → e ≡ Login
+is_login_of_event Login h = refl
+is_login_of_event Logout h = absurd (false≢true h)
+is_login_of_event Boot h = absurd (false≢true h)
+is_login_of_event Down h = absurd (false≢true h)
+is_login_of_event OldTime h = absurd (false≢true h)
+is_login_of_event NewTime h = absurd (false≢true h)
+is_login_of_event Nothing h = absurd (false≢true h)
 
 -- what is kept of a stay goes on as the stay does
 pub tracked_in-after : (host : ℕ) (es : List Entry) (now : ℤ) (x : LoginRecord) (t : TrackedStay) → tracked_in host es (after es now x t) ≡ advanced host now x (tracked_in host es t)
@@ -84,24 +93,11 @@ after-pending es now x t h = by t.ended (ends_stay (start_of es t) x) h
     by None true h = cc
     by None false h = (refl, refl)
 
--- a record with this event ends no stay, wherever the events say so
-ends_none : (r x : LoginRecord) (e : Event) → event_of x ≡ e → starts_stay (event_of r) ≡ true → ((b : Bool) → ends_event Login e b ≡ false) → ((b : Bool) → ends_event Boot e b ≡ false) → ends_stay r x ≡ false
-ends_none r x e is starts login boot = by (event_of r) starts
+-- a record with this event ends each stay, or none, as the events say
+pub ends_alike : (r x : LoginRecord) (e : Event) (ends : Bool) → event_of x ≡ e → starts_stay (event_of r) ≡ true → ((b : Bool) → ends_event Login e b ≡ ends) → ((b : Bool) → ends_event Boot e b ≡ ends) → ends_stay r x ≡ ends
+ends_alike r x e ends is starts login boot = by (event_of r) starts
   where
-    by : (s : Event) → starts_stay s ≡ true → ends_event s (event_of x) (bytes_eq r.line x.line) ≡ false
-    by Login h = ap (λ y. ends_event Login y (bytes_eq r.line x.line)) is ∙ login (bytes_eq r.line x.line)
-    by Boot h = ap (λ y. ends_event Boot y (bytes_eq r.line x.line)) is ∙ boot (bytes_eq r.line x.line)
-    by Logout h = absurd (false≢true h)
-    by Down h = absurd (false≢true h)
-    by OldTime h = absurd (false≢true h)
-    by NewTime h = absurd (false≢true h)
-    by Nothing h = absurd (false≢true h)
-
--- a boot and a shutdown end every stay
-pub ends_all : (r x : LoginRecord) (e : Event) → event_of x ≡ e → starts_stay (event_of r) ≡ true → ((b : Bool) → ends_event Login e b ≡ true) → ((b : Bool) → ends_event Boot e b ≡ true) → ends_stay r x ≡ true
-ends_all r x e is starts login boot = by (event_of r) starts
-  where
-    by : (s : Event) → starts_stay s ≡ true → ends_event s (event_of x) (bytes_eq r.line x.line) ≡ true
+    by : (s : Event) → starts_stay s ≡ true → ends_event s (event_of x) (bytes_eq r.line x.line) ≡ ends
     by Login h = ap (λ y. ends_event Login y (bytes_eq r.line x.line)) is ∙ login (bytes_eq r.line x.line)
     by Boot h = ap (λ y. ends_event Boot y (bytes_eq r.line x.line)) is ∙ boot (bytes_eq r.line x.line)
     by Logout h = absurd (false≢true h)
@@ -160,9 +156,9 @@ after-nothing es n lines swept stays now x h login logout boot down k lt = after
     by Logout e = absurd (logout e)
     by Boot e = absurd (boot e)
     by Down e = absurd (down e)
-    by OldTime e = ends_none (start_of es (stay_at stays k)) x OldTime e (h.at k lt).starts (λ b. refl) (λ b. refl)
-    by NewTime e = ends_none (start_of es (stay_at stays k)) x NewTime e (h.at k lt).starts (λ b. refl) (λ b. refl)
-    by Nothing e = ends_none (start_of es (stay_at stays k)) x Nothing e (h.at k lt).starts (λ b. refl) (λ b. refl)
+    by OldTime e = ends_alike (start_of es (stay_at stays k)) x OldTime false e (h.at k lt).starts (λ b. refl) (λ b. refl)
+    by NewTime e = ends_alike (start_of es (stay_at stays k)) x NewTime false e (h.at k lt).starts (λ b. refl) (λ b. refl)
+    by Nothing e = ends_alike (start_of es (stay_at stays k)) x Nothing false e (h.at k lt).starts (λ b. refl) (λ b. refl)
 
 pub some_inj : (m n : ℕ) → Some m ≡ Some n → m ≡ n
 some_inj m n e = cc

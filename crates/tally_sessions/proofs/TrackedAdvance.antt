@@ -16,7 +16,7 @@ use Rattle.tally_sessions.specs.declared.track.ending.TrackedStay.{TrackedStay}
 use Rattle.tally_sessions.specs.inside.Entries.{entry_at}
 use Rattle.tally_sessions.specs.Stays.{ends_event, ends_stay, starts_stay}
 use Rattle.tally_sessions.specs.inside.Track.{is_login_event, no_stay, stay_at, start_of, after, IsWithin, IsTracked, IsOnLine, AreTracked, started, LeadsTo}
-use Rattle.tally_sessions.proofs.TrackSteps.{after-ended, after-ends, after-pending, some_inj}
+use Rattle.tally_sessions.proofs.TrackSteps.{after-ended, after-ends, after-pending, is_login_of_event, some_inj}
 
 pub IsWithin-more : (n : ℕ) (z : ℤ) → IsWithin n z → IsWithin (n + 1) z
 IsWithin-more n z h = let a = h.low in let b = h.high in record { low = omega (arith, ints); high = omega (arith, ints) }
@@ -86,15 +86,6 @@ module _ (es : List Entry) (n : ℕ) (lines lines' : List (List ℕ × ℕ)) (sw
       by OldTime h = absurd (false≢true h)
       by NewTime h = absurd (false≢true h)
       by Nothing h = absurd (false≢true h)
-
-  is_login : (e : Event) → is_login_event e ≡ true → e ≡ Login
-  is_login Login h = refl
-  is_login Logout h = absurd (false≢true h)
-  is_login Boot h = absurd (false≢true h)
-  is_login Down h = absurd (false≢true h)
-  is_login OldTime h = absurd (false≢true h)
-  is_login NewTime h = absurd (false≢true h)
-  is_login Nothing h = absurd (false≢true h)
 
   both : (a b : Bool) → (a && b) ≡ true → (a ≡ true) × (b ≡ true)
   both true b h = (refl, h)
@@ -176,7 +167,7 @@ module _ (es : List Entry) (n : ℕ) (lines lines' : List (List ℕ × ℕ)) (sw
               let long = length_after true starts in
               let there : stay_at later i ≡ new = ap (stay_at later) (sym place) ∙ stay_new starts in record {
                 within = omega arith;
-                login = ap (λ (t : TrackedStay). event_of (start_of es t)) there ∙ is_login (event_of x) login;
+                login = ap (λ (t : TrackedStay). event_of (start_of es t)) there ∙ is_login_of_event (event_of x) login;
                 same = ap (λ (t : TrackedStay). (start_of es t).line) there ∙ same;
               }
           by false e =
