@@ -1,4 +1,4 @@
-use Rattle.std.proofs.Common.{◌≡◌, ◌∙◌, ◌+◌, ◌≤◌, ◌<◌, ◌^◌, ℕ, ℤ, List, Bool, true, false, cond, pos, ◌+ℤ◌, ◌-ℤ◌, FitsSigned, length, refl, sym, ap, subst, arith, rules, to_z, of_z, w32, w64}
+use Rattle.std.proofs.Common.{◌≡◌, ◌∙◌, ◌+◌, ◌≤◌, ◌<◌, ◌^◌, ℕ, ℤ, List, Bool, true, false, cond, pos, ◌+ℤ◌, ◌-ℤ◌, FitsSigned, length, sym, ap, subst, arith, rules, to_z, of_z, w32, w64}
 use Rattle.std.proofs.lemmas.Int.{ints, to_z-of_z}
 use Rattle.std.specs.Ordering.{int_cmp, is_eq}
 use Rattle.std.specs.Prelude.{int_lt, unsigned_abs}

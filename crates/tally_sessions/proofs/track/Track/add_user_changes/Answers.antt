@@ -1,4 +1,4 @@
-use Rattle.std.proofs.Common.{◌≡◌, ◌∙◌, ◌<◌, ◌+◌, ◌++◌, ◌∷◌, ◌+ℤ◌, ℤ, List, [], length, map, take, unwrap_or, sym, ap, subst, arith, rules, to_z, of_z, w32}
+use Rattle.std.proofs.Common.{◌≡◌, ◌∙◌, ◌<◌, ◌+◌, ◌++◌, ◌∷◌, ◌+ℤ◌, ℤ, List, [], length, map, take, unwrap_or, sym, subst, arith, rules, to_z, of_z, w32}
 use Rattle.std.proofs.lemmas.Int.{to_z-of_z}
 use Rattle.std.proofs.lemmas.List.{append-nil}
 use Rattle.tally_sessions.specs.declared.connect.day_user_rows.DayUser.{DayUser}
