@@ -9,9 +9,9 @@ use Rattle.std.specs.declared.cmp.Ordering.TheVariants.{Equal}
 use Rattle.tally_records.proofs.Members.{Contains-from_Member, Member, Member-filter, Member-from_filter, Member-from_map, Member-map}
 use Rattle.tally_records.proofs.SortedLemmas.{in_order-has}
 use Rattle.tally_records.specs.Sorted.{in_order}
-use Rattle.tally_sessions.specs.declared.day_user_rows.DayUser.{DayUser}
+use Rattle.tally_sessions.specs.declared.connect.day_user_rows.DayUser.{DayUser}
 use Rattle.tally_sessions.specs.declared.entry.Entry.{Entry}
-use Rattle.tally_sessions.specs.declared.sums.Session.{Session}
+use Rattle.tally_sessions.specs.declared.connect.sums.Session.{Session}
 use Rattle.tally_sessions.specs.declared.times.DayTime.{DayTime}
 use Rattle.tally_sessions.specs.declared.times.DayUserTime.{DayUserTime}
 use Rattle.tally_sessions.specs.declared.times.UserTime.{UserTime}
@@ -20,7 +20,7 @@ use Rattle.tally_sessions.specs.Rows.{day_time, day_user_time, day_users_of, day
 use Rattle.tally_sessions.specs.Sums.{sessions_of}
 use Rattle.tally_sessions.proofs.DayRows.{day_counted, same_day}
 use Rattle.tally_sessions.proofs.DayUsers.{day_user_counted, day_user_total, same_day_user}
-use Rattle.tally_sessions.proofs.SumLemmas.{connect_of-sessions, user_of_session}
+use Rattle.tally_sessions.proofs.SumLemmas.{user_of_session}
 use Rattle.tally_sessions.proofs.UserRows.{same_user}
 
 -- rows with a key each, which name it
@@ -45,8 +45,7 @@ module _ {C K Row : Type 0} {cmp : K → K → Ordering} (o : IsTotalOrder cmp) 
 pub rows_are_complete : (entries : List Entry) (until : Option ℤ) → HaveRows entries until
 rows_are_complete entries until = record {
   users = λ user some.
-      let time = subst (λ n. 0 < n) (connect_of-sessions user entries until) some in
-      let from = Member-from_map (λ (s : Session). s.user) (sessions_of entries until) user (user_of_session user (sessions_of entries until) time) in
+      let from = Member-from_map (λ (s : Session). s.user) (sessions_of entries until) user (user_of_session user entries until some) in
       subst (λ u. Contains (user_times entries until) (user_time entries until u)) (sym from.2)
       (has_row nat_list_cmp_total same_user (user_time entries until) (λ (r : UserTime). r.user) (λ (r : UserTime). r.seconds) (λ u. refl) (λ (s : Session). s.user) (sessions_of entries until) from.0 from.1
       (subst (λ u. 0 < (user_time entries until u).seconds) from.2 some));

@@ -3,7 +3,7 @@ use Rattle.std.proofs.Common.{◌≡◌, ◌≢◌, ◌⊎◌, inl, inr, ℕ, �
 use Rattle.std.proofs.lemmas.Bool.{cases_eq, cases_lt}
 use Rattle.std.proofs.lemmas.Int.{ints}
 use Rattle.std.proofs.lemmas.List.Sums.{sum_by-append, sum_by-cons}
-use Rattle.tally_sessions.specs.declared.sums.Session.{Session}
+use Rattle.tally_sessions.specs.declared.connect.sums.Session.{Session}
 use Rattle.tally_sessions.specs.inside.Changes.{change_at, change_of_day, change_on, day_at}
 use Rattle.tally_sessions.specs.Days.{IsDay, seconds_on}
 use Rattle.tally_sessions.specs.Sums.{seconds_of_day}

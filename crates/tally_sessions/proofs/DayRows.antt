@@ -10,7 +10,7 @@ use Rattle.std.specs.Ordering.{int_cmp, is_eq}
 use Rattle.std.specs.declared.cmp.Ordering.TheVariants.{Equal}
 use Rattle.tally_records.proofs.Members.{Member, Member-append_left, Member-append_right}
 use Rattle.tally_sessions.specs.declared.entry.Entry.{Entry}
-use Rattle.tally_sessions.specs.declared.sums.Session.{Session}
+use Rattle.tally_sessions.specs.declared.connect.sums.Session.{Session}
 use Rattle.tally_sessions.specs.declared.times.DayTime.{DayTime}
 use Rattle.tally_sessions.specs.Days.{days_between, IsDay, seconds_on}
 use Rattle.tally_sessions.specs.inside.Sums.{above_zero, day_time_of, sum_at}

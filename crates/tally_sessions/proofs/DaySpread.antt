@@ -7,7 +7,7 @@ use Rattle.std.specs.Cmp.{Equal-is}
 use Rattle.std.specs.Int.{int_max}
 use Rattle.std.specs.Ordering.{is_eq}
 use Rattle.std.specs.Prelude.{unsigned_abs}
-use Rattle.tally_sessions.specs.declared.day_user_rows.DayUser.{DayUser}
+use Rattle.tally_sessions.specs.declared.connect.day_user_rows.DayUser.{DayUser}
 use Rattle.tally_sessions.specs.Days.{IsDay}
 use Rattle.tally_sessions.specs.inside.Sums.{day_user_cmp}
 use Rattle.tally_sessions.proofs.DaysLemmas.{reach}

@@ -1,66 +1,13 @@
--- Sums by day, while a session's days are walked in order.
-use Rattle.std.proofs.Common.{◌≡◌, ◌⊎◌, inl, inr, ℕ, zero, suc, ◌+◌, ◌<◌, ◌≤◌, Bool, true, false, cond, ◌∷◌, ℤ, pos, ◌+ℤ◌, ◌-ℤ◌, ◌≤ℤ◌, refl, sym, ap, subst, ◌∙◌, arith}
+-- The days of a session, as they are walked in order.
+use Rattle.std.proofs.Common.{◌≡◌, ◌⊎◌, inl, inr, ℕ, zero, suc, ◌+◌, ◌<◌, ◌≤◌, Bool, true, false, ◌∷◌, ℤ, pos, ◌+ℤ◌, ◌-ℤ◌, ◌≤ℤ◌, refl, sym, subst, arith}
 use Rattle.std.proofs.lemmas.Bool.{cases_eq, cases_lt}
-use Rattle.std.proofs.lemmas.Bool.Decides.{Decides-int_eq}
 use Rattle.std.proofs.lemmas.Int.{ints, clamps}
 use Rattle.std.specs.Int.{int_max}
 use Rattle.std.specs.List.{range_with_len}
-use Rattle.std.specs.Ordering.{is_eq, int_cmp, int_eq}
 use Rattle.std.specs.Prelude.{int_le, int_lt, unsigned_abs}
 use Rattle.tally_records.proofs.Members.{Member, Member-map}
 use Rattle.tally_sessions.specs.Days.{day_count, day_of, days_between, seconds_on}
-use Rattle.tally_sessions.proofs.DaysLemmas.{above, none_on_earlier, none_on_later}
-
--- the days before this one have what is added, and the others what they had
-pub record IsWalked (amount old now : ℤ → ℕ) (day : ℤ) : Type 0 where
-  pub done : (d : ℤ) → (d +ℤ pos 1) ≤ℤ day → now d ≡ old d + amount d
-  pub rest : (d : ℤ) → day ≤ℤ d → now d ≡ old d
-
-nothing_more : (m n : ℕ) → n ≡ 0 → m ≡ m + n
-nothing_more m n h = omega arith
-
-strictly : (a b : ℤ) → int_lt a b ≡ true → (a +ℤ pos 1) ≤ℤ b
-strictly a b h = grind (arith, ints, clamps)
-
-pub walk_start : (amount old : ℤ → ℕ) (day : ℤ) → ((d : ℤ) → (d +ℤ pos 1) ≤ℤ day → amount d ≡ 0) → IsWalked amount old old day
-walk_start amount old day none = record { done = λ d le. nothing_more (old d) (amount d) (none d le); rest = λ d le. refl }
-
--- one day more
-pub walk_step : (amount old now next : ℤ → ℕ) (day : ℤ) (n : ℕ) → IsWalked amount old now day → n ≡ amount day → ((d : ℤ) → next d ≡ now d + cond (is_eq (int_cmp day d)) n 0) → IsWalked amount old next (day +ℤ pos 1)
-walk_step amount old now next day n h is added = record {
-  done = λ d le. by_same d le (int_eq day d) refl;
-  rest = λ d le. by_other d le (int_eq day d) refl;
-}
-  where
-    by_same : (d : ℤ) → (d +ℤ pos 1) ≤ℤ (day +ℤ pos 1) → (b : Bool) → int_eq day d ≡ b → next d ≡ old d + amount d
-    by_same d le true e =
-        let same : day ≡ d = (Decides-int_eq day d).0 e in
-        added d ∙ ap (λ b. now d + cond b n 0) e ∙ ap (λ m. m + n) (h.rest d (omega (arith, ints)))
-        ∙ ap (λ m. old d + m) (is ∙ ap amount same)
-    by_same d le false e =
-        let other : (day ≡ d) → ⊥ = λ same. absurd (let b : true ≡ false = sym ((Decides-int_eq day d).1 same) ∙ e in cc) in
-        added d ∙ ap (λ b. now d + cond b n 0) e ∙ sym (nothing_more (now d) 0 refl) ∙ h.done d (earlier d le other)
-      where
-        earlier : (z : ℤ) → (z +ℤ pos 1) ≤ℤ (day +ℤ pos 1) → ((day ≡ z) → ⊥) → (z +ℤ pos 1) ≤ℤ day
-        earlier z le other = by_lt (int_lt z day) refl
-          where
-            by_lt : (b : Bool) → int_lt z day ≡ b → (z +ℤ pos 1) ≤ℤ day
-            by_lt true l = strictly z day l
-            by_lt false l = absurd (other (let up = above z day l in let same : day ≡ z = omega (arith, ints) in same))
-
-    by_other : (d : ℤ) → (day +ℤ pos 1) ≤ℤ d → (b : Bool) → int_eq day d ≡ b → next d ≡ old d
-    by_other d le true e =
-        let same : day ≡ d = (Decides-int_eq day d).0 e in absurd (omega (arith, ints))
-    by_other d le false e =
-        added d ∙ ap (λ b. now d + cond b n 0) e ∙ sym (nothing_more (now d) 0 refl) ∙ h.rest d (omega (arith, ints))
-
--- all days are walked
-pub walk_end : (amount old now : ℤ → ℕ) (day : ℤ) → IsWalked amount old now day → ((d : ℤ) → day ≤ℤ d → amount d ≡ 0) → (d : ℤ) → now d ≡ old d + amount d
-walk_end amount old now day h none d = by (int_lt d day) refl
-  where
-    by : (b : Bool) → int_lt d day ≡ b → now d ≡ old d + amount d
-    by true e = h.done d (strictly d day e)
-    by false e = let le = above d day e in h.rest d le ∙ nothing_more (old d) (amount d) (none d le)
+use Rattle.tally_sessions.proofs.DaysLemmas.{above, none_on_earlier, none_on_later, strictly}
 
 -- a day that has seconds of a stay is one of its days
 pub day_with_time : (offset day b e : ℤ) → 0 < seconds_on offset day b e → (day_of offset b ≤ℤ day) × (day ≤ℤ day_of offset e)

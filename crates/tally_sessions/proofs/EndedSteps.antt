@@ -1,21 +1,20 @@
 -- The sums of ended sessions, after one stay that is ended.
 use Rattle.std.proofs.Common.{◌≡◌, ◌≢◌, ◌⊎◌, inl, inr, ℕ, ◌+◌, ◌*◌, ◌<◌, ◌≤◌, Bool, true, false, cond, List, [], ◌∷◌, ◌++◌, length, get_or, set, Option, Some, None, IsSome, unwrap_or, ℤ, length-append, refl, sym, ap, subst, ◌∙◌, arith}
-use Rattle.std.proofs.lemmas.Bool.{cases_eq, false≢true}
+use Rattle.std.proofs.lemmas.Bool.{cases_eq}
 use Rattle.std.proofs.lemmas.List.{append-nil, get_or_default, get_or-set_same, get_or-set_other, length-set}
 use Rattle.std.proofs.lemmas.List.Sums.{sum_by-append, sum_by-set, sum_by-le}
 use Rattle.std.specs.Map.{lookup}
 use Rattle.std.specs.Option.{option_map_or}
 use Rattle.std.specs.Prelude.{bytes_eq, sum_by}
 use Rattle.tally_records.specs.declared.login.LoginRecord.{LoginRecord}
-use Rattle.tally_records.specs.declared.login.Event.{Event}
-use Rattle.tally_records.specs.declared.login.Event.TheVariants.{Login, Logout, Boot, Down, OldTime, NewTime, Nothing}
+use Rattle.tally_records.specs.declared.login.Event.TheVariants.{Login}
 use Rattle.tally_records.specs.Event.{event_of}
 use Rattle.tally_sessions.specs.declared.entry.Entry.{Entry}
-use Rattle.tally_sessions.specs.declared.ended.EndedSums.{EndedSums}
-use Rattle.tally_sessions.specs.declared.ending.Ending.{Ending}
-use Rattle.tally_sessions.specs.declared.ending.TrackedStay.{TrackedStay}
+use Rattle.tally_sessions.specs.declared.track.ended.EndedSums.{EndedSums}
+use Rattle.tally_sessions.specs.declared.track.ending.Ending.{Ending}
+use Rattle.tally_sessions.specs.declared.track.ending.TrackedStay.{TrackedStay}
 use Rattle.tally_sessions.specs.inside.Entries.{entry_at}
-use Rattle.tally_sessions.specs.inside.Track.{is_login_event, no_stay, stay_at, start_of, counts, ended_length, ended_sum, sum_of, started, HasSums, IsEntered, LengthFits}
+use Rattle.tally_sessions.specs.inside.Track.{no_stay, stay_at, start_of, counts, ended_length, ended_sum, sum_of, started, HasSums, IsEntered, LengthFits}
 use Rattle.tally_sessions.specs.Stays.{starts_stay}
 use Rattle.tally_sessions.proofs.Places.{each-push}
 
@@ -64,15 +63,6 @@ pub ended_sum-le : (who : Option (List ℕ)) (es : List Entry) (ts : List Tracke
 ended_sum-le who es ts fits =
     sum_by-le (ended_length who es) 4294967295 ts
     (λ k d lt. subst (λ t. ended_length who es t ≤ 4294967295) (get_or_default ts k no_stay d lt) (few_seconds (counts who (start_of es (stay_at ts k))) (stay_at ts k).ended (fits k lt)))
-
-pub is_login_of_event : (e : Event) → is_login_event e ≡ true → e ≡ Login
-is_login_of_event Login h = refl
-is_login_of_event Logout h = absurd (false≢true h)
-is_login_of_event Boot h = absurd (false≢true h)
-is_login_of_event Down h = absurd (false≢true h)
-is_login_of_event OldTime h = absurd (false≢true h)
-is_login_of_event NewTime h = absurd (false≢true h)
-is_login_of_event Nothing h = absurd (false≢true h)
 
 ended_nothing : (who : Option (List ℕ)) (es : List Entry) (n : ℕ) (now : ℤ) (b : Bool) → ended_sum who es (cond b (record { entry = n; clock_at = now; ended = None } ∷ []) []) ≡ 0
 ended_nothing who es n now false = refl

@@ -4,11 +4,12 @@ use Rattle.std.proofs.lemmas.Bool.{cases_lt, false≢true}
 use Rattle.std.proofs.lemmas.Int.{ints, clamps}
 use Rattle.std.proofs.lemmas.List.{get_or_default, get_or-map, length-map}
 use Rattle.std.proofs.lemmas.List.Sums.{sum_by-cons, sum_by-le, sum-map}
+use Rattle.std.proofs.lemmas.Option.{slice_get-get_or}
 use Rattle.std.proofs.Math.ListN.{get_or-eq_default}
 use Rattle.std.specs.List.{IsDistinct}
 use Rattle.std.specs.Map.{keys_of, lookup}
 use Rattle.std.specs.Option.{option_map_or}
-use Rattle.std.specs.Prelude.{bytes_eq, sum_by}
+use Rattle.std.specs.Prelude.{bytes_eq, slice_get, sum_by}
 use Rattle.tally_records.specs.declared.login.LoginRecord.{LoginRecord}
 use Rattle.tally_records.specs.declared.login.Event.{Event}
 use Rattle.tally_records.specs.declared.login.Event.TheVariants.{Login, Logout, Boot, Down, OldTime, NewTime, Nothing}
@@ -16,14 +17,14 @@ use Rattle.tally_records.specs.Event.{event_of}
 use Rattle.tally_records.proofs.Members.{Member}
 use Rattle.tally_sessions.specs.declared.entry.Entry.{Entry}
 use Rattle.tally_sessions.specs.declared.entry.Stay.{Stay}
-use Rattle.tally_sessions.specs.declared.ending.Ending.{Ending}
-use Rattle.tally_sessions.specs.declared.ending.TrackedStay.{TrackedStay}
+use Rattle.tally_sessions.specs.declared.track.ending.Ending.{Ending}
+use Rattle.tally_sessions.specs.declared.track.ending.TrackedStay.{TrackedStay}
 use Rattle.tally_sessions.specs.Stays.{clamped, is_boot_event, seconds_between, starts_stay}
 use Rattle.tally_sessions.specs.inside.Track.{is_login_event, no_stay, stay_at, start_of, still_of, ending_now, stay_now, counts, ended_length, ended_sum, pending_length, pending_sum, AreTracked, LengthFits}
 use Rattle.tally_sessions.specs.inside.Totals.{counted, seconds_of}
-use Rattle.tally_sessions.proofs.EndedSteps.{is_login_of_event}
+use Rattle.tally_sessions.proofs.TrackSteps.{is_login_of_event}
 use Rattle.tally_sessions.proofs.Lengths.{seconds_fit}
-use Rattle.tally_sessions.proofs.LineSums.{sum_same, table_sum}
+use Rattle.tally_sessions.proofs.LineSums.{lookup_of_member, sum_same, table_sum}
 
 -- a start that counts is a login
 login_of : (w : Option (List ℕ)) (r : LoginRecord) → counts w r ≡ true → event_of r ≡ Login
@@ -115,10 +116,11 @@ module _ (who : Option (List ℕ)) (es : List Entry) (now time : ℤ) where
   pending_sum-le ts le fits = let all = ended_and_pending ts in let few = now_sum-le ts le fits in omega arith
 
   -- what is pending is at the places that lines lead to
-  pub lines_sum : (n : ℕ) (lines : List (List ℕ × ℕ)) (swept : ℕ) (ts : List TrackedStay) → AreTracked es n lines swept ts → IsDistinct bytes_eq (keys_of lines) → ((e : List ℕ × ℕ) → Member e lines → lookup (bytes_eq e.0) lines ≡ Some e.1)
+  pub lines_sum : (n : ℕ) (lines : List (List ℕ × ℕ)) (swept : ℕ) (ts : List TrackedStay) → AreTracked es n lines swept ts → IsDistinct bytes_eq (keys_of lines)
       → sum_by (λ (e : List ℕ × ℕ). pending_length who es now time (stay_at ts e.1)) lines ≡ pending_sum who es now time ts
-  lines_sum n lines swept ts h distinct at =
+  lines_sum n lines swept ts h distinct =
       let f = pending_length who es now time in
+      let at : (e : List ℕ × ℕ) → Member e lines → lookup (bytes_eq e.0) lines ≡ Some e.1 = λ e m. lookup_of_member lines e distinct m in
       let xs : List ℕ = map f ts in
       sum_same (λ (e : List ℕ × ℕ). f (stay_at ts e.1)) (λ (e : List ℕ × ℕ). get_or xs e.1 0) lines (λ e m. sym (get_or-map f ts e.1 no_stay 0 (h.on e.0 e.1 (at e m)).within))
       ∙ table_sum (λ k. (start_of es (stay_at ts k)).line) xs lines distinct
@@ -148,3 +150,21 @@ module _ (who : Option (List ℕ)) (es : List Entry) (now time : ℤ) where
         where
           past_end : (ms : List ℕ) (j : ℕ) → length ms ≤ j → get_or ms j 0 ≡ 0
           past_end ms j le = get_or-eq_default ms 0 le
+
+-- the length so far of the stay that a line leads to, where it counts and is pending
+abbrev pub pending_at : Option (List ℕ) → List Entry → ℤ → ℤ → List TrackedStay → List ℕ × ℕ → ℕ
+pending_at who es now time stays e = pending_length who es now time (stay_at stays e.1)
+
+-- what a read of a line gives past the end
+abbrev pub no_line : List ℕ × ℕ
+no_line = ([], 0)
+
+-- the stay that a line leads to
+pub line_within : (es : List Entry) (n : ℕ) (lines : List (List ℕ × ℕ)) (swept : ℕ) (stays : List TrackedStay) (k i : ℕ) → AreTracked es n lines swept stays → k < length lines
+    → ((e : List ℕ × ℕ) → slice_get lines k ≡ Some e → lookup (bytes_eq e.0) lines ≡ Some i) → i < length stays
+line_within es n lines swept stays k i h lt found = (h.on _ _ (found (get_or lines k no_line) (slice_get-get_or lines k no_line lt))).within
+
+-- its length so far, at the place and the time that were read
+pub pending_read : (who : Option (List ℕ)) (es : List Entry) (now read time : ℤ) (stays : List TrackedStay) (e : List ℕ × ℕ) (i n : ℕ) → n ≡ pending_length who es now read (stay_at stays i) → read ≡ time → i ≡ e.1
+    → n ≡ pending_at who es now time stays e
+pending_read who es now read time stays e i n is times place = is ∙ (λ j. pending_length who es now (times j) (stay_at stays (place j)))

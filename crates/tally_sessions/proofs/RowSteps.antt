@@ -8,7 +8,7 @@ use Rattle.std.specs.Option.{is_some, IsSome}
 use Rattle.std.specs.Ordering.{int_cmp, is_eq, is_gt, nat_cmp, ordering_then}
 use Rattle.std.specs.declared.cmp.Ordering.{Ordering}
 use Rattle.std.specs.declared.cmp.Ordering.TheVariants.{Less, Equal, Greater}
-use Rattle.tally_sessions.specs.declared.day_user_rows.DayUser.{DayUser}
+use Rattle.tally_sessions.specs.declared.connect.day_user_rows.DayUser.{DayUser}
 use Rattle.tally_sessions.specs.declared.times.DayUserTime.{DayUserTime}
 use Rattle.tally_sessions.specs.inside.Changes.{change_of, days_ahead, days_from}
 use Rattle.tally_sessions.specs.Days.{IsDay}

@@ -8,11 +8,12 @@ use Rattle.std.proofs.lemmas.List.Sums.{length-filter, count_by-le-length}
 use Rattle.std.specs.List.{flat_map, range_with_len}
 use Rattle.tally_sessions.specs.declared.entry.Entry.{Entry}
 use Rattle.tally_sessions.specs.declared.entry.Stay.{Stay}
-use Rattle.tally_sessions.specs.declared.ending.TrackedStay.{TrackedStay}
-use Rattle.tally_sessions.specs.declared.sums.Session.{Session}
+use Rattle.tally_sessions.specs.declared.track.ending.TrackedStay.{TrackedStay}
+use Rattle.tally_sessions.specs.declared.connect.sums.Session.{Session}
 use Rattle.tally_sessions.specs.Hosts.{of_host}
-use Rattle.tally_sessions.specs.Sums.{session_of, sessions_among}
+use Rattle.tally_sessions.specs.Sums.{session_of, sessions_among, sessions_of}
 use Rattle.tally_sessions.specs.Totals.{stays_of}
+use Rattle.tally_sessions.proofs.EveryHost.{every_host_is}
 use Rattle.tally_sessions.proofs.StayCounts.{length-stays_from}
 
 sessions_among-append : (xs ys : List Stay) → sessions_among (xs ++ ys) ≡ sessions_among xs ++ sessions_among ys
@@ -55,3 +56,8 @@ hosts_more f n =
     ap (flat_map f) (one_more 0 n)
     ∙ flat_map-append f (range_with_len 0 n) ((0 + n) ∷ [])
     ∙ ap (λ zs. flat_map f (range_with_len 0 n) ++ zs) (append-nil (f (0 + n)) ∙ ap f (let e : 0 + n ≡ n = omega arith in e))
+
+-- after the last host
+pub hosts_all : (n : ℕ) (es es' : List Entry) (until : Option ℤ) → n ≡ 128 → es ≡ es' → flat_map (λ host. sessions_among (stays_of host es until)) (range_with_len 0 n) ≡ sessions_of es' until
+hosts_all n es es' until last same =
+    ap (flat_map (λ host. sessions_among (stays_of host es until))) (every_host_is n last) ∙ ap (λ (xs : List Entry). sessions_of xs until) same

@@ -4,17 +4,20 @@ use Rattle.std.proofs.lemmas.List.{take_all, length-map, at_drop_more, reverse-a
 use Rattle.std.proofs.Math.Seq.{take-length}
 use Rattle.tally_sessions.specs.declared.entry.Entry.{Entry}
 use Rattle.tally_sessions.specs.declared.entry.Stay.{Stay}
-use Rattle.tally_sessions.specs.declared.ending.Ending.{Ending}
-use Rattle.tally_sessions.specs.declared.ending.TrackedStay.{TrackedStay}
+use Rattle.tally_sessions.specs.declared.track.ending.Ending.{Ending}
+use Rattle.tally_sessions.specs.declared.track.ending.TrackedStay.{TrackedStay}
 use Rattle.tally_sessions.specs.declared.track.Track.{Track}
+use Rattle.tally_sessions.specs.declared.connect.sums.Session.{Session}
 use Rattle.tally_sessions.specs.Hosts.{of_host}
 use Rattle.tally_sessions.specs.Stays.{last_time}
+use Rattle.tally_sessions.specs.Sums.{sessions_among}
 use Rattle.tally_sessions.specs.inside.Totals.{seconds_of}
 use Rattle.tally_sessions.specs.Totals.{stays_of}
-use Rattle.tally_sessions.specs.inside.Track.{ended_sum, pending_sum, stay_now, tracked_in, IsTrack}
+use Rattle.tally_sessions.specs.inside.Track.{ended_sum, no_stay, pending_sum, stay_at, stay_now, tracked_in, IsTrack}
 use Rattle.tally_sessions.specs.inside.Tracking.{clock, completed, tracked_from}
 use Rattle.tally_sessions.proofs.Forward.{stays_from-tracked}
 use Rattle.tally_sessions.proofs.PendingSums.{ended_and_pending, seconds_now}
+use Rattle.tally_sessions.proofs.SessionLists.{sessions_more}
 use Rattle.tally_sessions.proofs.StayCounts.{length-stays_from}
 
 stay_now-completed : (host : ℕ) (es : List Entry) (now time : ℤ) (t : TrackedStay) → stay_now host es now time t ≡ completed host now time (tracked_in host es t)
@@ -39,6 +42,19 @@ stays_now host es a until h =
     ∙ ap (λ (z : ℤ). map (completed host z (unwrap_or until a.last)) (tracked_from host [] (of_host host es))) (h.clock ∙ ap clock all)
     ∙ ap (λ (z : ℤ). map (completed host (clock (of_host host es)) (unwrap_or until z)) (tracked_from host [] (of_host host es))) (h.last ∙ ap (last_time (pos 0)) all)
     ∙ sym (stays_from-tracked host [] (of_host host es) until (pos 0))
+
+-- once all stays are gone over, their sessions are those of the host
+pub sessions_now : (host : ℕ) (es : List Entry) (a : Track) (until : Option ℤ) (i : ℕ) → length a.stays.items ≤ i → IsTrack host es (length es) a
+    → sessions_among (map (stay_now host es a.clock (unwrap_or until a.last)) (take i a.stays.items)) ≡ sessions_among (stays_of host es until)
+sessions_now host es a until i all h =
+    ap (λ ts. sessions_among (map (stay_now host es a.clock (unwrap_or until a.last)) ts)) (take_all i a.stays.items all) ∙ ap sessions_among (stays_now host es a until h)
+
+-- one stay more, with its session if it is one
+pub sessions_next : (host : ℕ) (es : List Entry) (now read time : ℤ) (ts : List TrackedStay) (i : ℕ) (ss : List Session) → i < length ts → read ≡ time → sessions_among (stay_now host es now read (stay_at ts i) ∷ []) ≡ ss
+    → sessions_among (map (stay_now host es now time) (take i ts)) ++ ss ≡ sessions_among (map (stay_now host es now time) (take (i + 1) ts))
+sessions_next host es now read time ts i ss lt same one =
+    ap (λ xs. sessions_among (map (stay_now host es now time) (take i ts)) ++ xs) (sym one ∙ ap (λ (z : ℤ). sessions_among (stay_now host es now z (stay_at ts i) ∷ [])) same)
+    ∙ sym (sessions_more (stay_now host es now time) ts i no_stay lt)
 
 -- the sessions are those that have ended and those that are pending
 pub seconds_are : (who : Option (List ℕ)) (host : ℕ) (es : List Entry) (a : Track) (until : Option ℤ) → IsTrack host es (length es) a

@@ -10,15 +10,24 @@ use Rattle.tally_records.specs.declared.login.Event.{Event}
 use Rattle.tally_records.specs.declared.login.Event.TheVariants.{Login, Logout, Boot, Down, OldTime, NewTime, Nothing}
 use Rattle.tally_records.specs.Event.{event_of}
 use Rattle.tally_sessions.specs.declared.entry.Entry.{Entry}
-use Rattle.tally_sessions.specs.declared.ending.Ending.{Ending}
-use Rattle.tally_sessions.specs.declared.ending.TrackedStay.{TrackedStay}
+use Rattle.tally_sessions.specs.declared.track.ending.Ending.{Ending}
+use Rattle.tally_sessions.specs.declared.track.ending.TrackedStay.{TrackedStay}
 use Rattle.tally_sessions.specs.Stays.{ends_event, ends_stay, starts_stay}
-use Rattle.tally_sessions.specs.inside.Track.{stay_at, start_of, ending_of, end_if, behind, ends_line_stay, stay_with, tracked_in, IsTracked, AreTracked}
+use Rattle.tally_sessions.specs.inside.Track.{is_login_event, stay_at, start_of, ending_of, end_if, after, ends_line_stay, stay_with, tracked_in, IsTracked, AreTracked}
 use Rattle.tally_sessions.specs.inside.Tracking.{Tracked, advanced, advance_if, ended_by}
 
+pub is_login_of_event : (e : Event) → is_login_event e ≡ true → e ≡ Login
+is_login_of_event Login h = refl
+is_login_of_event Logout h = absurd (false≢true h)
+is_login_of_event Boot h = absurd (false≢true h)
+is_login_of_event Down h = absurd (false≢true h)
+is_login_of_event OldTime h = absurd (false≢true h)
+is_login_of_event NewTime h = absurd (false≢true h)
+is_login_of_event Nothing h = absurd (false≢true h)
+
 -- what is kept of a stay goes on as the stay does
-pub tracked_in-behind : (host : ℕ) (es : List Entry) (now : ℤ) (x : LoginRecord) (t : TrackedStay) → tracked_in host es (behind es now x t) ≡ advanced host now x (tracked_in host es t)
-tracked_in-behind host es now x t = by t.ended
+pub tracked_in-after : (host : ℕ) (es : List Entry) (now : ℤ) (x : LoginRecord) (t : TrackedStay) → tracked_in host es (after es now x t) ≡ advanced host now x (tracked_in host es t)
+tracked_in-after host es now x t = by t.ended
   where
     kept : Option Ending → Tracked
     kept e = record { start = start_of es t; clock_at = t.clock_at; ended = option_map (stay_with host (start_of es t)) e }
@@ -35,9 +44,9 @@ tracked_in-behind host es now x t = by t.ended
     by None = pending (ends_stay (start_of es t) x)
 
 -- a pending stay that is closed
-pub behind-closes : (es : List Entry) (now : ℤ) (x : LoginRecord) (t : TrackedStay) (at : ℤ) (ending : Ending) → is_some t.ended ≡ false → ends_stay (start_of es t) x ≡ true → at ≡ t.clock_at
-    → ending ≡ ending_of (start_of es t) (now -ℤ t.clock_at) x → record { entry = t.entry; clock_at = at; ended = Some ending } ≡ behind es now x t
-behind-closes es now x t at ending pending ends same is = by t.ended pending
+pub after-closes : (es : List Entry) (now : ℤ) (x : LoginRecord) (t : TrackedStay) (at : ℤ) (ending : Ending) → is_some t.ended ≡ false → ends_stay (start_of es t) x ≡ true → at ≡ t.clock_at
+    → ending ≡ ending_of (start_of es t) (now -ℤ t.clock_at) x → record { entry = t.entry; clock_at = at; ended = Some ending } ≡ after es now x t
+after-closes es now x t at ending pending ends same is = by t.ended pending
   where
     by : (e : Option Ending) → is_some e ≡ false
         → record { entry = t.entry; clock_at = at; ended = Some ending } ≡ record t { ended = option_or e (end_if (ends_stay (start_of es t) x) (ending_of (start_of es t) (now -ℤ t.clock_at) x)) }
@@ -48,8 +57,8 @@ behind-closes es now x t at ending pending ends same is = by t.ended pending
         ∙ ap (λ b. record t { ended = end_if b (ending_of (start_of es t) (now -ℤ t.clock_at) x) }) (sym ends)
 
 -- a stay that has ended
-pub behind-ended : (es : List Entry) (now : ℤ) (x : LoginRecord) (t : TrackedStay) → IsSome t.ended → behind es now x t ≡ t
-behind-ended es now x t h = by t.ended h
+pub after-ended : (es : List Entry) (now : ℤ) (x : LoginRecord) (t : TrackedStay) → IsSome t.ended → after es now x t ≡ t
+after-ended es now x t h = by t.ended h
   where
     other : Option Ending
     other = end_if (ends_stay (start_of es t) x) (ending_of (start_of es t) (now -ℤ t.clock_at) x)
@@ -59,8 +68,8 @@ behind-ended es now x t h = by t.ended h
     by None h = absurd (false≢true h)
 
 -- a record that does not end the stay
-pub behind-none : (es : List Entry) (now : ℤ) (x : LoginRecord) (t : TrackedStay) → ends_stay (start_of es t) x ≡ false → behind es now x t ≡ t
-behind-none es now x t h =
+pub after-none : (es : List Entry) (now : ℤ) (x : LoginRecord) (t : TrackedStay) → ends_stay (start_of es t) x ≡ false → after es now x t ≡ t
+after-none es now x t h =
     ap (λ b. record t { ended = option_or t.ended (end_if b (ending_of (start_of es t) (now -ℤ t.clock_at) x)) }) h ∙ by t.ended
   where
     by : (e : Option Ending) → record t { ended = option_or e None } ≡ record t { ended = e }
@@ -68,40 +77,27 @@ behind-none es now x t h =
     by None = refl
 
 -- a record that ends the stay leaves it ended
-pub behind-ends : (es : List Entry) (now : ℤ) (x : LoginRecord) (t : TrackedStay) → ends_stay (start_of es t) x ≡ true → IsSome (behind es now x t).ended
-behind-ends es now x t h = subst (λ b. IsSome (option_or t.ended (end_if b (ending_of (start_of es t) (now -ℤ t.clock_at) x)))) (sym h) (by t.ended)
+pub after-ends : (es : List Entry) (now : ℤ) (x : LoginRecord) (t : TrackedStay) → ends_stay (start_of es t) x ≡ true → IsSome (after es now x t).ended
+after-ends es now x t h = subst (λ b. IsSome (option_or t.ended (end_if b (ending_of (start_of es t) (now -ℤ t.clock_at) x)))) (sym h) (by t.ended)
   where
     by : (e : Option Ending) → IsSome (option_or e (Some (ending_of (start_of es t) (now -ℤ t.clock_at) x)))
     by (Some e) = refl
     by None = refl
 
 -- where a stay is pending after a record, it was before it, and the record does not end it
-pub behind-pending : (es : List Entry) (now : ℤ) (x : LoginRecord) (t : TrackedStay) → (behind es now x t).ended ≡ None → (t.ended ≡ None) × (ends_stay (start_of es t) x ≡ false)
-behind-pending es now x t h = by t.ended (ends_stay (start_of es t) x) h
+pub after-pending : (es : List Entry) (now : ℤ) (x : LoginRecord) (t : TrackedStay) → (after es now x t).ended ≡ None → (t.ended ≡ None) × (ends_stay (start_of es t) x ≡ false)
+after-pending es now x t h = by t.ended (ends_stay (start_of es t) x) h
   where
     by : (e : Option Ending) (b : Bool) → option_or e (end_if b (ending_of (start_of es t) (now -ℤ t.clock_at) x)) ≡ None → (e ≡ None) × (b ≡ false)
     by (Some e) b h = cc
     by None true h = cc
     by None false h = (refl, refl)
 
--- a record with this event ends no stay, wherever the events say so
-ends_none : (r x : LoginRecord) (e : Event) → event_of x ≡ e → starts_stay (event_of r) ≡ true → ((b : Bool) → ends_event Login e b ≡ false) → ((b : Bool) → ends_event Boot e b ≡ false) → ends_stay r x ≡ false
-ends_none r x e is starts login boot = by (event_of r) starts
+-- a record with this event ends each stay, or none, as the events say
+pub ends_alike : (r x : LoginRecord) (e : Event) (ends : Bool) → event_of x ≡ e → starts_stay (event_of r) ≡ true → ((b : Bool) → ends_event Login e b ≡ ends) → ((b : Bool) → ends_event Boot e b ≡ ends) → ends_stay r x ≡ ends
+ends_alike r x e ends is starts login boot = by (event_of r) starts
   where
-    by : (s : Event) → starts_stay s ≡ true → ends_event s (event_of x) (bytes_eq r.line x.line) ≡ false
-    by Login h = ap (λ y. ends_event Login y (bytes_eq r.line x.line)) is ∙ login (bytes_eq r.line x.line)
-    by Boot h = ap (λ y. ends_event Boot y (bytes_eq r.line x.line)) is ∙ boot (bytes_eq r.line x.line)
-    by Logout h = absurd (false≢true h)
-    by Down h = absurd (false≢true h)
-    by OldTime h = absurd (false≢true h)
-    by NewTime h = absurd (false≢true h)
-    by Nothing h = absurd (false≢true h)
-
--- a boot and a shutdown end every stay
-pub ends_all : (r x : LoginRecord) (e : Event) → event_of x ≡ e → starts_stay (event_of r) ≡ true → ((b : Bool) → ends_event Login e b ≡ true) → ((b : Bool) → ends_event Boot e b ≡ true) → ends_stay r x ≡ true
-ends_all r x e is starts login boot = by (event_of r) starts
-  where
-    by : (s : Event) → starts_stay s ≡ true → ends_event s (event_of x) (bytes_eq r.line x.line) ≡ true
+    by : (s : Event) → starts_stay s ≡ true → ends_event s (event_of x) (bytes_eq r.line x.line) ≡ ends
     by Login h = ap (λ y. ends_event Login y (bytes_eq r.line x.line)) is ∙ login (bytes_eq r.line x.line)
     by Boot h = ap (λ y. ends_event Boot y (bytes_eq r.line x.line)) is ∙ boot (bytes_eq r.line x.line)
     by Logout h = absurd (false≢true h)
@@ -122,12 +118,12 @@ ends_on_line r x e login is on same =
     by s (inr h) = ap (λ t. ends_event Login t true) h
 
 -- a record on a line ends a stay at most where the line leads to it
-pub behind-off_line : (es : List Entry) (n : ℕ) (lines : List (List ℕ × ℕ)) (swept : ℕ) (stays : List TrackedStay) (now : ℤ) (x : LoginRecord) (e : Event) → AreTracked es n lines swept stays
+pub after-off_line : (es : List Entry) (n : ℕ) (lines : List (List ℕ × ℕ)) (swept : ℕ) (stays : List TrackedStay) (now : ℤ) (x : LoginRecord) (e : Event) → AreTracked es n lines swept stays
     → event_of x ≡ e → ((b : Bool) → ends_event Login e b ≡ b) → ((b : Bool) → ends_event Boot e b ≡ false)
-    → (k : ℕ) → k < length stays → lookup (bytes_eq x.line) lines ≢ Some k → behind es now x (stay_at stays k) ≡ stay_at stays k
-behind-off_line es n lines swept stays now x e h is login boot k lt off = by (stay_at stays k) (h.at k lt)
+    → (k : ℕ) → k < length stays → lookup (bytes_eq x.line) lines ≢ Some k → after es now x (stay_at stays k) ≡ stay_at stays k
+after-off_line es n lines swept stays now x e h is login boot k lt off = by (stay_at stays k) (h.at k lt)
   where
-    by : (t : TrackedStay) → IsTracked es n lines swept k t → behind es now x t ≡ t
+    by : (t : TrackedStay) → IsTracked es n lines swept k t → after es now x t ≡ t
     by t at = by_end t.ended refl
       where
         by_start : (s : Event) → event_of (start_of es t) ≡ s → starts_stay s ≡ true → t.ended ≡ None → ends_stay (start_of es t) x ≡ false
@@ -145,24 +141,24 @@ behind-off_line es n lines swept stays now x e h is login boot k lt off = by (st
         by_start NewTime s h pending = absurd (false≢true h)
         by_start Nothing s h pending = absurd (false≢true h)
 
-        by_end : (o : Option Ending) → t.ended ≡ o → behind es now x t ≡ t
-        by_end (Some e) o = behind-ended es now x t (subst IsSome (sym o) refl)
-        by_end None o = behind-none es now x t (by_start (event_of (start_of es t)) refl at.starts o)
+        by_end : (o : Option Ending) → t.ended ≡ o → after es now x t ≡ t
+        by_end (Some e) o = after-ended es now x t (subst IsSome (sym o) refl)
+        by_end None o = after-none es now x t (by_start (event_of (start_of es t)) refl at.starts o)
 
 -- any other record ends nothing
-pub behind-nothing : (es : List Entry) (n : ℕ) (lines : List (List ℕ × ℕ)) (swept : ℕ) (stays : List TrackedStay) (now : ℤ) (x : LoginRecord) → AreTracked es n lines swept stays
+pub after-nothing : (es : List Entry) (n : ℕ) (lines : List (List ℕ × ℕ)) (swept : ℕ) (stays : List TrackedStay) (now : ℤ) (x : LoginRecord) → AreTracked es n lines swept stays
     → event_of x ≢ Login → event_of x ≢ Logout → event_of x ≢ Boot → event_of x ≢ Down
-    → (k : ℕ) → k < length stays → behind es now x (stay_at stays k) ≡ stay_at stays k
-behind-nothing es n lines swept stays now x h login logout boot down k lt = behind-none es now x (stay_at stays k) (by (event_of x) refl)
+    → (k : ℕ) → k < length stays → after es now x (stay_at stays k) ≡ stay_at stays k
+after-nothing es n lines swept stays now x h login logout boot down k lt = after-none es now x (stay_at stays k) (by (event_of x) refl)
   where
     by : (e : Event) → event_of x ≡ e → ends_stay (start_of es (stay_at stays k)) x ≡ false
     by Login e = absurd (login e)
     by Logout e = absurd (logout e)
     by Boot e = absurd (boot e)
     by Down e = absurd (down e)
-    by OldTime e = ends_none (start_of es (stay_at stays k)) x OldTime e (h.at k lt).starts (λ b. refl) (λ b. refl)
-    by NewTime e = ends_none (start_of es (stay_at stays k)) x NewTime e (h.at k lt).starts (λ b. refl) (λ b. refl)
-    by Nothing e = ends_none (start_of es (stay_at stays k)) x Nothing e (h.at k lt).starts (λ b. refl) (λ b. refl)
+    by OldTime e = ends_alike (start_of es (stay_at stays k)) x OldTime false e (h.at k lt).starts (λ b. refl) (λ b. refl)
+    by NewTime e = ends_alike (start_of es (stay_at stays k)) x NewTime false e (h.at k lt).starts (λ b. refl) (λ b. refl)
+    by Nothing e = ends_alike (start_of es (stay_at stays k)) x Nothing false e (h.at k lt).starts (λ b. refl) (λ b. refl)
 
 pub some_inj : (m n : ℕ) → Some m ≡ Some n → m ≡ n
 some_inj m n e = cc
@@ -171,15 +167,15 @@ pub some≢none : (m : ℕ) → Some m ≢ None
 some≢none m e = cc
 
 -- the same for a login and a logout
-pub behind-line_event : (es : List Entry) (n : ℕ) (lines : List (List ℕ × ℕ)) (swept : ℕ) (stays : List TrackedStay) (now : ℤ) (x : LoginRecord) (e : Event) → AreTracked es n lines swept stays
+pub after-line_event : (es : List Entry) (n : ℕ) (lines : List (List ℕ × ℕ)) (swept : ℕ) (stays : List TrackedStay) (now : ℤ) (x : LoginRecord) (e : Event) → AreTracked es n lines swept stays
     → event_of x ≡ e → (e ≡ Login) ⊎ (e ≡ Logout)
-    → (k : ℕ) → k < length stays → lookup (bytes_eq x.line) lines ≢ Some k → behind es now x (stay_at stays k) ≡ stay_at stays k
-behind-line_event es n lines swept stays now x e h is (inl login) k lt off = behind-off_line es n lines swept stays now x Login h (is ∙ login) (λ b. refl) (λ b. refl) k lt off
-behind-line_event es n lines swept stays now x e h is (inr logout) k lt off = behind-off_line es n lines swept stays now x Logout h (is ∙ logout) (λ b. refl) (λ b. refl) k lt off
+    → (k : ℕ) → k < length stays → lookup (bytes_eq x.line) lines ≢ Some k → after es now x (stay_at stays k) ≡ stay_at stays k
+after-line_event es n lines swept stays now x e h is (inl login) k lt off = after-off_line es n lines swept stays now x Login h (is ∙ login) (λ b. refl) (λ b. refl) k lt off
+after-line_event es n lines swept stays now x e h is (inr logout) k lt off = after-off_line es n lines swept stays now x Logout h (is ∙ logout) (λ b. refl) (λ b. refl) k lt off
 
 -- what has ended stays so
-pub behind-keeps : (es : List Entry) (now : ℤ) (x : LoginRecord) (t : TrackedStay) (e : Ending) → t.ended ≡ Some e → (behind es now x t).ended ≡ Some e
-behind-keeps es now x t e h = ap (λ o. option_or o (end_if (ends_stay (start_of es t) x) (ending_of (start_of es t) (now -ℤ t.clock_at) x))) h
+pub after-keeps : (es : List Entry) (now : ℤ) (x : LoginRecord) (t : TrackedStay) (e : Ending) → t.ended ≡ Some e → (after es now x t).ended ≡ Some e
+after-keeps es now x t e h = ap (λ o. option_or o (end_if (ends_stay (start_of es t) x) (ending_of (start_of es t) (now -ℤ t.clock_at) x))) h
 
 -- which events end the login on their line
 pub line_event : (e : Event) → ends_line_stay e ≡ true → (e ≡ Login) ⊎ (e ≡ Logout)

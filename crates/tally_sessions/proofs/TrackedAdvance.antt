@@ -12,11 +12,11 @@ use Rattle.tally_records.specs.declared.login.Event.{Event}
 use Rattle.tally_records.specs.declared.login.Event.TheVariants.{Login, Logout, Boot, Down, OldTime, NewTime, Nothing}
 use Rattle.tally_records.specs.Event.{event_of}
 use Rattle.tally_sessions.specs.declared.entry.Entry.{Entry}
-use Rattle.tally_sessions.specs.declared.ending.TrackedStay.{TrackedStay}
+use Rattle.tally_sessions.specs.declared.track.ending.TrackedStay.{TrackedStay}
 use Rattle.tally_sessions.specs.inside.Entries.{entry_at}
 use Rattle.tally_sessions.specs.Stays.{ends_event, ends_stay, starts_stay}
-use Rattle.tally_sessions.specs.inside.Track.{is_login_event, no_stay, stay_at, start_of, behind, IsWithin, IsTracked, IsOnLine, AreTracked, started, LeadsTo}
-use Rattle.tally_sessions.proofs.TrackSteps.{behind-ended, behind-ends, behind-pending, some_inj}
+use Rattle.tally_sessions.specs.inside.Track.{is_login_event, no_stay, stay_at, start_of, after, IsWithin, IsTracked, IsOnLine, AreTracked, started, LeadsTo}
+use Rattle.tally_sessions.proofs.TrackSteps.{after-ended, after-ends, after-pending, is_login_of_event, some_inj}
 
 pub IsWithin-more : (n : ℕ) (z : ℤ) → IsWithin n z → IsWithin (n + 1) z
 IsWithin-more n z h = let a = h.low in let b = h.high in record { low = omega (arith, ints); high = omega (arith, ints) }
@@ -49,13 +49,13 @@ module _ (es : List Entry) (n : ℕ) (lines lines' : List (List ℕ × ℕ)) (sw
   abbrev x : LoginRecord
   x = (entry_at es n).item
 
-  abbrev after : List TrackedStay
-  after = map (behind es now x) stays ++ started es n now
+  abbrev later : List TrackedStay
+  later = map (after es now x) stays ++ started es n now
 
-  stay_before : (k : ℕ) → k < length stays → stay_at after k ≡ behind es now x (stay_at stays k)
+  stay_before : (k : ℕ) → k < length stays → stay_at later k ≡ after es now x (stay_at stays k)
   stay_before k lt =
-      get_or_append_left (map (behind es now x) stays) (started es n now) no_stay k (omega (arith, length-map stays (behind es now x)))
-      ∙ get_or-map (behind es now x) stays k no_stay no_stay lt
+      get_or_append_left (map (after es now x) stays) (started es n now) no_stay k (omega (arith, length-map stays (after es now x)))
+      ∙ get_or-map (after es now x) stays k no_stay no_stay lt
 
   abbrev new : TrackedStay
   new = record { entry = n; clock_at = now; ended = None }
@@ -63,16 +63,16 @@ module _ (es : List Entry) (n : ℕ) (lines lines' : List (List ℕ × ℕ)) (sw
   started_is : (b : Bool) → starts_stay (event_of x) ≡ b → started es n now ≡ cond b (new ∷ []) []
   started_is b h = ap (λ t. cond t (new ∷ []) []) h
 
-  stay_new : starts_stay (event_of x) ≡ true → stay_at after (length stays) ≡ new
+  stay_new : starts_stay (event_of x) ≡ true → stay_at later (length stays) ≡ new
   stay_new h =
-      ap (λ ss. get_or (map (behind es now x) stays ++ ss) (length stays) no_stay) (started_is true h)
-      ∙ ap (λ k. get_or (map (behind es now x) stays ++ new ∷ []) k no_stay) (sym (length-map stays (behind es now x)))
-      ∙ get_or-append_seam (map (behind es now x) stays) new [] no_stay
+      ap (λ ss. get_or (map (after es now x) stays ++ ss) (length stays) no_stay) (started_is true h)
+      ∙ ap (λ k. get_or (map (after es now x) stays ++ new ∷ []) k no_stay) (sym (length-map stays (after es now x)))
+      ∙ get_or-append_seam (map (after es now x) stays) new [] no_stay
 
-  length_after : (b : Bool) → starts_stay (event_of x) ≡ b → length after ≡ length stays + length (cond b (new ∷ []) [])
+  length_after : (b : Bool) → starts_stay (event_of x) ≡ b → length later ≡ length stays + length (cond b (new ∷ []) [])
   length_after b h =
-      length-append (map (behind es now x) stays) (started es n now)
-      ∙ ap (λ k. k + length (started es n now)) (length-map stays (behind es now x))
+      length-append (map (after es now x) stays) (started es n now)
+      ∙ ap (λ k. k + length (started es n now)) (length-map stays (after es now x))
       ∙ ap (λ ss. length stays + length ss) (started_is b h)
 
   login_starts : is_login_event (event_of x) ≡ true → starts_stay (event_of x) ≡ true
@@ -87,15 +87,6 @@ module _ (es : List Entry) (n : ℕ) (lines lines' : List (List ℕ × ℕ)) (sw
       by NewTime h = absurd (false≢true h)
       by Nothing h = absurd (false≢true h)
 
-  is_login : (e : Event) → is_login_event e ≡ true → e ≡ Login
-  is_login Login h = refl
-  is_login Logout h = absurd (false≢true h)
-  is_login Boot h = absurd (false≢true h)
-  is_login Down h = absurd (false≢true h)
-  is_login OldTime h = absurd (false≢true h)
-  is_login NewTime h = absurd (false≢true h)
-  is_login Nothing h = absurd (false≢true h)
-
   both : (a b : Bool) → (a && b) ≡ true → (a ≡ true) × (b ≡ true)
   both true b h = (refl, h)
   both false b h = absurd (false≢true h)
@@ -104,10 +95,10 @@ module _ (es : List Entry) (n : ℕ) (lines lines' : List (List ℕ × ℕ)) (sw
   abbrev pub Sweeps : Type 0
   Sweeps = (swept' ≡ swept) ⊎ ((t : TrackedStay) → starts_stay (event_of (start_of es t)) ≡ true → ends_stay (start_of es t) x ≡ true)
 
-  pub AreTracked-advance : AreTracked es n lines swept stays → IsWithin (n + 1) now → Sweeps → swept' ≤ length stays → LeadsTo lines lines' x (length stays) → AreTracked es (n + 1) lines' swept' after
+  pub AreTracked-advance : AreTracked es n lines swept stays → IsWithin (n + 1) now → Sweeps → swept' ≤ length stays → LeadsTo lines lines' x (length stays) → AreTracked es (n + 1) lines' swept' later
   AreTracked-advance h within sweeps swept_in leads = record { at = at; on = on }
     where
-      old_at : (k : ℕ) → k < length stays → IsTracked es (n + 1) lines' swept' k (behind es now x (stay_at stays k))
+      old_at : (k : ℕ) → k < length stays → IsTracked es (n + 1) lines' swept' k (after es now x (stay_at stays k))
       old_at k lt =
           let t = stay_at stays k in
           let old = h.at k lt in record {
@@ -116,15 +107,15 @@ module _ (es : List Entry) (n : ℕ) (lines lines' : List (List ℕ × ℕ)) (sw
             moved = IsWithin-more n t.clock_at old.moved;
             ended = λ below. by_sweep sweeps below;
             found = λ none login.
-                let was = behind-pending es now x t none in
+                let was = after-pending es now x t none in
                 leads (start_of es t).line
                 ∙ ap (λ b. cond b (Some (length stays)) (lookup (bytes_eq (start_of es t).line) lines)) (off_line (start_of es t) x login was.1)
                 ∙ old.found was.0 login;
           }
         where
-          by_sweep : Sweeps → k < swept' → IsSome (behind es now x (stay_at stays k)).ended
-          by_sweep (inl same) below = subst (λ (t : TrackedStay). IsSome t.ended) (sym (behind-ended es now x (stay_at stays k) ((h.at k lt).ended (omega arith)))) ((h.at k lt).ended (omega arith))
-          by_sweep (inr all) below = behind-ends es now x (stay_at stays k) (all (stay_at stays k) (h.at k lt).starts)
+          by_sweep : Sweeps → k < swept' → IsSome (after es now x (stay_at stays k)).ended
+          by_sweep (inl same) below = subst (λ (t : TrackedStay). IsSome t.ended) (sym (after-ended es now x (stay_at stays k) ((h.at k lt).ended (omega arith)))) ((h.at k lt).ended (omega arith))
+          by_sweep (inr all) below = after-ends es now x (stay_at stays k) (all (stay_at stays k) (h.at k lt).starts)
 
       new_at : (k : ℕ) → k ≡ length stays → starts_stay (event_of x) ≡ true → IsTracked es (n + 1) lines' swept' k new
       new_at k e starts = record {
@@ -139,51 +130,51 @@ module _ (es : List Entry) (n : ℕ) (lines lines' : List (List ℕ × ℕ)) (sw
             ∙ ap Some (sym e);
       }
 
-      by_start : (k : ℕ) → k < length after → k ≢ length stays → k < length stays
+      by_start : (k : ℕ) → k < length later → k ≢ length stays → k < length stays
       by_start k lt other = by (starts_stay (event_of x)) refl
         where
           by : (b : Bool) → starts_stay (event_of x) ≡ b → k < length stays
           by true e = let l = length_after true e in omega arith
           by false e = let l = length_after false e in omega arith
 
-      starts_if : (k : ℕ) → k < length after → k ≡ length stays → starts_stay (event_of x) ≡ true
+      starts_if : (k : ℕ) → k < length later → k ≡ length stays → starts_stay (event_of x) ≡ true
       starts_if k lt e = by (starts_stay (event_of x)) refl
         where
           by : (b : Bool) → starts_stay (event_of x) ≡ b → starts_stay (event_of x) ≡ true
           by true e' = e'
           by false e' = let l = length_after false e' in absurd (let bad : k < k = omega arith in omega arith)
 
-      at : (k : ℕ) → k < length after → IsTracked es (n + 1) lines' swept' k (stay_at after k)
+      at : (k : ℕ) → k < length later → IsTracked es (n + 1) lines' swept' k (stay_at later k)
       at k lt = by (cases_eq k (length stays))
         where
-          by : (k ≡ length stays) ⊎ (k ≢ length stays) → IsTracked es (n + 1) lines' swept' k (stay_at after k)
+          by : (k ≡ length stays) ⊎ (k ≢ length stays) → IsTracked es (n + 1) lines' swept' k (stay_at later k)
           by (inl e) =
               let starts = starts_if k lt e in
-              subst (IsTracked es (n + 1) lines' swept' k) (sym (ap (stay_at after) e ∙ stay_new starts)) (new_at k e starts)
+              subst (IsTracked es (n + 1) lines' swept' k) (sym (ap (stay_at later) e ∙ stay_new starts)) (new_at k e starts)
           by (inr other) =
               let lt' = by_start k lt other in
               subst (IsTracked es (n + 1) lines' swept' k) (sym (stay_before k lt')) (old_at k lt')
 
-      on : (line : List ℕ) (i : ℕ) → lookup (bytes_eq line) lines' ≡ Some i → IsOnLine es after line i
+      on : (line : List ℕ) (i : ℕ) → lookup (bytes_eq line) lines' ≡ Some i → IsOnLine es later line i
       on line i found = by (is_login_event (event_of x) && bytes_eq x.line line) refl
         where
-          by : (b : Bool) → (is_login_event (event_of x) && bytes_eq x.line line) ≡ b → IsOnLine es after line i
+          by : (b : Bool) → (is_login_event (event_of x) && bytes_eq x.line line) ≡ b → IsOnLine es later line i
           by true e =
               let login = (both (is_login_event (event_of x)) (bytes_eq x.line line) e).0 in
               let same = (bytes_eq-Decides x.line line).0 (both (is_login_event (event_of x)) (bytes_eq x.line line) e).1 in
               let starts = login_starts login in
               let place : length stays ≡ i = some_inj (length stays) i (sym (leads line ∙ ap (λ b. cond b (Some (length stays)) (lookup (bytes_eq line) lines)) e) ∙ found) in
               let long = length_after true starts in
-              let there : stay_at after i ≡ new = ap (stay_at after) (sym place) ∙ stay_new starts in record {
+              let there : stay_at later i ≡ new = ap (stay_at later) (sym place) ∙ stay_new starts in record {
                 within = omega arith;
-                login = ap (λ (t : TrackedStay). event_of (start_of es t)) there ∙ is_login (event_of x) login;
+                login = ap (λ (t : TrackedStay). event_of (start_of es t)) there ∙ is_login_of_event (event_of x) login;
                 same = ap (λ (t : TrackedStay). (start_of es t).line) there ∙ same;
               }
           by false e =
               let old = h.on line i (sym (leads line ∙ ap (λ b. cond b (Some (length stays)) (lookup (bytes_eq line) lines)) e) ∙ found) in
               let lt = old.within in
               let there = stay_before i lt in record {
-                within = let l = length-append (map (behind es now x) stays) (started es n now) in let m = length-map stays (behind es now x) in omega arith;
+                within = let l = length-append (map (after es now x) stays) (started es n now) in let m = length-map stays (after es now x) in omega arith;
                 login = ap (λ (t : TrackedStay). event_of (start_of es t)) there ∙ old.login;
                 same = ap (λ (t : TrackedStay). (start_of es t).line) there ∙ old.same;
               }

@@ -5,8 +5,8 @@ use Rattle.std.proofs.lemmas.Int.{ints}
 use Rattle.std.proofs.lemmas.List.Elements.{filter-append}
 use Rattle.std.proofs.lemmas.List.Sums.{sum_by-append}
 use Rattle.std.specs.Prelude.{bytes_eq}
-use Rattle.tally_sessions.specs.declared.day_user_rows.DayUser.{DayUser}
-use Rattle.tally_sessions.specs.declared.sums.Session.{Session}
+use Rattle.tally_sessions.specs.declared.connect.day_user_rows.DayUser.{DayUser}
+use Rattle.tally_sessions.specs.declared.connect.sums.Session.{Session}
 use Rattle.tally_sessions.specs.inside.Changes.{change_of, change_of_day_user, change_on}
 use Rattle.tally_sessions.specs.Days.{IsDay, seconds_on}
 use Rattle.tally_sessions.specs.Sums.{seconds_of_day, seconds_of_day_user}

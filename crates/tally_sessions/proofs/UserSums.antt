@@ -1,5 +1,5 @@
 -- The seconds of one user among the sums of all, and among the pending sessions of all.
-use Rattle.std.proofs.Common.{◌≡◌, ℕ, ◌+◌, ◌<◌, ◌&&◌, Bool, true, false, cond, not, is_some, List, [], ◌∷◌, length, get_or, take, Option, Some, None, unwrap_or, ℤ, ◌-ℤ◌, refl, sym, ap, subst, ◌∙◌, arith}
+use Rattle.std.proofs.Common.{◌≡◌, ℕ, ◌+◌, ◌<◌, ◌&&◌, Bool, true, false, cond, not, is_some, List, [], ◌∷◌, length, get_or, take, Some, None, unwrap_or, ℤ, ◌-ℤ◌, refl, sym, ap, subst, ◌∙◌, arith}
 use Rattle.std.proofs.lemmas.Bool.{false≢true}
 use Rattle.std.proofs.lemmas.List.Sums.{sum_by-cons, sum_by_more}
 use Rattle.std.proofs.lemmas.Map.Text.{is_eq-slice_cmp}
@@ -11,8 +11,9 @@ use Rattle.std.specs.Ordering.{is_eq, nat_cmp}
 use Rattle.std.specs.Prelude.{bytes_eq, sum_by}
 use Rattle.tally_records.specs.Event.{event_of}
 use Rattle.tally_sessions.specs.declared.entry.Entry.{Entry}
-use Rattle.tally_sessions.specs.declared.ending.TrackedStay.{TrackedStay}
+use Rattle.tally_sessions.specs.declared.track.ending.TrackedStay.{TrackedStay}
 use Rattle.tally_sessions.specs.inside.Track.{is_login_event, pending_length, start_of, stay_at, still_of}
+use Rattle.tally_sessions.proofs.PendingSums.{pending_at}
 
 -- the number of an entry, where its name is this one
 abbrev pub part_of : List ℕ → List ℕ × ℕ → ℕ
@@ -65,10 +66,6 @@ part_added old new base n name user es i d lt at so_far is =
 -- the number of a name is part of its own sum
 pub own_part : (name : List ℕ) (n : ℕ) → part_of name (name, n) ≡ n
 own_part name n = ap (λ b. cond b n 0) ((bytes_eq-Decides name name).1 refl)
-
--- the length so far of the stay that a line leads to, where it counts and is pending
-abbrev pub pending_at : Option (List ℕ) → List Entry → ℤ → ℤ → List TrackedStay → List ℕ × ℕ → ℕ
-pending_at who es now time stays e = pending_length who es now time (stay_at stays e.1)
 
 -- a pending session counts for its user alone
 pub pending_of_user : (user : List ℕ) (es : List Entry) (now time : ℤ) (t : TrackedStay) → pending_length (Some user) es now time t ≡ cond (bytes_eq (start_of es t).user user) (pending_length None es now time t) 0

@@ -3,7 +3,7 @@ use Rattle.std.specs.Prelude.{◌≡◌, ◌<◌, ℕ, ℤ, All, Contains, List,
 use Rattle.tally_sessions.specs.declared.entry.Entry.{Entry}
 use Rattle.tally_sessions.specs.declared.entry.Stay.{Stay}
 use Rattle.tally_sessions.specs.Days.{days_between, seconds_on}
-use Rattle.tally_sessions.specs.declared.day_user_rows.DayUser.{DayUser}
+use Rattle.tally_sessions.specs.declared.connect.day_user_rows.DayUser.{DayUser}
 use Rattle.tally_sessions.specs.Rows.{day_time, day_times, day_user_time, day_user_times, user_time, user_times}
 use Rattle.tally_sessions.specs.Sums.{seconds_of_day, seconds_of_day_user, sessions_of}
 use Rattle.tally_sessions.specs.Totals.{connect_of, stays_of}

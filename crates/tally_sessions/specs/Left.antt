@@ -1,7 +1,7 @@
 -- Entries that are left to go over.
 use Rattle.std.specs.Prelude.{List, drop}
 use Rattle.tally_sessions.specs.declared.entry.Entry.{Entry}
-use Rattle.tally_sessions.specs.declared.entry_iter.EntryIter.{EntryIter}
+use Rattle.tally_sessions.specs.declared.entries.iter.EntryIter.{EntryIter}
 use Rattle.tally_sessions.specs.Lent.{entries_in}
 
 -- those from the next on

@@ -3,13 +3,13 @@ use Rattle.std.specs.Prelude.{ℕ, ℤ, List, Option, map, filter, sum_by, bytes
 use Rattle.std.specs.List.{flat_map}
 use Rattle.tally_sessions.specs.declared.entry.Entry.{Entry}
 use Rattle.tally_sessions.specs.declared.entry.Stay.{Stay}
-use Rattle.tally_sessions.specs.declared.sums.Session.{Session}
+use Rattle.tally_sessions.specs.declared.connect.sums.Session.{Session}
 use Rattle.tally_sessions.specs.Days.{seconds_on}
 use Rattle.tally_sessions.specs.Totals.{every_host, stays_of}
 
 -- what is counted of a login's stay
 abbrev pub session_of : Stay → Session
-session_of s = record { user = s.user; begin = s.begin; end_time = s.end_time; length = s.length }
+session_of s = record { user = s.user; begin = s.begin; end_time = s.end_time }
 
 -- the sessions among stays
 abbrev pub sessions_among : List Stay → List Session

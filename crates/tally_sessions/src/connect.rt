@@ -4,9 +4,14 @@ ghost use Rattle.std.specs.BTreeMap.{IsOrdered};
 ghost use Rattle.std.specs.Cmp.Lexicographic.{slice_cmp};
 ghost use Rattle.std.specs.Ordering.{int_cmp, nat_cmp};
 ghost use Rattle.tally_sessions.specs.Days.{IsDay, IsOffset};
-ghost use Rattle.tally_sessions.specs.inside.Sums.{above_zero, day_time_of, day_user_time_of, user_time_of, day_user_cmp, sum_at};
+ghost use Rattle.tally_sessions.specs.inside.Sums.{above_zero, day_time_of, user_time_of, sum_at};
 ghost use Rattle.tally_sessions.specs.Rows.{day_times, day_user_times, user_times};
 ghost use Rattle.tally_sessions.specs.Totals.{connect_of};
+
+mod day_sums;
+mod day_user_rows;
+pub(crate) mod sums;
+mod user_sums;
 
 use crate::sessions::{HOST_LIMIT, Sessions};
 use crate::times::{DayTime, DayUserTime, UserTime};

@@ -4,8 +4,11 @@ ghost use Rattle.tally_records.specs.Event.{event_of};
 ghost use Rattle.tally_sessions.specs.inside.Entries.{entry_at};
 ghost use Rattle.tally_sessions.specs.Lent.{entries_in};
 
+pub(crate) mod iter;
+pub(crate) mod list;
+
+use crate::entries::list::EntryList;
 use crate::entry::Entry;
-use crate::entry_list::EntryList;
 use tally_records::{Event, Key, LoginRecord, Name};
 
 /// The first of some stored entries, lent.

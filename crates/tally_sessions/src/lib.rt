@@ -1,42 +1,29 @@
 //! Sessions of login records: what ends each, how long it was, and what clock changes move.
+//!
+//! `entries` keeps the records: `list` stores them, `iter` goes over them. `track` goes forward over those of one
+//! host: `rules` says what a record means, `ending` ends stays, `ended` sums those that have ended, `name_table`
+//! finds lines and users, `questions` answers. `connect` has the rows of connect time: `sums` and `user_sums` by
+//! user, `day_sums` by day, `day_user_rows` by both. `sessions` holds the tracks of all hosts, an `entry` and a
+//! stay are plain values, `times` are rows, `days` and `laws` state laws.
 #![tactic(auto)]
 
-mod answers;
 mod connect;
-mod day_sums;
-mod day_user_rows;
 mod days;
-mod ended;
-mod ending;
 mod entries;
 mod entry;
-mod entry_iter;
-mod entry_list;
 mod laws;
-mod name_table;
-mod rules;
 mod sessions;
-mod sums;
 mod times;
 mod track;
-mod user_sums;
 
 pub use crate::days::{days_add_up, days_hold_their_times};
 pub use crate::entries::Entries;
+pub use crate::entries::iter::EntryIter;
+pub use crate::entries::list::EntryList;
 pub use crate::entry::{End, Entry, Stay};
-pub use crate::entry_iter::EntryIter;
-pub use crate::entry_list::EntryList;
 pub use crate::laws::times_have_rows;
 pub use crate::sessions::{ENTRY_LIMIT, HOST_LIMIT, Sessions};
 pub use crate::times::{DayTime, DayUserTime, UserTime};
 
 #[cfg(test)]
-mod lists;
-#[cfg(test)]
-mod scan;
-#[cfg(test)]
-mod scripts;
-#[cfg(test)]
 mod tests;
-#[cfg(test)]
-mod until_tests;

@@ -1,18 +1,13 @@
 -- Tables of sums, and the rows that they give.
-use Rattle.std.specs.Prelude.{ℕ, ℤ, Bool, List, filter, sum_by, bytes_eq, nat_lt, unwrap_or}
+use Rattle.std.specs.Prelude.{ℕ, ℤ, Bool, List, nat_lt, unwrap_or}
 use Rattle.std.specs.Map.{lookup}
 use Rattle.std.specs.Cmp.Lexicographic.{slice_cmp}
 use Rattle.std.specs.Ordering.{int_cmp, is_eq, nat_cmp, ordering_then}
 use Rattle.std.specs.declared.cmp.Ordering.{Ordering}
-use Rattle.tally_sessions.specs.declared.day_user_rows.DayUser.{DayUser}
-use Rattle.tally_sessions.specs.declared.sums.Session.{Session}
+use Rattle.tally_sessions.specs.declared.connect.day_user_rows.DayUser.{DayUser}
 use Rattle.tally_sessions.specs.declared.times.DayTime.{DayTime}
 use Rattle.tally_sessions.specs.declared.times.DayUserTime.{DayUserTime}
 use Rattle.tally_sessions.specs.declared.times.UserTime.{UserTime}
-
--- the lengths of a user's sessions
-abbrev pub seconds_of_user : List ℕ → List Session → ℕ
-seconds_of_user user sessions = sum_by (λ s. s.length) (filter (λ s. bytes_eq s.user user) sessions)
 
 -- the order of users on days: by the day, and then by the name's bytes
 abbrev pub day_user_cmp : DayUser → DayUser → Ordering

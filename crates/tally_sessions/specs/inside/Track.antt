@@ -6,12 +6,12 @@ use Rattle.tally_records.specs.declared.login.LoginRecord.{LoginRecord}
 use Rattle.tally_records.specs.declared.login.Event.{Event}
 use Rattle.tally_records.specs.declared.login.Event.TheVariants.{Login, Logout, Boot, Down}
 use Rattle.tally_records.specs.Event.{event_of}
-use Rattle.tally_sessions.specs.declared.ended.EndedSums.{EndedSums}
+use Rattle.tally_sessions.specs.declared.track.ended.EndedSums.{EndedSums}
 use Rattle.tally_sessions.specs.declared.entry.Entry.{Entry}
 use Rattle.tally_sessions.specs.declared.entry.Stay.{Stay}
 use Rattle.tally_sessions.specs.declared.entry.End.TheVariants as ends
-use Rattle.tally_sessions.specs.declared.ending.Ending.{Ending}
-use Rattle.tally_sessions.specs.declared.ending.TrackedStay.{TrackedStay}
+use Rattle.tally_sessions.specs.declared.track.ending.Ending.{Ending}
+use Rattle.tally_sessions.specs.declared.track.ending.TrackedStay.{TrackedStay}
 use Rattle.tally_sessions.specs.declared.track.Track.{Track}
 use Rattle.tally_sessions.specs.Clock.{pending_old_time}
 use Rattle.tally_sessions.specs.Hosts.{of_host}
@@ -49,8 +49,8 @@ abbrev pub end_if : Bool → Ending → Option Ending
 end_if ends ending = if ends then Some ending else None
 
 -- a tracked stay, after one record more
-abbrev pub behind : List Entry → ℤ → LoginRecord → TrackedStay → TrackedStay
-behind es now by t = record t { ended = option_or t.ended (end_if (ends_stay (start_of es t) by) (ending_of (start_of es t) (now -ℤ t.clock_at) by)) }
+abbrev pub after : List Entry → ℤ → LoginRecord → TrackedStay → TrackedStay
+after es now by t = record t { ended = option_or t.ended (end_if (ends_stay (start_of es t) by) (ending_of (start_of es t) (now -ℤ t.clock_at) by)) }
 
 -- whether an event is a login
 abbrev pub is_login_event : Event → Bool

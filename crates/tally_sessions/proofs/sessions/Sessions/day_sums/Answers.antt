@@ -1,15 +1,15 @@
-use Rattle.std.proofs.Common.{◌≡◌, ◌∙◌, ◌+◌, ◌≤◌, ◌<◌, ◌^◌, ℕ, ℤ, List, Bool, true, false, cond, pos, ◌+ℤ◌, ◌-ℤ◌, FitsSigned, length, refl, sym, ap, subst, arith, rules, to_z, of_z, w32, w64}
+use Rattle.std.proofs.Common.{◌≡◌, ◌∙◌, ◌+◌, ◌≤◌, ◌<◌, ◌^◌, ℕ, ℤ, List, Bool, true, false, cond, pos, ◌+ℤ◌, ◌-ℤ◌, FitsSigned, length, sym, ap, subst, arith, rules, to_z, of_z, w32, w64}
 use Rattle.std.proofs.lemmas.Int.{ints, to_z-of_z}
 use Rattle.std.specs.Ordering.{int_cmp, is_eq}
 use Rattle.std.specs.Prelude.{int_lt, unsigned_abs}
-use Rattle.tally_sessions.specs.declared.sums.Session.{Session}
+use Rattle.tally_sessions.specs.declared.connect.sums.Session.{Session}
 use Rattle.tally_sessions.specs.inside.Changes.{change_at, change_of_day, day_at}
 use Rattle.tally_sessions.specs.Days.{IsDay}
 use Rattle.tally_sessions.specs.Sums.{seconds_of_day, sessions_of}
 use Rattle.tally_sessions.specs.inside.Sums.{sum_at}
 use Rattle.tally_sessions.proofs.DayChanges.{none_earlier, none_later, seconds_of_day-le}
 use Rattle.tally_sessions.proofs.DaysLemmas.{above}
-use Rattle.tally_sessions.proofs.DayWalk.{IsWalked, walk_end, walk_start, walk_step}
+use Rattle.tally_sessions.proofs.Walked.{IsWalked, walk_end, walk_start, walk_step}
 use Rattle.tally_sessions.proofs.sessions.Sessions.day_sums.Goals as goal
 use Rattle.tally_sessions.proofs.sessions.Sessions.day_sums.Goals.{then-seconds-gt0+in_ok-add, else-seconds-gt0}
 
@@ -27,6 +27,19 @@ sum_in_range seconds change a b is is' few few' = omega (arith, ints)
 
 sum_is : (seconds change : ℤ) (a b : ℕ) → seconds ≡ pos a → change ≡ pos b -ℤ pos a → a ≤ 2 ^ 40 → b ≤ 2 ^ 40 → kept (seconds +ℤ kept change) ≡ pos b
 sum_is seconds change a b is is' few few' = omega (arith, ints)
+
+-- the sum so far and the change of a place make the seconds of its day, which fit
+sum_here : (offset : ℤ) (place : ℕ) (ss : List Session) (seconds : ℤ) (items table : List ℤ) → length ss ≤ 1048576 → seconds ≡ pos (seconds_of_day offset (day_at place -ℤ pos 1) ss)
+    → items ≡ table → change_at table place ≡ change_of_day offset (day_at place) ss
+    → FitsSigned w64 (seconds +ℤ kept (change_at items place)) × (kept (seconds +ℤ kept (change_at items place)) ≡ pos (seconds_of_day offset (day_at place) ss))
+sum_here offset place ss seconds items table few is same at =
+    let change : change_at items place ≡ change_of_day offset (day_at place) ss = ap (λ t. change_at t place) same ∙ at in
+    let day_before = few_seconds offset (day_at place -ℤ pos 1) ss few in
+    let day = few_seconds offset (day_at place) ss few in
+    (sum_in_range seconds _ _ _ is change day_before day, sum_is seconds _ _ _ is change day_before day)
+
+add_none : (n : ℕ) → n ≡ n + 0
+add_none n = omega arith
 
 same_before : (place : ℕ) → day_at place ≡ day_at (place + 1) -ℤ pos 1
 same_before place = omega (arith, ints)
@@ -50,8 +63,8 @@ loop-place-init c =
     let offset = held c.args.offset in
     let days : (d : ℤ) → 0 < seconds_of_day offset d ss → IsDay d = c.in_ok-table.ensures.days in record {
       seconds = ap pos (sym (none_earlier offset (day_at 0 -ℤ pos 1) ss days (omega (arith, ints))));
-      walked = subst (λ es. IsWalked (λ (d : ℤ). seconds_of_day offset d ss) (λ (d : ℤ). 0) (sum_at int_cmp es) (day_at 0)) (sym c.new-sums.ensures.empty)
-          (walk_start (λ (d : ℤ). seconds_of_day offset d ss) (λ (d : ℤ). 0) (day_at 0) (λ d le. none_earlier offset d ss days le));
+      walked = subst (λ es. IsWalked ◌+◌ (λ (d : ℤ). seconds_of_day offset d ss) (λ (d : ℤ). 0) (sum_at int_cmp es) (day_at 0)) (sym c.new-sums.ensures.empty)
+          (walk_start ◌+◌ 0 add_none (λ (d : ℤ). seconds_of_day offset d ss) (λ (d : ℤ). 0) (day_at 0) (λ d le. none_earlier offset d ss days le));
     }
 
 pub overflow_add-seconds : goal.overflow_add-seconds
@@ -60,10 +73,7 @@ overflow_add-seconds c =
     let offset = held c.args.offset in
     let place = c.loop-place.place in
     let within : place < 49715 = omega (arith, c.loop-place-test.true, c.deref-change-items.ensures.len, c.in_ok-table.ensures.all_days) in
-    let change : change_at c.deref-change-items.result.now place ≡ change_of_day offset (day_at place) ss =
-    ap (λ table. change_at table place) c.deref-change-items.ensures.value ∙ c.in_ok-table.ensures.value place within in
-    sum_in_range (to_z w64 c.loop-place.seconds-bits) (change_at c.deref-change-items.result.now place) (seconds_of_day offset (day_at place -ℤ pos 1) ss) (seconds_of_day offset (day_at place) ss)
-    c.loop-place.invariant.seconds change (few_seconds offset (day_at place -ℤ pos 1) ss c.in_ok-table.ensures.few) (few_seconds offset (day_at place) ss c.in_ok-table.ensures.few)
+    (sum_here offset place ss _ _ _ c.in_ok-table.ensures.few c.loop-place.invariant.seconds c.deref-change-items.ensures.value (c.in_ok-table.ensures.value place within)).0
 
 pub add-requires : goal.add-requires
 add-requires c =
@@ -71,11 +81,8 @@ add-requires c =
     let offset = held c.args.offset in
     let place = c.loop-place.place in
     let within : place < 49715 = omega (arith, c.loop-place-test.true, c.deref-change-items.ensures.len, c.in_ok-table.ensures.all_days) in
-    let change : change_at c.deref-change-items.result.now place ≡ change_of_day offset (day_at place) ss =
-    ap (λ table. change_at table place) c.deref-change-items.ensures.value ∙ c.in_ok-table.ensures.value place within in
     let few = few_seconds offset (day_at place) ss c.in_ok-table.ensures.few in
-    let seconds = sum_is (to_z w64 c.loop-place.seconds-bits) (change_at c.deref-change-items.result.now place) (seconds_of_day offset (day_at place -ℤ pos 1) ss) (seconds_of_day offset (day_at place) ss)
-    c.loop-place.invariant.seconds change (few_seconds offset (day_at place -ℤ pos 1) ss c.in_ok-table.ensures.few) few in
+    let seconds = (sum_here offset place ss _ _ _ c.in_ok-table.ensures.few c.loop-place.invariant.seconds c.deref-change-items.ensures.value (c.in_ok-table.ensures.value place within)).1 in
     let day : held c.day_at.result ≡ day_at place = to_z-of_z w32 c.day_at.result (search rules) ∙ c.day_at.ensures in
     let none : sum_at int_cmp c.loop-place.sums.entries (held c.day_at.result) ≡ 0 = ap (sum_at int_cmp c.loop-place.sums.entries) day ∙ c.loop-place.invariant.walked.rest (day_at place) (omega (arith, ints)) in
     let amount = amount_is _ _ seconds in
@@ -87,10 +94,7 @@ loop-place-preserved c =
     let offset = held c.args.offset in
     let place = c.loop-place.place in
     let within : place < 49715 = omega (arith, c.loop-place-test.true, c.deref-change-items.ensures.len, c.in_ok-table.ensures.all_days) in
-    let change : change_at c.deref-change-items.result.now place ≡ change_of_day offset (day_at place) ss =
-    ap (λ table. change_at table place) c.deref-change-items.ensures.value ∙ c.in_ok-table.ensures.value place within in
-    let seconds = sum_is (to_z w64 c.loop-place.seconds-bits) (change_at c.deref-change-items.result.now place) (seconds_of_day offset (day_at place -ℤ pos 1) ss) (seconds_of_day offset (day_at place) ss)
-    c.loop-place.invariant.seconds change (few_seconds offset (day_at place -ℤ pos 1) ss c.in_ok-table.ensures.few) (few_seconds offset (day_at place) ss c.in_ok-table.ensures.few) in
+    let seconds = (sum_here offset place ss _ _ _ c.in_ok-table.ensures.few c.loop-place.invariant.seconds c.deref-change-items.ensures.value (c.in_ok-table.ensures.value place within)).1 in
     let amount : ℤ → ℕ = λ (d : ℤ). seconds_of_day offset d ss in
     let now : ℤ → ℕ = sum_at int_cmp c.loop-place.sums.entries in
     let next : ℤ → ℕ = sum_at int_cmp c.if-seconds-gt0.sums.entries in
@@ -105,8 +109,8 @@ loop-place-preserved c =
           ∙ nothing (is_eq (int_cmp (day_at place) d)) (now d) (amount (day_at place)) (none_at _ _ seconds w.if-seconds-gt0.false)
     ] in record {
       seconds = seconds ∙ ap (λ (d : ℤ). pos (seconds_of_day offset d ss)) (same_before place);
-      walked = subst (IsWalked amount (λ (d : ℤ). 0) next) (next_day place)
-          (walk_step amount (λ (d : ℤ). 0) now next (day_at place) (amount (day_at place)) c.loop-place.invariant.walked refl added);
+      walked = subst (IsWalked ◌+◌ amount (λ (d : ℤ). 0) next) (next_day place)
+          (walk_step ◌+◌ 0 add_none amount (λ (d : ℤ). 0) now next (day_at place) c.loop-place.invariant.walked added);
     }
 
 pub returns-clause-value : goal.returns-clause-value
@@ -117,7 +121,7 @@ returns-clause-value c day =
     let offset_is : offset ≡ c.args.offset = to_z-of_z w32 c.args.offset (search rules) in
     let days : (d : ℤ) → 0 < seconds_of_day offset d ss → IsDay d = c.in_ok-table.ensures.days in
     let all : 49714 ≤ place = omega (arith, c.loop-place-test.false, c.deref-change-items.ensures.len, c.in_ok-table.ensures.all_days) in
-    let sum = walk_end (λ (d : ℤ). seconds_of_day offset d ss) (λ (d : ℤ). 0) (sum_at int_cmp c.loop-place.sums.entries) (day_at place) c.loop-place.invariant.walked
+    let sum = walk_end ◌+◌ 0 add_none (λ (d : ℤ). seconds_of_day offset d ss) (λ (d : ℤ). 0) (sum_at int_cmp c.loop-place.sums.entries) (day_at place) c.loop-place.invariant.walked
     (λ d le. none_later offset d ss place days all le) day in
     let value : sum_at int_cmp c.loop-place.sums.entries day ≡ seconds_of_day offset day ss = omega (arith, sum) in
     value ∙ ap (λ (z : ℤ). seconds_of_day z day ss) offset_is

@@ -1,4 +1,4 @@
-use Rattle.tally_sessions.specs.declared.day_user_rows.DayUser.{DayUser}
+use Rattle.tally_sessions.specs.declared.connect.day_user_rows.DayUser.{DayUser}
 use Rattle.tally_sessions.specs.inside.Changes.{days_ahead}
 use Rattle.tally_sessions.specs.Sums.{seconds_of_day_user, sessions_of}
 use Rattle.tally_sessions.proofs.RowSteps.{IsWalk}

@@ -2,15 +2,14 @@ use Rattle.std.proofs.Common.{◌≡◌, ◌∙◌, ◌+◌, ◌<◌, ◌≤◌,
 use Rattle.std.proofs.lemmas.Int.{to_z-of_z}
 use Rattle.std.specs.List.{flat_map, range_with_len}
 use Rattle.tally_sessions.specs.declared.entry.Entry.{Entry}
-use Rattle.tally_sessions.specs.declared.sums.Session.{Session}
+use Rattle.tally_sessions.specs.declared.connect.sums.Session.{Session}
 use Rattle.tally_sessions.specs.inside.Changes.{change_of, change_of_day_user}
 use Rattle.tally_sessions.specs.Lent.{entries_in}
 use Rattle.tally_sessions.specs.State.{State}
-use Rattle.tally_sessions.specs.Sums.{seconds_of_day_user, sessions_among, sessions_of}
+use Rattle.tally_sessions.specs.Sums.{seconds_of_day_user, sessions_among}
 use Rattle.tally_sessions.specs.Totals.{stays_of}
-use Rattle.tally_sessions.proofs.EveryHost.{every_host_is}
 use Rattle.tally_sessions.proofs.HostCounts.{count_below-le, count_below-more}
-use Rattle.tally_sessions.proofs.SessionLists.{hosts_more, length-sessions}
+use Rattle.tally_sessions.proofs.SessionLists.{hosts_all, hosts_more, length-sessions}
 use Rattle.tally_sessions.proofs.Staging.{track_of}
 use Rattle.tally_sessions.proofs.UserChanges.{changes_high, changes_low}
 use Rattle.tally_sessions.proofs.UserHosts.{HaveUserDays, user_days_joined, users_joined}
@@ -62,21 +61,18 @@ loop-host-preserved c =
 pub returns-clause-few : goal.returns-clause-few
 returns-clause-few c =
     let es : List Entry = entries_in c.entries-entries.result in
-    let of : ℕ → List Session = λ host. sessions_among (stays_of host es c.args.until) in
-    let all : flat_map of (range_with_len 0 c.loop-host.host) ≡ sessions_of c.args.self.now.entries c.args.until = ap (flat_map of) (every_host_is c.loop-host.host (omega arith)) ∙ ap (λ (xs : List Entry). sessions_of xs c.args.until) c.entries-entries.ensures.value in
+    let all = hosts_all c.loop-host.host es c.args.self.now.entries c.args.until (omega arith) c.entries-entries.ensures.value in
     omega (arith, ap length all, c.loop-host.invariant.few, count_below-le c.loop-host.host es, c.entries-entries.ensures.few)
 
 pub returns-clause-value : goal.returns-clause-value
 returns-clause-value c k =
     let es : List Entry = entries_in c.entries-entries.result in
-    let of : ℕ → List Session = λ host. sessions_among (stays_of host es c.args.until) in
-    let all : flat_map of (range_with_len 0 c.loop-host.host) ≡ sessions_of c.args.self.now.entries c.args.until = ap (flat_map of) (every_host_is c.loop-host.host (omega arith)) ∙ ap (λ (xs : List Entry). sessions_of xs c.args.until) c.entries-entries.ensures.value in
+    let all = hosts_all c.loop-host.host es c.args.self.now.entries c.args.until (omega arith) c.entries-entries.ensures.value in
     c.loop-host.invariant.value k ∙ (λ j. change_of_day_user (to_z-of_z w32 c.args.offset (search rules) j) k (all j))
 
 pub returns-clause-days : goal.returns-clause-days
 returns-clause-days c k lt =
     let es : List Entry = entries_in c.entries-entries.result in
-    let of : ℕ → List Session = λ host. sessions_among (stays_of host es c.args.until) in
-    let all : flat_map of (range_with_len 0 c.loop-host.host) ≡ sessions_of c.args.self.now.entries c.args.until = ap (flat_map of) (every_host_is c.loop-host.host (omega arith)) ∙ ap (λ (xs : List Entry). sessions_of xs c.args.until) c.entries-entries.ensures.value in
+    let all = hosts_all c.loop-host.host es c.args.self.now.entries c.args.until (omega arith) c.entries-entries.ensures.value in
     let offset : held c.args.offset ≡ c.args.offset = to_z-of_z w32 c.args.offset (search rules) in
     c.loop-host.invariant.days k (subst (λ n. 0 < n) (λ j. seconds_of_day_user (sym offset j) k.day k.user (sym all j)) lt)

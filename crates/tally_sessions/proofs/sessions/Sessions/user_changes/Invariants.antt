@@ -1,6 +1,6 @@
 use Rattle.std.proofs.Common.{◌≡◌, ◌≤◌, length}
 use Rattle.std.specs.List.{flat_map, range_with_len}
-use Rattle.tally_sessions.specs.declared.day_user_rows.DayUser.{DayUser}
+use Rattle.tally_sessions.specs.declared.connect.day_user_rows.DayUser.{DayUser}
 use Rattle.tally_sessions.specs.inside.Changes.{change_of, change_of_day_user}
 use Rattle.tally_sessions.specs.Lent.{entries_in}
 use Rattle.tally_sessions.specs.Sums.{sessions_among}

@@ -1,16 +1,14 @@
 use Rattle.std.proofs.Common.{◌≡◌, ◌∙◌, ◌<◌, ◌+◌, ◌++◌, ◌∷◌, ◌+ℤ◌, ℤ, List, [], length, map, take, unwrap_or, sym, ap, subst, arith, rules, to_z, of_z, w32}
 use Rattle.std.proofs.lemmas.Int.{to_z-of_z}
-use Rattle.std.proofs.lemmas.List.{append-nil, take_all}
-use Rattle.tally_sessions.specs.declared.ending.TrackedStay.{TrackedStay}
-use Rattle.tally_sessions.specs.declared.sums.Session.{Session}
+use Rattle.std.proofs.lemmas.List.{append-nil}
+use Rattle.tally_sessions.specs.declared.connect.sums.Session.{Session}
 use Rattle.tally_sessions.specs.inside.Changes.{change_at, change_of_day, day_at}
 use Rattle.tally_sessions.specs.Lent.{entries_in}
 use Rattle.tally_sessions.specs.Sums.{seconds_of_day, sessions_among}
-use Rattle.tally_sessions.specs.Totals.{stays_of}
-use Rattle.tally_sessions.specs.inside.Track.{no_stay, stay_at, stay_now}
+use Rattle.tally_sessions.specs.inside.Track.{stay_now}
 use Rattle.tally_sessions.proofs.DayHosts.{Grows, HaveDays, days_joined, days_one, grown_high, grown_low, grows_more}
-use Rattle.tally_sessions.proofs.SessionLists.{few_among, sessions_more}
-use Rattle.tally_sessions.proofs.StaysNow.{stays_now}
+use Rattle.tally_sessions.proofs.SessionLists.{few_among}
+use Rattle.tally_sessions.proofs.StaysNow.{sessions_next, sessions_now}
 use Rattle.tally_sessions.proofs.track.Track.add_day_changes.Goals as goal
 use Rattle.tally_sessions.proofs.track.Track.add_day_changes.Goals.{in-Some, in_default}
 
@@ -39,25 +37,21 @@ loop-i-preserved c =
     let offset = held c.args.offset in
     let time : ℤ = unwrap_or c.args.until a.last in
     let f = stay_now c.args.host es a.clock time in
-    let t : TrackedStay = stay_at a.stays.items i in
     let lt : i < length a.stays.items = omega (arith, a.stays.ok.0) in
     let now : held c.time_now-time.result ≡ time = to_z-of_z w32 c.time_now-time.result (search rules) ∙ c.time_now-time.ensures in
     let so_far : List Session = sessions_among (map f (take i a.stays.items)) in
     let next : List Session = sessions_among (map f (take (i + 1) a.stays.items)) in
-    let more : next ≡ so_far ++ sessions_among (f t ∷ []) = sessions_more f a.stays.items i no_stay lt in
     elim c.match-session_at.branch [
       | in-Some w ↦
           let s : Session = w.in-Some.session in
-          let one : sessions_among (f t ∷ []) ≡ s ∷ [] = ap (λ (z : ℤ). sessions_among (stay_now c.args.host es a.clock z t ∷ [])) (sym now) ∙ w.in-Some.ensures.session in
-          let is : so_far ++ s ∷ [] ≡ next = sym (more ∙ ap (λ xs. so_far ++ xs) one) in record {
+          let is : so_far ++ s ∷ [] ≡ next = sessions_next c.args.host es a.clock _ time a.stays.items i (s ∷ []) lt now w.in-Some.ensures.session in record {
             all_days = ap length w.table-is ∙ w.add_changes.auto.table ∙ c.loop-i.invariant.all_days;
             grows = subst (λ table. Grows offset next c.args.table.now table) (sym w.table-is)
                 (subst (λ ss. Grows offset ss c.args.table.now w.add_changes.new.table) is (grows_more offset so_far s c.args.table.now c.loop-i.table w.add_changes.new.table c.loop-i.invariant.grows w.add_changes.ensures.value));
             days = subst (HaveDays offset) is (days_joined offset so_far (s ∷ []) c.loop-i.invariant.days (days_one offset s w.add_changes.ensures.days));
           }
       | in_default w ↦
-          let one : sessions_among (f t ∷ []) ≡ [] = ap (λ (z : ℤ). sessions_among (stay_now c.args.host es a.clock z t ∷ [])) (sym now) ∙ w.in_default.ensures.none in
-          let is : so_far ≡ next = sym (more ∙ ap (λ xs. so_far ++ xs) one ∙ append-nil so_far) in record {
+          let is : so_far ≡ next = sym (append-nil so_far) ∙ sessions_next c.args.host es a.clock _ time a.stays.items i [] lt now w.in_default.ensures.none in record {
             all_days = ap length w.table-is ∙ c.loop-i.invariant.all_days;
             grows = subst (λ table. Grows offset next c.args.table.now table) (sym w.table-is) (subst (λ ss. Grows offset ss c.args.table.now c.loop-i.table) is c.loop-i.invariant.grows);
             days = subst (HaveDays offset) is c.loop-i.invariant.days;
@@ -68,9 +62,7 @@ pub returns-clause-value : goal.returns-clause-value
 returns-clause-value c place lt =
     let es = entries_in c.args.entries in
     let a = c.args.self.now in
-    let f = stay_now c.args.host es a.clock (unwrap_or c.args.until a.last) in
-    let all : sessions_among (map f (take c.loop-i.i a.stays.items)) ≡ sessions_among (stays_of c.args.host es c.args.until) =
-    ap (λ ts. sessions_among (map f ts)) (take_all c.loop-i.i a.stays.items (omega (arith, a.stays.ok.0))) ∙ ap sessions_among (stays_now c.args.host es a c.args.until c.requires.track) in
+    let all = sessions_now c.args.host es a c.args.until c.loop-i.i (omega (arith, a.stays.ok.0)) c.requires.track in
     c.loop-i.invariant.grows place lt
     ∙ (λ j. change_at c.args.table.now place +ℤ change_of_day (to_z-of_z w32 c.args.offset (search rules) j) (day_at place) (all j))
 
@@ -78,8 +70,6 @@ pub returns-clause-days : goal.returns-clause-days
 returns-clause-days c day lt =
     let es = entries_in c.args.entries in
     let a = c.args.self.now in
-    let f = stay_now c.args.host es a.clock (unwrap_or c.args.until a.last) in
-    let all : sessions_among (map f (take c.loop-i.i a.stays.items)) ≡ sessions_among (stays_of c.args.host es c.args.until) =
-    ap (λ ts. sessions_among (map f ts)) (take_all c.loop-i.i a.stays.items (omega (arith, a.stays.ok.0))) ∙ ap sessions_among (stays_now c.args.host es a c.args.until c.requires.track) in
+    let all = sessions_now c.args.host es a c.args.until c.loop-i.i (omega (arith, a.stays.ok.0)) c.requires.track in
     let offset : held c.args.offset ≡ c.args.offset = to_z-of_z w32 c.args.offset (search rules) in
     c.loop-i.invariant.days day (subst (λ n. 0 < n) (λ j. seconds_of_day (sym offset j) day (sym all j)) lt)

@@ -1,4 +1,4 @@
-use Rattle.std.proofs.Common.{◌≡◌, ◌∙◌, ◌+◌, ◌<◌, ◌≤◌, ◌≤ℤ◌, ℕ, ℤ, pos, List, [], Some, None, length, get_or, take, unwrap_or, ap, arith, rules}
+use Rattle.std.proofs.Common.{◌≡◌, ◌∙◌, ◌+◌, ◌<◌, ◌≤◌, ◌≤ℤ◌, ℕ, ℤ, pos, List, Some, None, length, get_or, take, unwrap_or, ap, arith, rules}
 use Rattle.std.proofs.lemmas.Int.{ints, to_z-of_z}
 use Rattle.std.proofs.lemmas.List.{take_all}
 use Rattle.std.proofs.lemmas.List.Sums.{sum_by_more_le}
@@ -9,31 +9,25 @@ use Rattle.std.specs.Ordering.{nat_cmp}
 use Rattle.std.specs.Prelude.{FitsSigned, sum_by}
 use Rattle.tally_sessions.specs.Lent.{entries_in}
 use Rattle.tally_sessions.specs.inside.Sums.{sum_at}
-use Rattle.tally_sessions.specs.inside.Track.{pending_length, pending_sum, start_of, stay_at}
-use Rattle.tally_sessions.proofs.LineSums.{lookup_of_member}
-use Rattle.tally_sessions.proofs.PendingSums.{ended_and_pending, lines_sum, now_sum-le, pending_sum-le}
+use Rattle.tally_sessions.specs.inside.Track.{pending_sum, start_of, stay_at}
+use Rattle.tally_sessions.proofs.PendingSums.{ended_and_pending, line_within, lines_sum, no_line, now_sum-le, pending_at, pending_read, pending_sum-le}
 use Rattle.tally_sessions.proofs.TrackedAdvance.{IsWithin-all}
-use Rattle.tally_sessions.proofs.UserSums.{own_pending, pending_added, pending_at}
+use Rattle.tally_sessions.proofs.UserSums.{own_pending, pending_added}
 use Rattle.tally_sessions.proofs.track.Track.add_pending.Goals as goal
-
-abbrev no_line : List ℕ × ℕ
-no_line = ([], 0)
 
 pub pending_length-seconds-requires-clause-i_in : goal.pending_length-seconds-requires-clause-i_in
 pending_length-seconds-requires-clause-i_in c =
-    let lines = c.args.self.now.lines.entries in
-    let lt : c.loop-k.k < length lines = omega (arith, c.len-k-end.ensures.len, c.loop-k-test.true) in
-    let on = c.requires.track.tracked.on _ _ (c.number_at-i.ensures.found (get_or lines c.loop-k.k no_line) (slice_get-get_or lines c.loop-k.k no_line lt)) in
-    let within = on.within in
-    omega (arith, c.args.self.now.stays.ok.0)
+    let a = c.args.self.now in
+    let es = entries_in c.args.entries in
+    let within = line_within es (length es) a.lines.entries a.swept a.stays.items c.loop-k.k c.number_at-i.result c.requires.track.tracked (omega (arith, c.len-k-end.ensures.len, c.loop-k-test.true)) c.number_at-i.ensures.found in
+    omega (arith, a.stays.ok.0, within)
 
 pub user_at-requires-clause-i_in : goal.user_at-requires-clause-i_in
 user_at-requires-clause-i_in c =
-    let lines = c.args.self.now.lines.entries in
-    let lt : c.loop-k.k < length lines = omega (arith, c.len-k-end.ensures.len, c.loop-k-test.true) in
-    let on = c.requires.track.tracked.on _ _ (c.number_at-i.ensures.found (get_or lines c.loop-k.k no_line) (slice_get-get_or lines c.loop-k.k no_line lt)) in
-    let within = on.within in
-    omega (arith, c.args.self.now.stays.ok.0)
+    let a = c.args.self.now in
+    let es = entries_in c.args.entries in
+    let within = line_within es (length es) a.lines.entries a.swept a.stays.items c.loop-k.k c.number_at-i.result c.requires.track.tracked (omega (arith, c.len-k-end.ensures.len, c.loop-k-test.true)) c.number_at-i.ensures.found in
+    omega (arith, a.stays.ok.0, within)
 
 pub user_at-requires-clause-placed : goal.user_at-requires-clause-placed
 user_at-requires-clause-placed c = record {
@@ -53,14 +47,12 @@ add-requires c =
     let lt : k < length lines = omega (arith, c.len-k-end.ensures.len, c.loop-k-test.true) in
     let place : c.number_at-i.result ≡ e.1 = c.number_at-i.ensures.value e (slice_get-get_or lines k no_line lt) in
     let own : name ≡ (start_of es (stay_at a.stays.items e.1)).user = c.user_at.ensures ∙ ap (λ i. (start_of es (stay_at a.stays.items i)).user) place in
-    let value : c.pending_length-seconds.result ≡ pending_at None es a.clock time a.stays.items e =
-    c.pending_length-seconds.ensures ∙ ap (λ (z : ℤ). pending_length None es a.clock z (stay_at a.stays.items c.number_at-i.result)) (to_z-of_z w32 c.time_now-time.result (search rules) ∙ c.time_now-time.ensures)
-    ∙ ap (λ i. pending_length None es a.clock time (stay_at a.stays.items i)) place in
+    let value = pending_read None es a.clock _ time a.stays.items e _ _ c.pending_length-seconds.ensures (to_z-of_z w32 c.time_now-time.result (search rules) ∙ c.time_now-time.ensures) place in
     let part : pending_at (Some name) es a.clock time a.stays.items e ≡ c.pending_length-seconds.result = own_pending name c.pending_length-seconds.result es a.clock time a.stays.items e own value in
-    let within : sum_by (pending_at (Some name) es a.clock time a.stays.items) (take k lines) + pending_at (Some name) es a.clock time a.stays.items e ≤ sum_by (pending_at (Some name) es a.clock time a.stays.items) lines =
-    sum_by_more_le (pending_at (Some name) es a.clock time a.stays.items) lines k no_line lt in
-    let all : sum_by (pending_at (Some name) es a.clock time a.stays.items) lines ≡ pending_sum (Some name) es a.clock time a.stays.items =
-    lines_sum (Some name) es a.clock time (length es) lines a.swept a.stays.items c.requires.track.tracked c.len-k-end.ensures.distinct (λ x m. lookup_of_member lines x c.len-k-end.ensures.distinct m) in
+    let own_at = pending_at (Some name) es a.clock time a.stays.items in
+    let within : sum_by own_at (take k lines) + own_at e ≤ sum_by own_at lines = sum_by_more_le own_at lines k no_line lt in
+    let all : sum_by own_at lines ≡ pending_sum (Some name) es a.clock time a.stays.items =
+    lines_sum (Some name) es a.clock time (length es) lines a.swept a.stays.items c.requires.track.tracked c.len-k-end.ensures.distinct in
     let fits : FitsSigned w32 c.time_now-time.result = search rules in
     let is = c.time_now-time.ensures in
     let last : time ≤ℤ pos 2147483647 = omega (arith, ints) in
@@ -78,9 +70,7 @@ loop-k-preserved c user =
     let lt : k < length lines = omega (arith, c.len-k-end.ensures.len, c.loop-k-test.true) in
     let place : c.number_at-i.result ≡ e.1 = c.number_at-i.ensures.value e (slice_get-get_or lines k no_line lt) in
     let own : c.user_at.result ≡ (start_of es (stay_at a.stays.items e.1)).user = c.user_at.ensures ∙ ap (λ i. (start_of es (stay_at a.stays.items i)).user) place in
-    let value : c.pending_length-seconds.result ≡ pending_at None es a.clock time a.stays.items e =
-    c.pending_length-seconds.ensures ∙ ap (λ (z : ℤ). pending_length None es a.clock z (stay_at a.stays.items c.number_at-i.result)) (to_z-of_z w32 c.time_now-time.result (search rules) ∙ c.time_now-time.ensures)
-    ∙ ap (λ i. pending_length None es a.clock time (stay_at a.stays.items i)) place in
+    let value = pending_read None es a.clock _ time a.stays.items e _ _ c.pending_length-seconds.ensures (to_z-of_z w32 c.time_now-time.result (search rules) ∙ c.time_now-time.ensures) place in
     pending_added (sum_at (slice_cmp nat_cmp) c.loop-k.sums.entries user) (sum_at (slice_cmp nat_cmp) c.add.new.sums.entries user) (sum_at (slice_cmp nat_cmp) c.args.sums.now.entries user)
     c.pending_length-seconds.result c.user_at.result user es a.clock time a.stays.items lines k no_line lt own value (c.loop-k.invariant user) (c.in_ok-add.ensures user)
 
@@ -93,7 +83,7 @@ returns-clause-value c user =
     c.loop-k.invariant user
     ∙ ap (λ ls. sum_at (slice_cmp nat_cmp) c.args.sums.now.entries user + sum_by (pending_at (Some user) es a.clock time a.stays.items) ls) (take_all c.loop-k.k lines (omega (arith, c.len-k-end.ensures.len)))
     ∙ ap (λ n. sum_at (slice_cmp nat_cmp) c.args.sums.now.entries user + n)
-    (lines_sum (Some user) es a.clock time (length es) lines a.swept a.stays.items c.requires.track.tracked c.len-k-end.ensures.distinct (λ x m. lookup_of_member lines x c.len-k-end.ensures.distinct m))
+    (lines_sum (Some user) es a.clock time (length es) lines a.swept a.stays.items c.requires.track.tracked c.len-k-end.ensures.distinct)
 
 pub returns-clause-fits : goal.returns-clause-fits
 returns-clause-fits c user =

@@ -9,7 +9,7 @@ use Rattle.tally_records.specs.Event.{event_of}
 use Rattle.tally_sessions.specs.Clock.{shift_at}
 use Rattle.tally_sessions.specs.inside.Tracking.{pending_at}
 use Rattle.tally_sessions.specs.inside.Entries.{entry_at}
-use Rattle.tally_sessions.specs.inside.Track.{behind, ends_every_stay, HasSums, IsEntered, IsWithin}
+use Rattle.tally_sessions.specs.inside.Track.{after, ends_every_stay, HasSums, IsEntered, IsWithin}
 use Rattle.tally_sessions.proofs.TrackAdvance.{IsTrack-step, HasRoom-step}
 use Rattle.tally_sessions.proofs.TrackedAdvance.{IsWithin-all}
 use Rattle.tally_sessions.proofs.track.Track.advance.Goals as goal
@@ -25,11 +25,11 @@ returns-clause-after c =
     let low = within.low in
     let high = within.high in
     let same : held c.tick.new.self.clock ≡ c.tick.new.self.clock = omega (arith, ints, c.requires.at_in, c.requires.few) in
-    let ended : c.end_pending.new.stays ≡ map (behind es c.tick.new.self.clock (entry_at es n).item) c.args.self.now.stays.items =
+    let ended : c.end_pending.new.stays ≡ map (after es c.tick.new.self.clock (entry_at es n).item) c.args.self.now.stays.items =
     c.end_pending.ensures.stays
-    ∙ ap (λ (z : ℤ). map (behind es z (entry_at es n).item) c.deref_mut.result.now) same
-    ∙ ap (map (behind es c.tick.new.self.clock (entry_at es n).item)) c.deref_mut.ensures.value
-    ∙ ap (λ v. map (behind es c.tick.new.self.clock (entry_at es n).item) v.items) t.stays in
+    ∙ ap (λ (z : ℤ). map (after es z (entry_at es n).item) c.deref_mut.result.now) same
+    ∙ ap (map (after es c.tick.new.self.clock (entry_at es n).item)) c.deref_mut.ensures.value
+    ∙ ap (λ v. map (after es c.tick.new.self.clock (entry_at es n).item) v.items) t.stays in
     let time_fits : FitsSigned w32 c.time.result = search rules in
     let time : to_z w32 (of_z w32 c.time.result) ≡ (entry_at es n).item.time = to_z-of_z w32 c.time.result time_fits ∙ c.time.ensures in
     let clock_is = t.clock ∙ ap (λ (z : ℤ). c.args.self.now.clock +ℤ shift_at c.event-event.result c.args.self.now.old_time z) time ∙ ap (λ (e : Event). c.args.self.now.clock +ℤ shift_at e c.args.self.now.old_time (entry_at es n).item.time) c.event-event.ensures in

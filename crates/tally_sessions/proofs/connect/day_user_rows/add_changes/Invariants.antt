@@ -1,0 +1,16 @@
+use Rattle.std.proofs.Common.{ℕ, ℤ, List, pos, ◌+ℤ◌, ◌-ℤ◌, ◌≤ℤ◌, cond}
+use Rattle.std.specs.Int.{int_max}
+use Rattle.std.specs.Prelude.{bytes_eq, unsigned_abs}
+use Rattle.tally_sessions.specs.inside.Changes.{change_of, change_on}
+use Rattle.tally_sessions.proofs.Walked.{IsWalked}
+use Rattle.tally_sessions.proofs.connect.day_user_rows.add_changes.Given as goal
+
+abbrev pub decreases-loop-day : goal.decreases-loop-day
+decreases-loop-day l = unsigned_abs (int_max (pos 24858 -ℤ l.day) (pos 0))
+
+abbrev pub invariant-loop-day : goal.invariant-loop-day
+invariant-loop-day l = record {
+  from : l.first ≤ℤ l.day;
+  moved : (user : List ℕ) → IsWalked ◌+ℤ◌ (λ (d : ℤ). cond (bytes_eq l.session.user user) (change_on l.offset d l.session.begin l.session.end_time) (pos 0))
+      (λ d. change_of l.fn.changes.entries (record { day = d; user = user })) (λ d. change_of l.changes.entries (record { day = d; user = user })) l.day;
+}

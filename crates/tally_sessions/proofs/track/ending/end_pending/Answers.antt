@@ -1,0 +1,60 @@
+use Rattle.std.proofs.Common.{◌≡◌, Some, None, refl, sym, ap, subst, ◌∙◌}
+use Rattle.std.proofs.lemmas.Int.{to_z-of_z}
+use Rattle.std.specs.Int.{w64}
+use Rattle.std.specs.Map.{lookup}
+use Rattle.std.specs.Prelude.{bytes_eq}
+use Rattle.tally_records.specs.declared.login.Event.TheVariants.{Login, Logout, Boot, Down}
+use Rattle.tally_sessions.specs.inside.Entries.{entry_at}
+use Rattle.tally_sessions.specs.inside.Track as spec
+use Rattle.tally_sessions.specs.inside.Track.{ends_every_stay, ends_line_stay}
+use Rattle.tally_sessions.proofs.Places.{map-at, map-same}
+use Rattle.tally_sessions.proofs.TrackSteps.{after-nothing, ends_on_line, line_event, not_by_test, some_inj, some≢none, after-line_event}
+use Rattle.tally_sessions.proofs.track.ending.end_pending.Goals as goal
+
+pub end_stay-requires-clause-i_in : goal.end_stay-requires-clause-i_in
+end_stay-requires-clause-i_in c =
+    let leads : lookup (bytes_eq (entry_at c.args.entries.now c.args.at).item.line) c.args.lines.now.entries ≡ Some c.in-Some.i =
+    subst (λ k. lookup (bytes_eq k) c.args.lines.now.entries ≡ Some c.in-Some.i) c.line_key-line.ensures (sym c.get.ensures ∙ c.in-Some.is) in
+    (c.requires.tracked.on _ _ leads).within
+
+pub end_stay-requires-clause-ends : goal.end_stay-requires-clause-ends
+end_stay-requires-clause-ends c =
+    let leads : lookup (bytes_eq (entry_at c.args.entries.now c.args.at).item.line) c.args.lines.now.entries ≡ Some c.in-Some.i =
+    subst (λ k. lookup (bytes_eq k) c.args.lines.now.entries ≡ Some c.in-Some.i) c.line_key-line.ensures (sym c.get.ensures ∙ c.in-Some.is) in
+    let on = c.requires.tracked.on _ _ leads in
+    ends_on_line _ _ c.args.event on.login (sym c.requires.told) (line_event c.args.event (sym c.ends_line.ensures ∙ c.if-ends_line.true)) on.same
+
+pub returns-in-Some-clause-stays : goal.returns-in-Some-clause-stays
+returns-in-Some-clause-stays c =
+    let es = c.args.entries.now in
+    let x = (entry_at es c.args.at).item in
+    let same = to_z-of_z w64 c.args.clock c.ranges.clock in
+    let leads : lookup (bytes_eq x.line) c.args.lines.now.entries ≡ Some c.in-Some.i =
+    subst (λ k. lookup (bytes_eq k) c.args.lines.now.entries ≡ Some c.in-Some.i) c.line_key-line.ensures (sym c.get.ensures ∙ c.in-Some.is) in
+    let i = c.in-Some.i in
+    c.end_stay.ensures.stays
+    ∙ map-at (spec.after es c.args.clock x) spec.no_stay c.args.stays.now i _ (c.requires.tracked.on _ _ leads).within (ap (λ z. spec.after es z x (spec.stay_at c.args.stays.now i)) same)
+    (λ k lt other. after-line_event es c.args.at c.args.lines.now.entries c.args.swept c.args.stays.now c.args.clock x c.args.event c.requires.tracked (sym c.requires.told) (line_event c.args.event (sym c.ends_line.ensures ∙ c.if-ends_line.true))
+    k lt (λ at. other (some_inj k i (sym at ∙ leads))))
+
+pub returns-in_default-clause-stays : goal.returns-in_default-clause-stays
+returns-in_default-clause-stays c =
+    let es = c.args.entries.now in
+    let x = (entry_at es c.args.at).item in
+    let nowhere : lookup (bytes_eq x.line) c.args.lines.now.entries ≡ None =
+    subst (λ k. lookup (bytes_eq k) c.args.lines.now.entries ≡ None) c.line_key-line.ensures (sym c.get.ensures ∙ c.in_default.is) in
+    sym (map-same (spec.after es c.args.clock x) spec.no_stay c.args.stays.now
+    (λ k lt. after-line_event es c.args.at c.args.lines.now.entries c.args.swept c.args.stays.now c.args.clock x c.args.event c.requires.tracked (sym c.requires.told) (line_event c.args.event (sym c.ends_line.ensures ∙ c.if-ends_line.true))
+    k lt (λ at. some≢none k (sym at ∙ nowhere))))
+
+pub returns-else-ends_line-clause-stays : goal.returns-else-ends_line-clause-stays
+returns-else-ends_line-clause-stays c =
+    let es = c.args.entries.now in
+    let x = (entry_at es c.args.at).item in
+    let every = sym c.ends_every.ensures ∙ c.if-ends_every.false in
+    let line = sym c.ends_line.ensures ∙ c.if-ends_line.false in
+    let ev = c.requires.told in
+    sym (map-same (spec.after es c.args.clock x) spec.no_stay c.args.stays.now
+    (after-nothing es c.args.at c.args.lines.now.entries c.args.swept c.args.stays.now c.args.clock x c.requires.tracked
+    (λ e. not_by_test ends_line_stay c.args.event Login line refl (ev ∙ e)) (λ e. not_by_test ends_line_stay c.args.event Logout line refl (ev ∙ e))
+    (λ e. not_by_test ends_every_stay c.args.event Boot every refl (ev ∙ e)) (λ e. not_by_test ends_every_stay c.args.event Down every refl (ev ∙ e))))

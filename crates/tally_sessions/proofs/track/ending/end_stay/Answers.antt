@@ -1,0 +1,38 @@
+use Rattle.std.proofs.Common.{◌≡◌, ◌∙◌, ◌+◌, ℤ, set, refl, sym, ap, arith}
+use Rattle.std.proofs.lemmas.Int.{to_z-of_z}
+use Rattle.std.specs.Int.{w64}
+use Rattle.tally_sessions.specs.declared.track.ending.TrackedStay.{TrackedStay}
+use Rattle.tally_sessions.specs.inside.Track.{stay_at, after, ended_length, sum_of}
+use Rattle.tally_sessions.specs.inside.Entries.{entry_at}
+use Rattle.tally_sessions.proofs.EndedSteps.{HasSums-set, ended_sum-le}
+use Rattle.tally_sessions.proofs.Lengths.{held}
+use Rattle.tally_sessions.proofs.TrackSteps.{after-keeps}
+use Rattle.tally_sessions.proofs.track.ending.end_stay.Goals as goal
+
+pub count-requires-clause-entered : goal.count-requires-clause-entered
+count-requires-clause-entered c login = c.requires.sums.entered c.args.i c.requires.i_in login
+
+pub count-requires-clause-room : goal.count-requires-clause-room
+count-requires-clause-room c who =
+    let few = ended_sum-le who c.args.entries.now c.args.stays.now c.requires.sums.fits in
+    omega (arith, c.requires.sums.at who, few, c.requires.few)
+
+pub count-requires-clause-keeps : goal.count-requires-clause-keeps
+count-requires-clause-keeps c e h =
+    ap (λ (t : TrackedStay). t.ended) c.ended_by-after.ensures.value ∙ after-keeps c.args.entries.now (held c.args.clock) (entry_at c.args.entries.now c.args.at).item (stay_at c.args.stays.now c.args.i) e h
+
+pub returns-clause-stays : goal.returns-clause-stays
+returns-clause-stays c =
+    let same = to_z-of_z w64 c.args.clock c.ranges.clock in
+    ap (λ t. set c.args.stays.now c.args.i t) (c.ended_by-after.ensures.value ∙ ap (λ (z : ℤ). after c.args.entries.now z (entry_at c.args.entries.now c.args.at).item (stay_at c.args.stays.now c.args.i)) same)
+
+pub returns-clause-sums : goal.returns-clause-sums
+returns-clause-sums c =
+    let es = c.args.entries.now in
+    let before : TrackedStay = stay_at c.args.stays.now c.args.i in
+    let after : TrackedStay = c.ended_by-after.result in
+    let is = c.ended_by-after.ensures.value in
+    let rebuilt : record before { ended = after.ended } ≡ after = ap (λ o. record before { ended = o }) (ap (λ (t : TrackedStay). t.ended) is) ∙ sym is in
+    HasSums-set es c.args.sums.now c.count.new.sums c.args.stays.now c.args.i before after c.requires.sums c.requires.i_in refl (ap (λ (t : TrackedStay). t.entry) is)
+    (λ who. c.count.ensures.sums who ∙ ap (λ t. sum_of c.args.sums.now who + ended_length who es t) rebuilt)
+    c.count.ensures.kept (c.ended_by-after.ensures.fits (c.requires.sums.fits c.args.i c.requires.i_in))

@@ -1,0 +1,37 @@
+//! Sums of seconds over sessions, one for each key.
+ghost use Rattle.std.specs.Prelude.{◌≡◌, ◌<◌, ◌+◌, ◌^◌, OnOk, if◌then◌else◌};
+ghost use Rattle.std.specs.Ordering.{is_eq};
+ghost use Rattle.tally_sessions.specs.inside.Sums.{sum_at};
+
+use std::collections::BTreeMap;
+use tally_records::{Memory, Name};
+
+/// What is counted of a login's stay.
+#[derive(Clone, Copy)]
+pub(crate) struct Session {
+    pub(crate) user: Name,
+    pub(crate) begin: i32,
+    pub(crate) end_time: i32,
+}
+
+/// Adds seconds to the sum of a key.
+pub(crate) fn add<K: Ord + Copy + Drop>(
+    sums: &mut BTreeMap<K, u64>,
+    key: K,
+    seconds: u64,
+) -> Result<(), Memory>
+    requires { sum_at K.cmp sums.old.entries key + seconds < 2 ^ 64 }
+    ensures { OnOk result ((k : K) → sum_at K.cmp sums.new.entries k
+        ≡ sum_at K.cmp sums.old.entries k + (if is_eq (K.cmp key k) then seconds else 0)) }
+{
+    match sums.get_mut(&key) {
+        Some(sum) => {
+            *sum += seconds;
+            Ok(())
+        }
+        None => {
+            sums.insert(key, seconds)?;
+            Ok(())
+        }
+    }
+}

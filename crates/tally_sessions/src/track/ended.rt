@@ -1,0 +1,92 @@
+//! The lengths of sessions that have ended, summed as they end.
+ghost use Rattle.std.specs.Prelude.{◌≡◌, ◌≤◌, ◌<◌, ◌+◌, ◌^◌, ℕ, List, Option, Some, OnOk, if◌then◌else◌};
+ghost use Rattle.std.specs.Cmp.Lexicographic.{slice_cmp};
+ghost use Rattle.std.specs.Ordering.{nat_cmp};
+ghost use Rattle.tally_sessions.specs.inside.Sums.{sum_at};
+ghost use Rattle.tally_sessions.specs.inside.Track.{covers, sum_of, IsEntered};
+
+use crate::connect::sums::add;
+use crate::track::name_table::NameTable;
+use std::alloc::Global;
+use std::collections::BTreeMap;
+use std::hash::RandomState;
+use tally_records::{Key, Memory, Name};
+
+/// The sums of the lengths of a host's ended sessions: of all, and of each user.
+#[derive(Drop)]
+pub(crate) struct EndedSums {
+    pub(crate) all: u64,
+    pub(crate) users: NameTable,
+}
+
+impl EndedSums {
+    /// No session has ended.
+    pub(crate) fn new(alloc: Global, keys: RandomState) -> EndedSums
+        ensures { (who : Option (List ℕ)) → sum_of result who ≡ 0 }
+    {
+        EndedSums {
+            all: 0,
+            users: NameTable::new(alloc, keys),
+        }
+    }
+
+    /// The sum of all users, or of one.
+    pub(crate) fn of(&self, who: &Option<Key>) -> u64
+        ensures { result ≡ sum_of self.now who.now }
+    {
+        match who {
+            Some(user) => self.users.get(user).unwrap_or(0),
+            None => self.all,
+        }
+    }
+
+    /// Makes room for as many users more.
+    pub(crate) fn reserve(&mut self, count: usize) -> Result<(), Memory>
+        ensures all { self.new.all ≡ self.old.all }
+        ensures users { self.new.users.entries ≡ self.old.users.entries }
+        ensures room { OnOk result (count ≤ self.new.users.spare) }
+    {
+        self.users.reserve(count)?;
+        Ok(())
+    }
+
+    /// Enters a user, with no seconds if it is new.
+    pub(crate) fn enter(&mut self, user: Key)
+        requires { 0 < self.old.users.spare }
+        ensures sums { (who : Option (List ℕ)) → sum_of self.new who ≡ sum_of self.old who }
+        ensures kept { (name : List ℕ) → IsEntered self.old name → IsEntered self.new name }
+        ensures entered { IsEntered self.new user }
+        ensures room { self.old.users.spare ≤ self.new.users.spare + 1 }
+    {
+        if self.users.get(&user).is_none() {
+            self.users.set(user, 0);
+        }
+    }
+
+    /// Adds the length of a session of a user that was entered.
+    pub(crate) fn add(&mut self, user: Key, length: u32)
+        requires entered { IsEntered self.old user }
+        requires fits { (who : Option (List ℕ)) → sum_of self.old who < 2 ^ 63 }
+        ensures sums { (who : Option (List ℕ)) → sum_of self.new who ≡ sum_of self.old who + (if covers who user then length else 0) }
+        ensures kept { (name : List ℕ) → IsEntered self.old name → IsEntered self.new name }
+        ensures room { self.new.users.spare ≡ self.old.users.spare }
+    {
+        self.all += u64::from(length);
+        if let Some(sum) = self.users.get(&user) {
+            self.users.set(user, sum + u64::from(length));
+        }
+    }
+
+    /// Adds the sum of each user to another.
+    pub(crate) fn add_to(&self, sums: &mut BTreeMap<Name, u64>) -> Result<(), Memory>
+        requires { (user : List ℕ) → sum_at (slice_cmp nat_cmp) sums.old.entries user + sum_of self.now (Some user) < 2 ^ 64 }
+        ensures { OnOk result ((user : List ℕ) → sum_at (slice_cmp nat_cmp) sums.new.entries user
+            ≡ sum_at (slice_cmp nat_cmp) sums.old.entries user + sum_of self.now (Some user)) }
+    {
+        for place in 0..self.users.len() {
+            let (user, seconds) = self.users.pair_at(place);
+            add(sums, user, seconds)?;
+        }
+        Ok(())
+    }
+}

@@ -1,0 +1,202 @@
+//! Stays that have started, and what ends them.
+ghost use Rattle.std.specs.Prelude.{◌≡◌, ◌≤◌, ◌<◌, ◌+◌, ◌^◌, ℕ, List, Option, Some, true, length, map, slice_set, pos, neg_ℤ, ◌≤ℤ◌};
+ghost use Rattle.tally_records.specs.Event.{event_of};
+ghost use Rattle.tally_records.specs.declared.login.Event.TheVariants.{Login};
+ghost use Rattle.tally_sessions.specs.declared.track.ending.Ending.{Ending as Ended};
+ghost use Rattle.tally_sessions.specs.inside.Entries.{entry_at};
+ghost use Rattle.tally_sessions.specs.Stays.{ends_stay};
+ghost use Rattle.tally_sessions.specs.inside.Track as spec;
+
+use crate::entries::list::EntryList;
+use crate::entry::End;
+use crate::sessions::ENTRY_LIMIT;
+use crate::track::ended::EndedSums;
+use crate::track::name_table::NameTable;
+use crate::track::rules::{begin_of, end_at, ends_every, ends_line, is_login, seconds_between};
+use tally_records::Event;
+
+/// The end of a stay, and what follows from it.
+#[derive(Clone, Copy)]
+pub(crate) struct Ending {
+    pub(crate) begin: i32,
+    pub(crate) end: End,
+    pub(crate) end_time: i32,
+    pub(crate) length: u32,
+}
+
+/// A stay that has started.
+#[derive(Clone, Copy)]
+pub(crate) struct TrackedStay {
+    /// By how much the clock of its host had moved at its start.
+    pub(crate) clock_at: i64,
+    pub(crate) ended: Option<Ending>,
+    /// The place of the entry that started it.
+    pub(crate) entry: u32,
+}
+
+/// The end of a stay at an event, where the clock moved so far between its start and this.
+fn ending_at(start: i32, moved: i64, by_time: i32, event: Event) -> Ending
+    requires low { neg_ℤ (pos (2 ^ 62)) ≤ℤ moved }
+    requires high { moved ≤ℤ pos (2 ^ 62) }
+    ensures value { result ≡ spec.ending_at start moved by_time event }
+    ensures fits { result.length < 2 ^ 32 }
+{
+    let begin = begin_of(start, moved);
+    Ending {
+        begin,
+        end: end_at(event),
+        end_time: by_time,
+        length: seconds_between(begin, by_time) as u32,
+    }
+}
+
+/// The end of a pending stay as it stands at a time, where the clock moved so far since its start.
+pub(crate) fn still(start: i32, moved: i64, time: i32) -> Ending
+    requires low { neg_ℤ (pos (2 ^ 62)) ≤ℤ moved }
+    requires high { moved ≤ℤ pos (2 ^ 62) }
+    ensures { result ≡ spec.still_at start moved time }
+{
+    let begin = begin_of(start, moved);
+    Ending {
+        begin,
+        end: End::Still,
+        end_time: time,
+        length: seconds_between(begin, time) as u32,
+    }
+}
+
+/// A stay after a record that ends it, if it is pending.
+fn ended_by(
+    stay: TrackedStay,
+    entries: &EntryList,
+    clock: i64,
+    at: usize,
+    event: Event,
+) -> TrackedStay
+    requires placed { stay.entry < length entries.now }
+    requires at_in { at < length entries.now }
+    requires before { spec.IsWithin ENTRY_LIMIT stay.clock_at }
+    requires now { spec.IsWithin ENTRY_LIMIT clock }
+    requires told { event ≡ event_of (entry_at entries.now at).item }
+    requires ends { ends_stay (spec.start_of entries.now stay) (entry_at entries.now at).item ≡ true }
+    ensures value { result ≡ spec.after entries.now clock (entry_at entries.now at).item stay }
+    ensures fits { spec.LengthFits stay → spec.LengthFits result }
+{
+    if stay.ended.is_some() {
+        return stay;
+    }
+    let start = entries.time(stay.entry as usize);
+    let ended = Some(ending_at(start, clock - stay.clock_at, entries.time(at), event));
+    TrackedStay { ended, ..stay }
+}
+
+/// Counts the length of a login's stay that goes from one state to the next, where it has ended.
+fn count(sums: &mut EndedSums, entries: &EntryList, before: TrackedStay, after: TrackedStay)
+    requires placed { before.entry < length entries.now }
+    requires entered { event_of (spec.start_of entries.now before) ≡ Login → spec.IsEntered sums.old (spec.start_of entries.now before).user }
+    requires room { (who : Option (List ℕ)) → spec.sum_of sums.old who < 2 ^ 63 }
+    requires keeps { (e : Ended) → before.ended ≡ Some e → after.ended ≡ Some e }
+    ensures sums { (who : Option (List ℕ)) → spec.sum_of sums.new who + spec.ended_length who entries.now before
+        ≡ spec.sum_of sums.old who + spec.ended_length who entries.now (record before { ended = after.ended }) }
+    ensures kept { (name : List ℕ) → spec.IsEntered sums.old name → spec.IsEntered sums.new name }
+    ensures spare { sums.new.users.spare ≡ sums.old.users.spare }
+{
+    if before.ended.is_some() {
+        return;
+    }
+    if let Some(ending) = after.ended {
+        if is_login(entries.event(before.entry as usize)) {
+            sums.add(entries.user_key(before.entry as usize), ending.length);
+        }
+    }
+}
+
+/// Ends the stay at a place, if it is pending.
+fn end_stay(
+    stays: &mut [TrackedStay],
+    sums: &mut EndedSums,
+    i: usize,
+    entries: &EntryList,
+    clock: i64,
+    at: usize,
+    event: Event,
+)
+    requires i_in { i < length stays.old }
+    requires few { length stays.old ≤ ENTRY_LIMIT }
+    requires placed { (spec.stay_at stays.old i).entry < length entries.now }
+    requires at_in { at < length entries.now }
+    requires before { spec.IsWithin ENTRY_LIMIT (spec.stay_at stays.old i).clock_at }
+    requires now { spec.IsWithin ENTRY_LIMIT clock }
+    requires told { event ≡ event_of (entry_at entries.now at).item }
+    requires ends { ends_stay (spec.start_of entries.now (spec.stay_at stays.old i)) (entry_at entries.now at).item ≡ true }
+    requires sums { spec.HasSums entries.now sums.old stays.old }
+    ensures stays { stays.new ≡ slice_set stays.old i (spec.after entries.now clock (entry_at entries.now at).item (spec.stay_at stays.old i)) }
+    ensures sums { spec.HasSums entries.now sums.new stays.new }
+    ensures spare { sums.new.users.spare ≡ sums.old.users.spare }
+{
+    let before = stays[i];
+    let after = ended_by(before, entries, clock, at, event);
+    count(sums, entries, before, after);
+    stays[i] = after;
+}
+
+/// Ends each pending stay from a place on. Those before it have ended.
+fn sweep(
+    stays: &mut [TrackedStay],
+    sums: &mut EndedSums,
+    from: usize,
+    entries: &EntryList,
+    clock: i64,
+    at: usize,
+    event: Event,
+)
+    requires from_in { from ≤ length stays.old }
+    requires few { length stays.old ≤ ENTRY_LIMIT }
+    requires placed { spec.ArePlaced (length entries.now) stays.old }
+    requires at_in { at < length entries.now }
+    requires now { spec.IsWithin ENTRY_LIMIT clock }
+    requires told { event ≡ event_of (entry_at entries.now at).item }
+    requires ends { (k : ℕ) → k < length stays.old → ends_stay (spec.start_of entries.now (spec.stay_at stays.old k)) (entry_at entries.now at).item ≡ true }
+    requires ended { (k : ℕ) → k < from → spec.after entries.now clock (entry_at entries.now at).item (spec.stay_at stays.old k) ≡ spec.stay_at stays.old k }
+    requires sums { spec.HasSums entries.now sums.old stays.old }
+    ensures stays { stays.new ≡ map (spec.after entries.now clock (entry_at entries.now at).item) stays.old }
+    ensures sums { spec.HasSums entries.now sums.new stays.new }
+    ensures spare { sums.new.users.spare ≡ sums.old.users.spare }
+{
+    for i in from..stays.len() {
+        end_stay(stays, sums, i, entries, clock, at, event);
+    }
+}
+
+/// Ends the pending stays that the entry at a place ends.
+pub(crate) fn end_pending(
+    stays: &mut [TrackedStay],
+    sums: &mut EndedSums,
+    swept: usize,
+    lines: &NameTable,
+    entries: &EntryList,
+    at: usize,
+    clock: i64,
+    event: Event,
+)
+    requires swept_in { swept ≤ length stays.old }
+    requires at_in { at < length entries.now }
+    requires few { length entries.now ≤ ENTRY_LIMIT }
+    requires few_stays { length stays.old ≤ ENTRY_LIMIT }
+    requires tracked { spec.AreTracked entries.now at lines.now.entries swept stays.old }
+    requires now { spec.IsWithin ENTRY_LIMIT clock }
+    requires told { event ≡ event_of (entry_at entries.now at).item }
+    requires sums { spec.HasSums entries.now sums.old stays.old }
+    ensures stays { stays.new ≡ map (spec.after entries.now clock (entry_at entries.now at).item) stays.old }
+    ensures sums { spec.HasSums entries.now sums.new stays.new }
+    ensures spare { sums.new.users.spare ≡ sums.old.users.spare }
+{
+    if ends_every(event) {
+        sweep(stays, sums, swept, entries, clock, at, event);
+    } else if ends_line(event) {
+        let line = entries.line_key(at);
+        if let Some(i) = lines.get(&line) {
+            end_stay(stays, sums, i as usize, entries, clock, at, event);
+        }
+    }
+}

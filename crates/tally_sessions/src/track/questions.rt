@@ -1,0 +1,187 @@
+//! What the track of a host answers.
+ghost use Rattle.std.specs.Prelude.{◌≡◌, ◌≤◌, ◌<◌, ◌+◌, ◌*◌, ◌^◌, [], ◌∷◌, All, IfNone, IfSome, IfOk, length, reverse, take, unwrap_or, vec_len};
+ghost use Rattle.tally_sessions.specs.Hosts.{of_host};
+ghost use Rattle.tally_sessions.specs.Lent.{entries_in};
+ghost use Rattle.tally_sessions.specs.Sums.{sessions_among};
+ghost use Rattle.tally_sessions.specs.inside.Totals.{seconds_of};
+ghost use Rattle.tally_sessions.specs.Totals.{stays_of};
+ghost use Rattle.tally_sessions.specs.inside.Track as spec;
+
+use crate::connect::sums::Session;
+use crate::entries::Entries;
+use crate::entry::Stay;
+use crate::sessions::ENTRY_LIMIT;
+use crate::track::Track;
+use crate::track::ending::{Ending, TrackedStay, still};
+use crate::track::rules::{is_boot, is_counted, is_login};
+use std::alloc::Global;
+use tally_records::{Key, List, LoginRecord, Memory};
+
+impl Track {
+    /// Up to when pending stays are counted: a moment, or else the time of the last record.
+    pub(crate) fn time_now(&self, until: Option<i32>) -> i32
+        ensures { result ≡ unwrap_or until self.now.last }
+    {
+        until.unwrap_or(self.last)
+    }
+
+    /// The end of a stay as it stands at a time.
+    fn ending(&self, entries: Entries<'_>, stay: TrackedStay, time: i32) -> Ending
+        requires placed { stay.entry < length (entries_in entries) }
+        requires before { spec.IsWithin ENTRY_LIMIT stay.clock_at }
+        requires now { spec.IsWithin ENTRY_LIMIT self.now.clock }
+        ensures value { result ≡ spec.ending_now (entries_in entries.entry) self.now.clock time stay }
+        ensures fits { result.length < 2 ^ 32 }
+    {
+        match stay.ended {
+            Some(ended) => ended,
+            None => {
+                let start = entries.time(stay.entry as usize);
+                still(start, self.clock - stay.clock_at, time)
+            }
+        }
+    }
+
+    /// A stay as it stands at a time.
+    fn stay(&self, host: u32, entries: Entries<'_>, i: usize, time: i32) -> Stay
+        requires i_in { i < vec_len self.now.stays }
+        requires placed { spec.ArePlaced (length (entries_in entries)) self.now.stays.items }
+        requires now { spec.IsWithin ENTRY_LIMIT self.now.clock }
+        ensures value { result ≡ spec.stay_now host (entries_in entries.entry) self.now.clock time (spec.stay_at self.now.stays.items i) }
+        ensures fits { result.length < 2 ^ 32 }
+    {
+        let stay = self.stays[i];
+        let LoginRecord {
+            kind: _,
+            line,
+            user,
+            remote,
+            time: start,
+        } = entries.record(stay.entry as usize);
+        let ending = self.ending(entries, stay, time);
+        Stay {
+            host,
+            is_boot: is_boot(entries.event(stay.entry as usize)),
+            user,
+            line,
+            remote,
+            start,
+            begin: ending.begin,
+            end: ending.end,
+            end_time: ending.end_time,
+            length: u64::from(ending.length),
+        }
+    }
+
+    /// The stays of the host, that of the latest record first, and no more than the limit.
+    pub(crate) fn latest(
+        &self,
+        alloc: Global,
+        host: u32,
+        entries: Entries<'_>,
+        limit: usize,
+        until: Option<i32>,
+    ) -> Result<List<Stay>, Memory>
+        requires few { length (entries_in entries) ≤ ENTRY_LIMIT }
+        requires track { spec.IsTrack host (entries_in entries) (length (entries_in entries)) self.now }
+        ensures value { IfOk result (λ found. found ≡ take limit (reverse (stays_of host (entries_in entries.entry) until))) }
+        ensures lengths { IfOk result (All (λ s. s.length < 2 ^ 32)) }
+    {
+        let time = self.time_now(until);
+        let mut i = self.stays.len();
+        let mut found = Vec::with_capacity(alloc, limit.min(i))?;
+        while i > 0 && found.len() < limit {
+            i -= 1;
+            found.push(self.stay(host, entries, i, time))?;
+        }
+        List::from_vec(alloc, found)
+    }
+
+    /// The session at a time that the stay at a place is, unless it is a boot's.
+    pub(crate) fn session_at(
+        &self,
+        host: u32,
+        entries: Entries<'_>,
+        i: usize,
+        time: i32,
+    ) -> Option<Session>
+        requires i_in { i < vec_len self.now.stays }
+        requires few { length (entries_in entries) ≤ ENTRY_LIMIT }
+        requires track { spec.IsTrack host (entries_in entries) (length (entries_in entries)) self.now }
+        ensures session { IfSome result (λ s. sessions_among (spec.stay_now host (entries_in entries.entry) self.now.clock time (spec.stay_at self.now.stays.items i) ∷ []) ≡ s ∷ []) }
+        ensures none { IfNone result (sessions_among (spec.stay_now host (entries_in entries.entry) self.now.clock time (spec.stay_at self.now.stays.items i) ∷ []) ≡ []) }
+    {
+        let stay = self.stays[i];
+        let at = stay.entry as usize;
+        if !is_login(entries.event(at)) {
+            return None;
+        }
+        let ending = self.ending(entries, stay, time);
+        Some(Session {
+            user: entries.user(at),
+            begin: ending.begin,
+            end_time: ending.end_time,
+        })
+    }
+
+    /// The length at a time of the stay at a place, where it is a pending session of those.
+    pub(crate) fn pending_length(
+        &self,
+        entries: Entries<'_>,
+        i: usize,
+        time: i32,
+        who: &Option<Key>,
+    ) -> u64
+        requires i_in { i < vec_len self.now.stays }
+        requires few { length (entries_in entries) ≤ ENTRY_LIMIT }
+        requires placed { spec.ArePlaced (length (entries_in entries)) self.now.stays.items }
+        requires now { spec.IsWithin ENTRY_LIMIT self.now.clock }
+        ensures { result ≡ spec.pending_length who.now (entries_in entries.entry) self.now.clock time (spec.stay_at self.now.stays.items i) }
+    {
+        let stay = self.stays[i];
+        let at = stay.entry as usize;
+        if stay.ended.is_some() || !is_counted(entries, at, who) {
+            return 0;
+        }
+        let start = entries.time(at);
+        u64::from(still(start, self.clock - stay.clock_at, time).length)
+    }
+
+    /// The lengths of the host's pending sessions, each the latest login on its line.
+    fn pending_seconds(
+        &self,
+        host: u32,
+        entries: Entries<'_>,
+        who: &Option<Key>,
+        until: Option<i32>,
+    ) -> u64
+        requires few { length (entries_in entries) ≤ ENTRY_LIMIT }
+        requires track { spec.IsTrack host (entries_in entries) (length (entries_in entries)) self.now }
+        ensures value { result ≡ spec.pending_sum who.now (entries_in entries.entry) self.now.clock (unwrap_or until self.now.last) self.now.stays.items }
+        ensures fits { spec.ended_sum who.now (entries_in entries.entry) self.now.stays.items + result ≤ vec_len self.now.stays * 4294967295 }
+    {
+        let time = self.time_now(until);
+        let mut seconds = 0;
+        for k in 0..self.lines.len() {
+            let i = self.lines.number_at(k) as usize;
+            seconds += self.pending_length(entries, i, time, who);
+        }
+        seconds
+    }
+
+    /// The lengths of the host's sessions, of all users or of one.
+    pub(crate) fn seconds(
+        &self,
+        host: u32,
+        entries: Entries<'_>,
+        who: &Option<Key>,
+        until: Option<i32>,
+    ) -> u64
+        requires few { length (entries_in entries) ≤ ENTRY_LIMIT }
+        requires track { spec.IsTrack host (entries_in entries) (length (entries_in entries)) self.now }
+        ensures value { result ≡ seconds_of who.now (stays_of host (entries_in entries.entry) until) }
+        ensures fits { result ≤ 4294967295 * length (of_host host (entries_in entries.entry)) }
+    {
+        self.sums.of(who) + self.pending_seconds(host, entries, who, until)
+    }
+}
