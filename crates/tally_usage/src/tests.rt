@@ -166,7 +166,14 @@ fn expect_commands(
 #[test]
 fn a_command_of_one_run_is_joined_to_the_others(rt: HostRuntime) -> Result<(), Fail> {
     let summary = summary_of(&rt, rt.alloc(), RandomState::new(&rt)?, &makes())?;
-    expect_commands(&rt, rt.alloc(), &summary, Order::Cpu, [false, false], &joined())
+    expect_commands(
+        &rt,
+        rt.alloc(),
+        &summary,
+        Order::Cpu,
+        [false, false],
+        &joined(),
+    )
 }
 
 #[test]
@@ -174,7 +181,14 @@ fn the_command_of_most_calls_comes_first(rt: HostRuntime) -> Result<(), Fail> {
     let [executed, forked] = joined();
     let rows = [forked, executed];
     let summary = summary_of(&rt, rt.alloc(), RandomState::new(&rt)?, &makes())?;
-    expect_commands(&rt, rt.alloc(), &summary, Order::Calls, [false, false], &rows)
+    expect_commands(
+        &rt,
+        rt.alloc(),
+        &summary,
+        Order::Calls,
+        [false, false],
+        &rows,
+    )
 }
 
 #[test]
