@@ -1,4 +1,4 @@
-ghost use Rattle.std.specs.Prelude.{◌≡◌, ◌+◌, ◌-◌, ◌^◌, ◌<◌, ◌++◌, All, IfSome, IsTrue, OnOk};
+ghost use Rattle.std.specs.Prelude.{◌≡◌, ◌+◌, ◌-◌, ◌^◌, ◌<◌, ◌++◌, All, IfSome, IsTrue, None, OnOk};
 ghost use Rattle.tally_book.specs.Answers.{HasDay};
 ghost use Rattle.tally_sessions.specs.Days.{IsDay};
 ghost use Rattle.tally_print.specs.Output.{AppendsPrefix, failed_calls};
@@ -47,6 +47,19 @@ fn push_row(line: &mut Vec<u8>, row: &ConnectRow) -> Result<(), AllocError>
     Ok(())
 }
 
+/// Appends the line of the total.
+fn push_total(line: &mut Vec<u8>, total: u64) -> Result<(), AllocError>
+    ensures { OnOk result (line.new.items
+        ≡ line.old.items ++ connect_line (record { day = None; user = None; seconds = total })) }
+{
+    let total = ConnectRow {
+        day: None,
+        user: None,
+        seconds: total,
+    };
+    push_row(line, &total)
+}
+
 /// The line of a connect time.
 struct ConnectLine;
 
@@ -79,11 +92,6 @@ pub fn print_connect<O: Output>(
 {
     let mut page = new_page(alloc)?;
     put_lines(&mut page, &ConnectLine, rows, out)?;
-    let total = ConnectRow {
-        day: None,
-        user: None,
-        seconds: total,
-    };
-    push_row(&mut page, &total)?;
+    push_total(&mut page, total)?;
     put_all(page.as_slice(), out)
 }

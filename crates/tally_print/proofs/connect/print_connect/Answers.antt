@@ -7,8 +7,8 @@ pub returns-in_err-put_lines-clause-prefix : goal.returns-in_err-put_lines-claus
 returns-in_err-put_lines-clause-prefix g c = λ tells.
     prefix_longer _ _ _ _ (rw c.in_ok-page.ensures at (c.put_lines.ensures.prefix tells))
 
-pub returns-in_err-push_row-clause-prefix : goal.returns-in_err-push_row-clause-prefix
-returns-in_err-push_row-clause-prefix g c = λ tells.
+pub returns-in_err-push_total-clause-prefix : goal.returns-in_err-push_total-clause-prefix
+returns-in_err-push_total-clause-prefix g c = λ tells.
     prefix_longer _ _ _ _ (rw c.in_ok-page.ensures at (c.put_lines.ensures.prefix tells))
 
 pub returns-clause-prefix : goal.returns-clause-prefix
@@ -18,7 +18,7 @@ returns-clause-prefix g c = λ tells.
     let begun = rw c.in_ok-page.ensures at (lines.prefix tells) in
     let whole = rw c.in_ok-page.ensures at (lines.ok tells) in
     let put = rw c.as_slice.ensures.value at (c.put_all.ensures.prefix told) in
-    prefix_from_page _ _ _ _ _ (prefix_longer _ _ _ _ begun) (page_ends _ _ _ _ _ _ whole c.in_ok-push_row.ensures) put
+    prefix_from_page _ _ _ _ _ (prefix_longer _ _ _ _ begun) (page_ends _ _ _ _ _ _ whole c.in_ok-push_total.ensures) put
 
 pub returns-clause-ok : goal.returns-clause-ok
 returns-clause-ok g c =
@@ -26,4 +26,4 @@ returns-clause-ok g c =
     IfOk-weaker c.put_all.result _ _ (λ done written tells.
     let told : IsTrue (g.O.Output.tells c.put_lines.new.out) = rw lines.stays tells in
     let whole = rw c.in_ok-page.ensures at (lines.ok tells) in
-    rw c.as_slice.ensures.value at (written told) ∙ page_ends _ _ _ _ _ _ whole c.in_ok-push_row.ensures) c.put_all.ensures.ok
+    rw c.as_slice.ensures.value at (written told) ∙ page_ends _ _ _ _ _ _ whole c.in_ok-push_total.ensures) c.put_all.ensures.ok
