@@ -82,42 +82,42 @@ grown id k book after fit more longer' legal = record {
 }
 
 module _ (id : TableId) (k : Known) (sound : IsSound k) (book : Contents) (fit : Fits book k) where
-  pub posted_pass : (number : ℕ) (batch : Records) (m : Sat) (result : Result Receipt PostFault) → number ≡ k.number → IsLegal book
-      → MatchResult result (λ r. (m ≡ idle (knowing (posted book number batch) k)) × IsLegal (posted book number batch) × IsReceipt book (posted book number batch) r) (λ e. (m ≡ idle (knowing book k)) × IsPostRefusal (counts_of book) (length book.calls) batch e)
-      → (k' : Known) × (m ≡ idle k') × (number ≡ k'.number) × IsSound k' × PostTells batch result (pass_of id k) (pass_of id k')
-  posted_pass number batch m (Ok r) own legal h =
-      let after : Contents = posted book number batch in
-      let next : IsNext k.number book after = posted_next book number k.number batch own h.1 in
+  pub posted_pass : (batch : Records) (m : Sat) (result : Result Receipt PostFault) → IsLegal book
+      → MatchResult result (λ r. (m ≡ idle (knowing (posted book k.number batch) k)) × IsLegal (posted book k.number batch) × IsReceipt book (posted book k.number batch) r) (λ e. (m ≡ idle (knowing book k)) × IsPostRefusal (counts_of book) (length book.calls) batch e)
+      → (k' : Known) × (m ≡ idle k') × (k.number ≡ k'.number) × IsSound k' × PostTells batch result (pass_of id k) (pass_of id k')
+  posted_pass batch m (Ok r) legal h =
+      let after : Contents = posted book k.number batch in
+      let next : IsNext k.number book after = posted_next book k.number k.number batch refl h.1 in
       let more : Follows book after = follows_next k.number book after next in
       let receipt = h.2 in
-      let logins : length (book.logins ++ posted_by number (logins_in batch)) ≡ length book.logins + length (logins_in batch) = length-append book.logins (posted_by number (logins_in batch)) ∙ ap (λ n. length book.logins + n) (length-map (logins_in batch) _) in
-      let procs : length (book.procs ++ entries_of number (procs_in batch)) ≡ length book.procs + length (procs_in batch) = length-append book.procs (entries_of number (procs_in batch)) ∙ ap (λ n. length book.procs + n) (length-map (procs_in batch) _) in
+      let logins : length (book.logins ++ posted_by k.number (logins_in batch)) ≡ length book.logins + length (logins_in batch) = length-append book.logins (posted_by k.number (logins_in batch)) ∙ ap (λ n. length book.logins + n) (length-map (logins_in batch) _) in
+      let procs : length (book.procs ++ entries_of k.number (procs_in batch)) ≡ length book.procs + length (procs_in batch) = length-append book.procs (entries_of k.number (procs_in batch)) ∙ ap (λ n. length book.procs + n) (length-map (procs_in batch) _) in
       let counts : counts_with book batch ≡ counts_of after = λ i. record { logins = sym logins i; procs = sym procs i } in
       let ends : counts_with book batch ≡ r.after = counts ∙ sym receipt.after in
-      let call : Posted number (counts_of book) (counts_with book batch) ≡ Posted k.number r.before r.after = λ i. Posted (own i) (sym receipt.before i) (ends i) in
+      let call : Posted k.number (counts_of book) (counts_with book batch) ≡ Posted k.number r.before r.after = λ i. Posted k.number (sym receipt.before i) (ends i) in
       let made : after.calls ≡ book.calls ++ Posted k.number r.before r.after ∷ [] = ap (λ c. book.calls ++ c ∷ []) call in (
         knowing after k,
         h.0,
-        own,
+        refl,
         knowing_sound after k sound (follows_trans k.seen book after fit.seen more) h.1,
         record {
           grows = grown id k book after fit more (omega (arith, longer book.calls after.calls _ made)) h.1;
           current = record { told = refl; own = refl };
           answered = answered id k book after (Posted k.number r.before r.after) r.call fit made refl receipt.call;
           stored = record {
-            logins = λ i. sym (take_at book.logins (posted_by number (logins_in batch)) r.before.logins (ap (λ (n : Counts). n.logins) (sym receipt.before))) i ++ posted_by (own i) (logins_in batch);
-            procs = λ i. sym (take_at book.procs (entries_of number (procs_in batch)) r.before.procs (ap (λ (n : Counts). n.procs) (sym receipt.before))) i ++ entries_of (own i) (procs_in batch);
+            logins = λ i. sym (take_at book.logins (posted_by k.number (logins_in batch)) r.before.logins (ap (λ (n : Counts). n.logins) (sym receipt.before))) i ++ posted_by k.number (logins_in batch);
+            procs = λ i. sym (take_at book.procs (entries_of k.number (procs_in batch)) r.before.procs (ap (λ (n : Counts). n.procs) (sym receipt.before))) i ++ entries_of k.number (procs_in batch);
           };
           after = receipt.after;
           refused = tt;
           cause = tt;
-          did = done_more k book after (Posted k.number r.before r.after) (Post (logins_in batch) (procs_in batch)) sound fit (follows_trans k.seen book after fit.seen more) made refl (done_post book k.number number batch r.before r.after receipt.before receipt.after);
+          did = done_more k book after (Posted k.number r.before r.after) (Post (logins_in batch) (procs_in batch)) sound fit (follows_trans k.seen book after fit.seen more) made refl (done_post book k.number k.number batch r.before r.after receipt.before receipt.after);
         },
       )
-  posted_pass number batch m (Err e) own legal h = (
+  posted_pass batch m (Err e) legal h = (
     knowing book k,
     h.0,
-    own,
+    refl,
     knowing_sound book k sound fit.seen legal,
     record {
       grows = record { desk = refl; number = refl; seen = fit.seen; legal = legal; told = fit.told };
@@ -131,19 +131,19 @@ module _ (id : TableId) (k : Known) (sound : IsSound k) (book : Contents) (fit :
     },
   )
 
-  pub asked_pass : (number : ℕ) (question : Question) (m : Sat) (result : Result Served AskFault) → number ≡ k.number → IsLegal book
-      → MatchResult result (λ r. (m ≡ idle (knowing (asked book number question) k)) × IsLegal (asked book number question) × IsServed book (asked book number question) question r) (λ e. (m ≡ idle (knowing book k)) × IsAskRefusal book.callers (length book.calls) question e)
-      → (k' : Known) × (m ≡ idle k') × (number ≡ k'.number) × IsSound k' × AskTells question result (pass_of id k) (pass_of id k')
-  asked_pass number question m (Ok r) own legal h =
-      let after : Contents = asked book number question in
-      let next : IsNext k.number book after = asked_next book number k.number question own h.1 in
+  pub asked_pass : (question : Question) (m : Sat) (result : Result Served AskFault) → IsLegal book
+      → MatchResult result (λ r. (m ≡ idle (knowing (asked book k.number question) k)) × IsLegal (asked book k.number question) × IsServed book (asked book k.number question) question r) (λ e. (m ≡ idle (knowing book k)) × IsAskRefusal book.callers (length book.calls) question e)
+      → (k' : Known) × (m ≡ idle k') × (k.number ≡ k'.number) × IsSound k' × AskTells question result (pass_of id k) (pass_of id k')
+  asked_pass question m (Ok r) legal h =
+      let after : Contents = asked book k.number question in
+      let next : IsNext k.number book after = asked_next book k.number k.number question refl h.1 in
       let more : Follows book after = follows_next k.number book after next in
       let served = h.2 in
-      let call : Asked number (counts_of book) question (answer_of question book.logins book.procs) ≡ Asked k.number r.at question r.answer = λ i. Asked (own i) (sym served.at i) question (sym served.answer i) in
+      let call : Asked k.number (counts_of book) question (answer_of question book.logins book.procs) ≡ Asked k.number r.at question r.answer = λ i. Asked k.number (sym served.at i) question (sym served.answer i) in
       let made : after.calls ≡ book.calls ++ Asked k.number r.at question r.answer ∷ [] = ap (λ c. book.calls ++ c ∷ []) call in (
         knowing after k,
         h.0,
-        own,
+        refl,
         knowing_sound after k sound (follows_trans k.seen book after fit.seen more) h.1,
         record {
           grows = grown id k book after fit more (omega (arith, longer book.calls after.calls _ made)) h.1;
@@ -156,10 +156,10 @@ module _ (id : TableId) (k : Known) (sound : IsSound k) (book : Contents) (fit :
           did = done_more k book after (Asked k.number r.at question r.answer) (Ask question) sound fit (follows_trans k.seen book after fit.seen more) made refl refl;
         },
       )
-  asked_pass number question m (Err e) own legal h = (
+  asked_pass question m (Err e) legal h = (
     knowing book k,
     h.0,
-    own,
+    refl,
     knowing_sound book k sound fit.seen legal,
     record {
       grows = record { desk = refl; number = refl; seen = fit.seen; legal = legal; told = fit.told };

@@ -1,5 +1,5 @@
 -- The table as it begins, and as seats are dealt, gathered and closed.
-use Rattle.std.proofs.Common.{◌≡◌, ℕ, suc, zero, ◌+◌, ◌≤◌, ◌≢◌, List, [], ◌∷◌, ◌++◌, length, set, sym, refl, ap, ◌∙◌, subst, inl, inr, ⊎_elim, arith}
+use Rattle.std.proofs.Common.{◌≡◌, ℕ, suc, zero, ◌+◌, ◌≤◌, ◌≢◌, List, [], ◌∷◌, ◌++◌, length, map, get_or, set, sym, refl, ap, ◌∙◌, subst, inl, inr, ⊎_elim, arith}
 use mathlib.Core.Option.{some, some-injective, some-ne-none}
 use lib.ListN.{get_elem?}
 use Rattle.atomic_table.specs.Table.{State, opening, Splits, Joins, Final, Seen}
@@ -14,9 +14,13 @@ use Rattle.tally_desk.specs.inside.Totals.{total, below}
 use Rattle.tally_desk.specs.inside.Views.{view, AllFit, newcomers, opening_view, dealt, kept, joined, spent, ticket_weight, number_weight, calls_made}
 use Rattle.tally_desk.specs.inside.Rule.{Orderly, Knows}
 use Rattle.tally_desk.specs.Passes.{Sat}
-use Rattle.tally_desk.specs.inside.Seats.{standing}
+use Rattle.tally_desk.specs.inside.Seats.{idle, standing}
 use Rattle.tally_desk.proofs.Totals.{total-append, total-set, terms_le, below-one, total-one, total_alone}
 use Rattle.tally_desk.proofs.Histories.{follows_self}
+
+-- a seat has one caller's number
+pub same_number : (k k' : Known) → idle k ≡ idle k' → k.number ≡ k'.number
+same_number k k' e = ap (λ (m : Sat). get_or (map (λ (x : Known). x.number) m.0.known) 0 0) e
 
 newcomers_fit : (callers number n : ℕ) → AllFit (empty callers) (newcomers callers number n)
 newcomers_fit callers number zero = tt

@@ -251,7 +251,7 @@ impl TicketLock {
         ensures table { seat.new.table_id ≡ seat.old.table_id }
         ensures posted { (k : Known) → seat.old.me ≡ idle k
             → (book : Contents) × Fits book k × IsLegal book × MatchResult result
-            (λ r. (seat.new.me ≡ idle (knowing (posted book number batch.now) k)) × IsLegal (posted book number batch.now) × IsReceipt book (posted book number batch.now) r)
+            (λ r. (seat.new.me ≡ idle (knowing (posted book k.number batch.now) k)) × IsLegal (posted book k.number batch.now) × IsReceipt book (posted book k.number batch.now) r)
             (λ e. (seat.new.me ≡ idle (knowing book k)) × IsPostRefusal (counts_of book) (length book.calls) batch.now e) }
     {
         self.enter(rt, seat);
@@ -283,7 +283,7 @@ impl TicketLock {
         ensures table { seat.new.table_id ≡ seat.old.table_id }
         ensures asked { (k : Known) → seat.old.me ≡ idle k
             → (book : Contents) × Fits book k × IsLegal book × MatchResult result
-            (λ r. (seat.new.me ≡ idle (knowing (asked book number question.now) k)) × IsLegal (asked book number question.now) × IsServed book (asked book number question.now) question.now r)
+            (λ r. (seat.new.me ≡ idle (knowing (asked book k.number question.now) k)) × IsLegal (asked book k.number question.now) × IsServed book (asked book k.number question.now) question.now r)
             (λ e. (seat.new.me ≡ idle (knowing book k)) × IsAskRefusal book.callers (length book.calls) question.now e) }
         ensures days { IfOk result (λ r. HasDays r.answer) }
     {

@@ -3,5 +3,6 @@
 mod desk;
 mod feeding;
 mod makers;
+mod readers;
 mod rounds;
 mod threads;

@@ -44,6 +44,11 @@ lines_of : {X : Type 0} (fields : X → Row) (rows : List X) → csv_text (map f
 lines_of fields [] = refl
 lines_of fields (x ∷ xs) = ap (λ (t : List ℕ). row_text default_writer (fields x) ++ t) (lines_of fields xs)
 
+-- an empty page, and then the lines of the rows
+pub rows_on_page : {X : Type 0} (fields : X → Row) (rows : List X) (page : List ℕ) → page ≡ [] → page ++ flat_map (λ x. row_text default_writer (fields x)) rows ≡ csv_text (map fields rows)
+rows_on_page fields rows page e =
+    ap (λ (t : List ℕ). t ++ flat_map (λ x. row_text default_writer (fields x)) rows) e ∙ sym (lines_of fields rows)
+
 -- a table before its first row
 pub rows_start : {X : Type 0} (fields : X → Row) (rows : List X) (tells : Bool) (old : List ℕ) (failures : ℕ) (page : List ℕ) → page ≡ [] → IsBefore (λ x. row_text default_writer (fields x)) rows [] (csv_text (map fields rows)) tells old failures tells old failures page 0
 rows_start fields rows tells old failures page e =

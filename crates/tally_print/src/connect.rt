@@ -1,4 +1,4 @@
-ghost use Rattle.std.specs.Prelude.{◌≡◌, ◌+◌, ◌-◌, ◌^◌, ◌<◌, ◌++◌, All, IfSome, IsTrue, OnOk};
+ghost use Rattle.std.specs.Prelude.{◌≡◌, ◌+◌, ◌-◌, ◌^◌, ◌<◌, ◌++◌, All, IfSome, IsTrue, None, OnOk};
 ghost use Rattle.tally_book.specs.Answers.{HasDay};
 ghost use Rattle.tally_sessions.specs.Days.{IsDay};
 ghost use Rattle.tally_print.specs.Output.{AppendsPrefix, failed_calls};
@@ -6,7 +6,8 @@ ghost use Rattle.tally_print.specs.Text.{left};
 ghost use Rattle.tally_print.specs.ConnectText.{day_column, user_column, connect_line, connect_text};
 
 use crate::date::push_date;
-use crate::put::{new_page, put_all, turn_page};
+use crate::lines::{Line, put_lines};
+use crate::put::{new_page, put_all};
 use crate::text::{push_left, push_left_shown, push_right_hours};
 use crate::{Output, PrintFault};
 use std::alloc::{AllocError, Global};
@@ -46,6 +47,32 @@ fn push_row(line: &mut Vec<u8>, row: &ConnectRow) -> Result<(), AllocError>
     Ok(())
 }
 
+/// Appends the line of the total.
+fn push_total(line: &mut Vec<u8>, total: u64) -> Result<(), AllocError>
+    ensures { OnOk result (line.new.items
+        ≡ line.old.items ++ connect_line (record { day = None; user = None; seconds = total })) }
+{
+    let total = ConnectRow {
+        day: None,
+        user: None,
+        seconds: total,
+    };
+    push_row(line, &total)
+}
+
+/// The line of a connect time.
+struct ConnectLine;
+
+impl Line<ConnectRow> for ConnectLine {
+    ghost prints = { HasDay };
+
+    ghost text = { λ _ row. connect_line row };
+
+    fn push(&self, page: &mut Vec<u8>, row: &ConnectRow) -> Result<(), AllocError> {
+        push_row(page, row)
+    }
+}
+
 /// Prints connect times as ac(1) does: a line for each row, then the total, in hours. `Write`
 /// is a failure of the output in this call; a first part of the text was written then.
 pub fn print_connect<O: Output>(
@@ -64,15 +91,7 @@ pub fn print_connect<O: Output>(
     ensures stays { O.tells out.new ≡ O.tells out.old }
 {
     let mut page = new_page(alloc)?;
-    for row in rows {
-        push_row(&mut page, row)?;
-        turn_page(&mut page, out)?;
-    }
-    let total = ConnectRow {
-        day: None,
-        user: None,
-        seconds: total,
-    };
-    push_row(&mut page, &total)?;
+    put_lines(&mut page, &ConnectLine, rows, out)?;
+    push_total(&mut page, total)?;
     put_all(page.as_slice(), out)
 }

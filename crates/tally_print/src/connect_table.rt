@@ -9,7 +9,8 @@ ghost use Rattle.tally_print.specs.Tables.{asked, csv_text};
 ghost use Rattle.tally_print.specs.inside.Tables.{before_last};
 
 use crate::fields::{push_date_field, push_number, push_shown_field};
-use crate::put::{new_page, put_all, turn_page};
+use crate::lines::{Line, print_lines};
+use crate::put::new_page;
 use crate::{Output, PrintFault};
 use std::alloc::{AllocError, Global};
 use tally_book::ConnectRow;
@@ -64,6 +65,23 @@ fn push_row(
     push_seconds(line, row)
 }
 
+/// The fields of a connect time that are asked for.
+#[derive(Drop)]
+struct ConnectFields {
+    by_day: bool,
+    by_user: bool,
+}
+
+impl Line<ConnectRow> for ConnectFields {
+    ghost prints = { HasDay };
+
+    ghost text = { λ asked row. row_text default_writer (connect_fields asked.by_day asked.by_user row) };
+
+    fn push(&self, page: &mut Vec<u8>, row: &ConnectRow) -> Result<(), AllocError> {
+        push_row(page, self.by_day, self.by_user, row)
+    }
+}
+
 /// The names of the columns that are asked for.
 #[tactic(auto, unfolding(crate::specs::ConnectTable::connect_header, csv::specs::Writing::fields_text, csv::specs::Writing::is_blank))]
 pub(crate) fn connect_header(by_day: bool, by_user: bool) -> &'static [u8]
@@ -95,10 +113,6 @@ pub(crate) fn print_connect_rows<O: Output>(
     ensures counts { O.failures out.new ≡ O.failures out.old + failed_calls result }
     ensures stays { O.tells out.new ≡ O.tells out.old }
 {
-    let mut page = new_page(alloc)?;
-    for row in rows {
-        push_row(&mut page, by_day, by_user, row)?;
-        turn_page(&mut page, out)?;
-    }
-    put_all(page.as_slice(), out)
+    let fields = ConnectFields { by_day, by_user };
+    print_lines(new_page(alloc)?, &fields, rows, out)
 }

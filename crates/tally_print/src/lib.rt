@@ -9,6 +9,7 @@ mod fields;
 mod kept;
 mod last;
 mod laws;
+mod lines;
 mod output;
 mod put;
 mod report_table;

@@ -3,8 +3,9 @@ ghost use Rattle.std.specs.Prelude.{◌≤◌, length};
 
 use crate::{Kept, PrintFault};
 use std::process::Abort;
-use tally_records::Name;
+use tally_records::{Comm, Name};
 use tally_sessions::{End, Stay};
+use tally_usage::{CommandRow, Usage};
 
 mod connect;
 mod last;
@@ -29,6 +30,20 @@ fn name(text: &[u8]) -> Name
     let mut name = [0; 32];
     name[..text.len()].copy_from_slice(text);
     name
+}
+
+/// What a command used: its name, and zeros after it.
+fn command(text: &[u8], forked: bool, other: bool, usage: Usage) -> CommandRow
+    requires { length text.now ≤ 17 }
+{
+    let mut name: Comm = [0; 17];
+    name[..text.len()].copy_from_slice(text);
+    CommandRow {
+        name,
+        forked,
+        other,
+        usage,
+    }
 }
 
 /// The stay of a login, whose clock nothing moved.

@@ -1,8 +1,9 @@
-ghost use Rattle.std.specs.Prelude.{◌≡◌, ◌+◌, ◌-◌, ◌^◌, ◌<◌, ◌++◌, IsTrue, OnOk, codes, if◌then◌else◌};
+ghost use Rattle.std.specs.Prelude.{◌≡◌, ◌+◌, ◌-◌, ◌^◌, ◌<◌, ◌++◌, IsTrue, OnOk, codes, if◌then◌else◌, ⊤};
 ghost use Rattle.tally_print.specs.Output.{AppendsPrefix, failed_calls};
 ghost use Rattle.tally_print.specs.UsageText.{average, columns, total_line, command_line, commands_text, named_total_line, user_line, users_text};
 
-use crate::put::{new_page, put_all, turn_page};
+use crate::lines::{Line, print_lines};
+use crate::put::new_page;
 use crate::text::{push_left, push_left_number, push_right_minutes, push_right_number, push_shown};
 use crate::{Output, PrintFault};
 use std::alloc::{AllocError, Global};
@@ -88,6 +89,32 @@ fn push_user(line: &mut Vec<u8>, row: &UidRow) -> Result<(), AllocError>
     Ok(())
 }
 
+/// The line of a command.
+struct CommandLine;
+
+impl Line<CommandRow> for CommandLine {
+    ghost prints = { λ _. ⊤ };
+
+    ghost text = { λ _ row. command_line row };
+
+    fn push(&self, page: &mut Vec<u8>, row: &CommandRow) -> Result<(), AllocError> {
+        push_command(page, row)
+    }
+}
+
+/// The line of a user.
+struct UserLine;
+
+impl Line<UidRow> for UserLine {
+    ghost prints = { λ _. ⊤ };
+
+    ghost text = { λ _ row. user_line row };
+
+    fn push(&self, page: &mut Vec<u8>, row: &UidRow) -> Result<(), AllocError> {
+        push_user(page, row)
+    }
+}
+
 /// Prints usage by command as sa(8) does: the total, then a line for each row. `Write` is a
 /// failure of the output in this call; a first part of the text was written then.
 pub fn print_commands<O: Output>(
@@ -106,11 +133,7 @@ pub fn print_commands<O: Output>(
 {
     let mut page = new_page(alloc)?;
     push_total(&mut page, total)?;
-    for row in rows {
-        push_command(&mut page, row)?;
-        turn_page(&mut page, out)?;
-    }
-    put_all(page.as_slice(), out)
+    print_lines(page, &CommandLine, rows, out)
 }
 
 /// Prints usage by user as sa(8) does with `-m`: the total, then a line for each row. `Write` is
@@ -131,9 +154,5 @@ pub fn print_users<O: Output>(
 {
     let mut page = new_page(alloc)?;
     push_named_total(&mut page, total)?;
-    for row in rows {
-        push_user(&mut page, row)?;
-        turn_page(&mut page, out)?;
-    }
-    put_all(page.as_slice(), out)
+    print_lines(page, &UserLine, rows, out)
 }

@@ -1,5 +1,5 @@
 //! Usage as CSV.
-ghost use Rattle.std.specs.Prelude.{◌≡◌, ◌+◌, ◌-◌, ◌^◌, ◌<◌, ◌++◌, ◌∷◌, [], IsTrue, OnOk, decimal, map};
+ghost use Rattle.std.specs.Prelude.{◌≡◌, ◌+◌, ◌-◌, ◌^◌, ◌<◌, ◌++◌, ◌∷◌, [], IsTrue, OnOk, decimal, map, ⊤};
 ghost use Rattle.csv.specs.Writing.{default_writer, field_text, row_text};
 ghost use Rattle.tally_print.specs.Output.{AppendsPrefix, failed_calls};
 ghost use Rattle.tally_print.specs.Tables.{csv_text};
@@ -7,7 +7,8 @@ ghost use Rattle.tally_print.specs.Text.{shown};
 ghost use Rattle.tally_print.specs.UsageTable.{command_fields, command_header, mark_field, user_fields, user_header};
 
 use crate::fields::{push_number, push_shown_field};
-use crate::put::{new_page, put_all, turn_page};
+use crate::lines::{Line, print_lines};
+use crate::put::new_page;
 use crate::{Output, PrintFault};
 use std::alloc::{AllocError, Global};
 use tally_usage::{CommandRow, UidRow, Usage};
@@ -93,6 +94,32 @@ pub(crate) fn user_header() -> &'static [u8]
     b"uid,calls,real_ticks,cpu_ticks,io,mem_cpu\n"
 }
 
+/// The fields of a command.
+struct CommandFields;
+
+impl Line<CommandRow> for CommandFields {
+    ghost prints = { λ _. ⊤ };
+
+    ghost text = { λ _ row. row_text default_writer (command_fields row) };
+
+    fn push(&self, page: &mut Vec<u8>, row: &CommandRow) -> Result<(), AllocError> {
+        push_command(page, row)
+    }
+}
+
+/// The fields of a user.
+struct UserFields;
+
+impl Line<UidRow> for UserFields {
+    ghost prints = { λ _. ⊤ };
+
+    ghost text = { λ _ row. row_text default_writer (user_fields row) };
+
+    fn push(&self, page: &mut Vec<u8>, row: &UidRow) -> Result<(), AllocError> {
+        push_user(page, row)
+    }
+}
+
 /// Prints a row for each command.
 pub(crate) fn print_command_rows<O: Output>(
     alloc: Global,
@@ -107,12 +134,7 @@ pub(crate) fn print_command_rows<O: Output>(
     ensures counts { O.failures out.new ≡ O.failures out.old + failed_calls result }
     ensures stays { O.tells out.new ≡ O.tells out.old }
 {
-    let mut page = new_page(alloc)?;
-    for row in rows {
-        push_command(&mut page, row)?;
-        turn_page(&mut page, out)?;
-    }
-    put_all(page.as_slice(), out)
+    print_lines(new_page(alloc)?, &CommandFields, rows, out)
 }
 
 /// Prints a row for each user.
@@ -129,10 +151,5 @@ pub(crate) fn print_user_rows<O: Output>(
     ensures counts { O.failures out.new ≡ O.failures out.old + failed_calls result }
     ensures stays { O.tells out.new ≡ O.tells out.old }
 {
-    let mut page = new_page(alloc)?;
-    for row in rows {
-        push_user(&mut page, row)?;
-        turn_page(&mut page, out)?;
-    }
-    put_all(page.as_slice(), out)
+    print_lines(new_page(alloc)?, &UserFields, rows, out)
 }

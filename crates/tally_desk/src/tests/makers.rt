@@ -61,6 +61,16 @@ impl Read for Trickle {
     }
 }
 
+/// Such a reader that is never interrupted and does not fail.
+pub(crate) fn steady(step: usize, left: usize) -> Trickle {
+    Trickle {
+        step,
+        left,
+        fails: false,
+        interrupts: 0,
+    }
+}
+
 /// A reader of twos, `left` in all, which fails when it is read after it has said that it is at its end.
 #[derive(Drop)]
 pub(crate) struct Once {

@@ -3,14 +3,14 @@ ghost use Rattle.std.specs.Prelude.{◌≡◌, ◌≤◌, ◌↔◌, All, IfOk, 
 ghost use Rattle.tally_book.specs.Answers.{HasDay, HasDays};
 ghost use Rattle.tally_sessions.specs.Days.{IsDay, IsOffset};
 
-use super::{boot, is_printed, login, name};
+use super::{boot, command, is_printed, login, name};
 use crate::{Kept, Table, print_table};
 use std::alloc::Global;
 use std::process::Abort;
 use tally_book::{Answer, ConnectRow};
-use tally_records::{Comm, List, Memory};
+use tally_records::{List, Memory};
 use tally_sessions::{End, Stay};
-use tally_usage::{CommandRow, UidRow, Usage};
+use tally_usage::{UidRow, Usage};
 
 /// 30 calls, with sums that differ.
 const USAGE: Usage = Usage {
@@ -87,19 +87,6 @@ fn of_file(alloc: Global, stay: Stay) -> Result<Answer, Memory>
     Ok(Answer::Last { rows, first: None })
 }
 
-fn command(text: &[u8], forked: bool, other: bool) -> CommandRow
-    requires { length text.now ≤ 17 }
-{
-    let mut name: Comm = [0; 17];
-    name[..text.len()].copy_from_slice(text);
-    CommandRow {
-        name,
-        forked,
-        other,
-        usage: USAGE,
-    }
-}
-
 #[test]
 fn hostile_names_are_quoted(rt: HostRuntime) {
     let rows = [
@@ -150,8 +137,8 @@ file,user,line,remote,start,start_at,begin,end,end_time,end_at,seconds
 fn usage_has_ticks_and_sums(rt: HostRuntime) {
     let alloc = rt.alloc();
     let rows = [
-        command(b"a\"b", true, false),
-        command(b"***other", false, true),
+        command(b"a\"b", true, false, USAGE),
+        command(b"***other", false, true, USAGE),
     ];
     let Ok(rows) = list_of(alloc, &rows) else {
         return;

@@ -1,11 +1,8 @@
 //! The lines of sa(8).
-ghost use Rattle.std.specs.Prelude.{◌≤◌, length};
-
-use super::is_printed;
+use super::{command, is_printed};
 use crate::{Kept, print_commands, print_users};
 use std::alloc::Global;
 use std::process::Abort;
-use tally_records::Comm;
 use tally_usage::{CommandRow, UidRow, Usage};
 
 /// Asserts that the rows and the total print this text.
@@ -36,19 +33,6 @@ fn expect_users(rt: &impl Abort, alloc: Global, rows: &[UidRow], total: &Usage, 
         }
     }
     assert!(rt; false, "refused twice");
-}
-
-fn row(text: &[u8], forked: bool, usage: Usage) -> CommandRow
-    requires { length text.now ≤ 17 }
-{
-    let mut name: Comm = [0; 17];
-    name[..text.len()].copy_from_slice(text);
-    CommandRow {
-        name,
-        forked,
-        other: false,
-        usage,
-    }
 }
 
 /// One run of make that executed.
@@ -97,8 +81,8 @@ const LARGEST: Usage = Usage {
 #[test]
 fn commands_have_averages_and_marks(rt: HostRuntime) {
     let rows = [
-        row(b"***other", false, EXECUTED),
-        row(b"make", true, FORKED),
+        command(b"***other", false, false, EXECUTED),
+        command(b"make", true, false, FORKED),
     ];
     let text = b"       3         0.12re         0.05cp        335avio        380k
        1         0.10re         0.03cp       1000avio        500k ***other
@@ -121,7 +105,7 @@ fn long_numbers_stand_whole(rt: HostRuntime) {
     expect_commands(
         &rt,
         rt.alloc(),
-        &[row(b"x", false, LARGEST)],
+        &[command(b"x", false, false, LARGEST)],
         &LARGEST,
         text,
     );

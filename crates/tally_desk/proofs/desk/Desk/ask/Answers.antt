@@ -11,14 +11,14 @@ tells g c =
     let o = c.pass.invariant in
     let id : TableId = c.pass.inside.seat.table_id in
     let b = c.ask.ensures.asked o.0 o.1 in
-    let t = asked_pass id o.0 o.3 b.0 b.1 c.pass.inside.number c.args.question.now _ _ o.2 b.2 b.3 in
+    let t = asked_pass id o.0 o.3 b.0 b.1 c.args.question.now _ _ b.2 b.3 in
     both (AskTells c.args.question.now c.ask.result) _ _ _ _ (sym c.pass.view_is ∙ ap (seen_as id) o.1) (λ i. seen_as (c.ask.ensures.table i) (t.1 i)) t.4
 
 pub invariant_of-pass : goal.invariant_of-pass
 invariant_of-pass g c =
     let o = c.pass.invariant in
     let b = c.ask.ensures.asked o.0 o.1 in
-    let t = asked_pass c.pass.inside.seat.table_id o.0 o.3 b.0 b.1 c.pass.inside.number c.args.question.now _ _ o.2 b.2 b.3 in (t.0, t.1, t.2, t.3)
+    let t = asked_pass c.pass.inside.seat.table_id o.0 o.3 b.0 b.1 c.args.question.now _ _ b.2 b.3 in (t.0, t.1, o.2 ∙ t.2, t.3)
 
 pub returns-clause-grows : goal.returns-clause-grows
 returns-clause-grows g c = (tells g c).grows
