@@ -136,28 +136,29 @@ module _ (words : List Text) (command : Command) (is : app_of command ≡ tally_
   as_fault e (fault.Usage text) one h = (kind_of e, one, h)
   as_fault e (fault.Prefix index) one h = absurd h
 
+  -- what holds where memory ran out, and where the words end with the error, holds of the answer to the error
+  of_error : {A : Type 0} (P : A → Type 0) (e : Error) (out answer : A) → (is_simple_and_free (app_of command) ≡ true → HasKind (fault_of (app_of command) words) e)
+      → (kind_of e ≡ OutOfMemory → answer ≡ out) → P out → (IsAmong (kind_of e) (fault_of tally_app words) → P answer) → P answer
+  of_error P e out answer kinds memory at_out at_end = elim (among e kinds) [
+    | inl ran ↦ subst P (sym (memory ran)) at_out
+    | inr one ↦ at_end one
+  ]
+
   pub refused_answers : (e : Error) (r : Result Line LineFault)
       → (is_simple_and_free (app_of command) ≡ true → HasKind (fault_of (app_of command) words) e)
       → (kind_of e ≡ OutOfMemory → r ≡ Err fault.Memory) → IfOk r (IsHelpFor (kind_of e)) → IfOk r (Answers words)
-  refused_answers e r kinds memory help = elim (among e kinds) [
-    | inl out ↦ rw (memory out) tt
-    | inr one ↦ IfOk-weaker r (IsHelpFor (kind_of e)) (Answers words) (λ l. as_help e l one) help
-  ]
+  refused_answers e r kinds memory help = of_error (λ (x : Result Line LineFault). IfOk x (Answers words)) e (Err fault.Memory) r kinds memory tt
+      (λ one. IfOk-weaker r (IsHelpFor (kind_of e)) (Answers words) (λ l. as_help e l one) help)
 
   pub refused_refuses : (e : Error) (r : Result Line LineFault)
       → (is_simple_and_free (app_of command) ≡ true → HasKind (fault_of (app_of command) words) e)
       → (kind_of e ≡ OutOfMemory → r ≡ Err fault.Memory) → IfErr r (IsFaultFor (kind_of e)) → IfErr r (Refuses words)
-  refused_refuses e r kinds memory fault = elim (among e kinds) [
-    | inl out ↦ rw (memory out) tt
-    | inr one ↦ IfErr-weaker r (IsFaultFor (kind_of e)) (Refuses words) (λ f. as_fault e f one) fault
-  ]
+  refused_refuses e r kinds memory caused = of_error (λ (x : Result Line LineFault). IfErr x (Refuses words)) e (Err fault.Memory) r kinds memory tt
+      (λ one. IfErr-weaker r (IsFaultFor (kind_of e)) (Refuses words) (λ f. as_fault e f one) caused)
 
   -- the fault of words that `clap` does not accept, where one of their words is asked for
   pub no_word_here : (e : Error) (f : LineFault) → (is_simple_and_free (app_of command) ≡ true → HasKind (fault_of (app_of command) words) e)
       → (kind_of e ≡ OutOfMemory → f ≡ fault.Memory) → IsMemoryOrUsage f → HasNoWord words f
   no_word_here e fault.Memory kinds memory h = tt
-  no_word_here e (fault.Usage text) kinds memory h = elim (among e kinds) [
-    | inl out ↦ subst (HasNoWord words) (sym (memory out)) tt
-    | inr one ↦ (kind_of e, one, tt)
-  ]
+  no_word_here e (fault.Usage text) kinds memory h = of_error (HasNoWord words) e fault.Memory (fault.Usage text) kinds memory tt (λ one. (kind_of e, one, tt))
   no_word_here e (fault.Prefix index) kinds memory h = absurd h

@@ -78,6 +78,22 @@ none_taken {I} = record {
 pub order_more : {A : Type 0} (all xs now : List A) (x : A) (later : List A) → all ≡ xs ++ later → xs ≡ now ++ x ∷ [] → all ≡ now ++ x ∷ later
 order_more all xs now x later e f = e ∙ ap (λ l. l ++ later) f ∙ append_assoc now (x ∷ []) later
 
+-- tasks were popped from all of them, and taken back after those that were taken before
+abbrev pub ArePopped : {I : Type 0} → List (Task I) → List PassState → Option Failure → List (Task I) → List PassState → Option Failure → Type 0
+ArePopped {I} all old start left passes failure = (later : List (Task I)) × (all ≡ left ++ later)
+    × ((done : List (Task I)) → AreTaken done old start → AreTaken (later ++ done) passes failure)
+
+-- one more task is popped, and taken back
+pub popped_more : {I : Type 0} (all left now : List (Task I)) (old passes new : List PassState) (start known own failure : Option Failure) (t : Task I)
+    → ArePopped all old start left passes known → left ≡ now ++ t ∷ [] → new ≡ passes ++ t.pass ∷ [] → own ≡ failure_of t.pass.number t.outcome
+    → (failure ≡ own) ⊎ (failure ≡ known) → AtMost failure own × AtMost failure known → ArePopped all old start now new failure
+popped_more all left now old passes new start known own failure t popped items pushed is among least = (
+  t ∷ popped.0,
+  order_more all left now t popped.0 popped.1 items,
+  λ done before. subst (λ ps. AreTaken (t ∷ popped.0 ++ done) ps failure) (sym pushed)
+      (taken_more t (popped.0 ++ done) passes known own failure is among least.0 least.1 (popped.2 done before)),
+)
+
 pub flat_more : {V A : Type 0} (f : V → List A) (vs now : List V) (v : V) (done : List A) → vs ≡ now ++ v ∷ [] → flat_map f vs ++ done ≡ flat_map f now ++ (f v ++ done)
 flat_more f vs now v done e =
     ap (λ l. flat_map f l ++ done) e

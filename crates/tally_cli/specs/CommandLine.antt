@@ -44,13 +44,17 @@ feeders_rule = number_rule (codes "feeders") (between 1 64) (codes "4")
 abbrev pub askers_rule : Rule
 askers_rule = number_rule (codes "askers") (between 0 64) (codes "0")
 
+-- minutes from UTC
+abbrev pub minutes_rule : Text → Rule
+minutes_rule name = number_rule name (between 0 1439) (codes "0")
+
 -- minutes east of UTC
 abbrev pub east_rule : Rule
-east_rule = number_rule (codes "east") (between 0 1439) (codes "0")
+east_rule = minutes_rule (codes "east")
 
 -- minutes west of UTC
 abbrev pub west_rule : Rule
-west_rule = number_rule (codes "west") (between 0 1439) (codes "0")
+west_rule = minutes_rule (codes "west")
 
 -- the moment up to which stays that nothing has ended are counted, in seconds since 1970
 abbrev pub until_rule : Rule

@@ -193,7 +193,7 @@ fn report<O: Output>(
         ≡ O.written out.old ++ report_text job.now kinds.now book.logins book.procs) }
     ensures cause { IfErr result IsPrintFault }
     ensures counts { O.failures out.new ≡ O.failures out.old + failed_writes result }
-    ensures stays { O.tells out.new ≡ O.tells out.old }
+    ensures tells { O.tells out.new ≡ O.tells out.old }
 {
     let questions = questions_of(alloc, job, kinds)?;
     let answers = answers_to(alloc, book, questions.as_slice())?;
@@ -206,7 +206,7 @@ fn finish<O: Output>(out: &mut O) -> Result<(), RunFault>
     ensures written { IsTrue (O.tells out.old) → O.written out.new ≡ O.written out.old }
     ensures cause { IfErr result (λ f. f ≡ RunFault.Write) }
     ensures counts { O.failures out.new ≡ O.failures out.old + failed_writes result }
-    ensures stays { O.tells out.new ≡ O.tells out.old }
+    ensures tells { O.tells out.new ≡ O.tells out.old }
 {
     match out.finish() {
         Ok(()) => Ok(()),
@@ -236,7 +236,7 @@ pub fn run<R: Threads + Wait + Sync, I: Input + Send, G: Gate + Sync, O: Output>
     ensures callers { IsWrongNumber (length sources.items + job.now.askers)
         → result ≡ Err (callers_fault (length sources.items + job.now.askers)) }
     ensures counts { O.failures out.new ≡ O.failures out.old + failed_writes result }
-    ensures stays { O.tells out.new ≡ O.tells out.old }
+    ensures tells { O.tells out.new ≡ O.tells out.old }
 {
     let callers = callers_of(sources.len(), job.askers)?;
     let kinds = kinds_of(alloc, sources.as_slice())?;

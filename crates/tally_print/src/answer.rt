@@ -26,7 +26,7 @@ pub fn print_answer<O: Output>(
     ensures ok { OnOk result (IsTrue (O.tells out.old)
         → O.written out.new ≡ O.written out.old ++ answer_text answer.now offset until) }
     ensures counts { O.failures out.new ≡ O.failures out.old + failed_calls result }
-    ensures stays { O.tells out.new ≡ O.tells out.old }
+    ensures tells { O.tells out.new ≡ O.tells out.old }
 {
     match answer {
         Answer::Last { rows, first } => {

@@ -88,7 +88,7 @@ pub fn print_connect<O: Output>(
     ensures ok { OnOk result (IsTrue (O.tells out.old)
         → O.written out.new ≡ O.written out.old ++ connect_text rows.now total) }
     ensures counts { O.failures out.new ≡ O.failures out.old + failed_calls result }
-    ensures stays { O.tells out.new ≡ O.tells out.old }
+    ensures tells { O.tells out.new ≡ O.tells out.old }
 {
     let mut page = new_page(alloc)?;
     put_lines(&mut page, &ConnectLine, rows, out)?;

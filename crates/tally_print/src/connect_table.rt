@@ -111,7 +111,7 @@ pub(crate) fn print_connect_rows<O: Output>(
     ensures ok { OnOk result (IsTrue (O.tells out.old) → O.written out.new
         ≡ O.written out.old ++ csv_text (map (connect_fields by_day by_user) rows.now)) }
     ensures counts { O.failures out.new ≡ O.failures out.old + failed_calls result }
-    ensures stays { O.tells out.new ≡ O.tells out.old }
+    ensures tells { O.tells out.new ≡ O.tells out.old }
 {
     let fields = ConnectFields { by_day, by_user };
     print_lines(new_page(alloc)?, &fields, rows, out)

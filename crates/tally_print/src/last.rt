@@ -165,7 +165,7 @@ pub fn print_last<O: Output>(
     ensures ok { OnOk result (IsTrue (O.tells out.old)
         → O.written out.new ≡ O.written out.old ++ last_text rows.now first offset until) }
     ensures counts { O.failures out.new ≡ O.failures out.old + failed_calls result }
-    ensures stays { O.tells out.new ≡ O.tells out.old }
+    ensures tells { O.tells out.new ≡ O.tells out.old }
 {
     let mut page = new_page(alloc)?;
     for row in rows {

@@ -34,7 +34,7 @@ pub(crate) fn put_lines<X, L: Line<X>, O: Output>(
     ensures ok { OnOk result (IsTrue (O.tells out.old) → O.written out.new ++ page.new.items
         ≡ O.written out.old ++ (page.old.items ++ flat_map (L.text line.now) rows.now)) }
     ensures counts { O.failures out.new ≡ O.failures out.old + failed_calls result }
-    ensures stays { O.tells out.new ≡ O.tells out.old }
+    ensures tells { O.tells out.new ≡ O.tells out.old }
 {
     for row in rows {
         line.push(page, row)?;
@@ -57,7 +57,7 @@ pub(crate) fn print_lines<X, L: Line<X>, O: Output>(
     ensures ok { OnOk result (IsTrue (O.tells out.old) → O.written out.new
         ≡ O.written out.old ++ (page.items ++ flat_map (L.text line.now) rows.now)) }
     ensures counts { O.failures out.new ≡ O.failures out.old + failed_calls result }
-    ensures stays { O.tells out.new ≡ O.tells out.old }
+    ensures tells { O.tells out.new ≡ O.tells out.old }
 {
     put_lines(&mut page, line, rows, out)?;
     put_all(page.as_slice(), out)

@@ -56,7 +56,7 @@ fn print_connect<O: Output>(
     ensures ok { OnOk result (IsTrue (O.tells out.old) → O.written out.new
         ≡ O.written out.old ++ csv_text (map (connect_fields by_day by_user) (connect_rows by_day by_user rows.now total))) }
     ensures counts { O.failures out.new ≡ O.failures out.old + failed_calls result }
-    ensures stays { O.tells out.new ≡ O.tells out.old }
+    ensures tells { O.tells out.new ≡ O.tells out.old }
 {
     if by_day || by_user {
         return print_connect_rows(alloc, by_day, by_user, rows, out);
@@ -85,7 +85,7 @@ fn print_answer_rows<O: Output>(
     ensures ok { OnOk result (IsTrue (O.tells out.old) → O.written out.new
         ≡ O.written out.old ++ csv_text (answer_rows table offset answer.now)) }
     ensures counts { O.failures out.new ≡ O.failures out.old + failed_calls result }
-    ensures stays { O.tells out.new ≡ O.tells out.old }
+    ensures tells { O.tells out.new ≡ O.tells out.old }
 {
     match (table, answer) {
         (Table::Stays, Answer::Last { rows, .. }) => {
@@ -118,7 +118,7 @@ fn print_rows<O: Output>(
     ensures ok { OnOk result (IsTrue (O.tells out.old) → O.written out.new
         ≡ O.written out.old ++ flat_map (λ answer. csv_text (answer_rows table offset answer)) answers.now) }
     ensures counts { O.failures out.new ≡ O.failures out.old + failed_calls result }
-    ensures stays { O.tells out.new ≡ O.tells out.old }
+    ensures tells { O.tells out.new ≡ O.tells out.old }
 {
     for answer in answers {
         print_answer_rows(alloc, table, answer, offset, out)?;
@@ -144,7 +144,7 @@ pub fn print_table<O: Output>(
     ensures ok { OnOk result (IsTrue (O.tells out.old) → O.written out.new
         ≡ O.written out.old ++ table_text table offset answers.now) }
     ensures counts { O.failures out.new ≡ O.failures out.old + failed_calls result }
-    ensures stays { O.tells out.new ≡ O.tells out.old }
+    ensures tells { O.tells out.new ≡ O.tells out.old }
 {
     put_all(header(table), out)?;
     print_rows(alloc, table, answers, offset, out)

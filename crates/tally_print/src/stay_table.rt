@@ -196,7 +196,7 @@ pub(crate) fn print_stay_rows<O: Output>(
     ensures ok { OnOk result (IsTrue (O.tells out.old)
         → O.written out.new ≡ O.written out.old ++ csv_text (map (stay_fields offset) rows.now)) }
     ensures counts { O.failures out.new ≡ O.failures out.old + failed_calls result }
-    ensures stays { O.tells out.new ≡ O.tells out.old }
+    ensures tells { O.tells out.new ≡ O.tells out.old }
 {
     let mut page = new_page(alloc)?;
     for row in rows {

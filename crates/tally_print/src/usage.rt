@@ -129,7 +129,7 @@ pub fn print_commands<O: Output>(
     ensures ok { OnOk result (IsTrue (O.tells out.old)
         → O.written out.new ≡ O.written out.old ++ commands_text rows.now total.now) }
     ensures counts { O.failures out.new ≡ O.failures out.old + failed_calls result }
-    ensures stays { O.tells out.new ≡ O.tells out.old }
+    ensures tells { O.tells out.new ≡ O.tells out.old }
 {
     let mut page = new_page(alloc)?;
     push_total(&mut page, total)?;
@@ -150,7 +150,7 @@ pub fn print_users<O: Output>(
     ensures ok { OnOk result (IsTrue (O.tells out.old)
         → O.written out.new ≡ O.written out.old ++ users_text rows.now total.now) }
     ensures counts { O.failures out.new ≡ O.failures out.old + failed_calls result }
-    ensures stays { O.tells out.new ≡ O.tells out.old }
+    ensures tells { O.tells out.new ≡ O.tells out.old }
 {
     let mut page = new_page(alloc)?;
     push_named_total(&mut page, total)?;

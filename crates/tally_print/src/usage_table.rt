@@ -132,7 +132,7 @@ pub(crate) fn print_command_rows<O: Output>(
     ensures ok { OnOk result (IsTrue (O.tells out.old)
         → O.written out.new ≡ O.written out.old ++ csv_text (map command_fields rows.now)) }
     ensures counts { O.failures out.new ≡ O.failures out.old + failed_calls result }
-    ensures stays { O.tells out.new ≡ O.tells out.old }
+    ensures tells { O.tells out.new ≡ O.tells out.old }
 {
     print_lines(new_page(alloc)?, &CommandFields, rows, out)
 }
@@ -149,7 +149,7 @@ pub(crate) fn print_user_rows<O: Output>(
     ensures ok { OnOk result (IsTrue (O.tells out.old)
         → O.written out.new ≡ O.written out.old ++ csv_text (map user_fields rows.now)) }
     ensures counts { O.failures out.new ≡ O.failures out.old + failed_calls result }
-    ensures stays { O.tells out.new ≡ O.tells out.old }
+    ensures tells { O.tells out.new ≡ O.tells out.old }
 {
     print_lines(new_page(alloc)?, &UserFields, rows, out)
 }

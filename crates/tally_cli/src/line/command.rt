@@ -3,7 +3,7 @@ ghost use Rattle.std.specs.Prelude.{◌≡◌, IfOk, false};
 ghost use Rattle.clap.specs.Words.{App, new_app, rule_of};
 ghost use Rattle.tally_cli.specs.CommandLine.{all_app, askers_rule, connect_app, csv_rule, east_rule, feeders_rule, file_rule, flag_rule, last_app, limit_rule};
 ghost use Rattle.tally_cli.specs.inside.Commands.{IsCommand};
-ghost use Rattle.tally_cli.specs.CommandLine.{number_rule, tally_app, top_app, until_rule, usage_app, west_rule, with_common};
+ghost use Rattle.tally_cli.specs.CommandLine.{minutes_rule, number_rule, tally_app, top_app, until_rule, usage_app, west_rule, with_common};
 
 use clap::builder::ValueParser;
 use clap::{Arg, ArgAction, Command, value_parser};
@@ -166,8 +166,7 @@ fn askers<'a>(alloc: Global) -> Arg<'a>
     ensures rule { rule_of result ≡ askers_rule }
     ensures local { result.global ≡ false }
 {
-    let parser = value_parser!(u32).range(0..=64);
-    number(alloc, "askers", parser, "0").help(
+    number(alloc, "askers", value_parser!(u32).range(0..=64), "0").help(
         "Ask reports with N threads while files are read, and print none of them, 0 to 64",
     )
 }
@@ -176,8 +175,7 @@ fn feeders<'a>(alloc: Global) -> Arg<'a>
     ensures rule { rule_of result ≡ feeders_rule }
     ensures local { result.global ≡ false }
 {
-    let parser = value_parser!(u32).range(1..=64);
-    number(alloc, "feeders", parser, "4").help(
+    number(alloc, "feeders", value_parser!(u32).range(1..=64), "4").help(
         "Read files with up to N threads, one a file, 1 to 64",
     )
 }
@@ -186,8 +184,9 @@ fn east<'a>(alloc: Global) -> Arg<'a>
     ensures rule { rule_of result ≡ east_rule }
     ensures local { result.global ≡ false }
 {
-    let parser = value_parser!(u32).range(0..=1439);
-    number(alloc, "east", parser, "0").value_name("M").help(
+    minutes(
+        alloc,
+        "east",
         "Show times and cut days M minutes east of UTC, 0 to 1439; 60 for +0100; sa has neither",
     )
 }
@@ -196,8 +195,9 @@ fn west<'a>(alloc: Global) -> Arg<'a>
     ensures rule { rule_of result ≡ west_rule }
     ensures local { result.global ≡ false }
 {
-    let parser = value_parser!(u32).range(0..=1439);
-    number(alloc, "west", parser, "0").value_name("M").help(
+    minutes(
+        alloc,
+        "west",
         "Show times and cut days M minutes west of UTC, 0 to 1439; 300 for -0500; sa has neither",
     )
 }
@@ -224,6 +224,16 @@ fn file<'a>(alloc: Global, help: &'a str) -> Arg<'a>
         .help(help)
         .required(true)
         .num_args(1..)
+}
+
+/// A long option with minutes from UTC.
+fn minutes<'a>(alloc: Global, name: &'a str, help: &'a str) -> Arg<'a>
+    ensures rule { rule_of result ≡ minutes_rule name.entry.now }
+    ensures local { result.global ≡ false }
+{
+    number(alloc, name, value_parser!(u32).range(0..=1439), "0")
+        .value_name("M")
+        .help(help)
 }
 
 /// A long option with a number.

@@ -45,7 +45,7 @@ fn print_csv<O: Output>(
         ≡ O.written out.old ++ csv_of table offset answers.now) }
     ensures cause { IfErr result IsPrintFault }
     ensures counts { O.failures out.new ≡ O.failures out.old + failed_writes result }
-    ensures stays { O.tells out.new ≡ O.tells out.old }
+    ensures tells { O.tells out.new ≡ O.tells out.old }
 {
     if let Some(table) = table {
         print_table(alloc, table, answers, offset, out)?;
@@ -69,7 +69,7 @@ pub(crate) fn print_answers<O: Output>(
         ++ form_text job.now.form job.now.report job.now.offset job.now.until answers.now) }
     ensures cause { IfErr result IsPrintFault }
     ensures counts { O.failures out.new ≡ O.failures out.old + failed_writes result }
-    ensures stays { O.tells out.new ≡ O.tells out.old }
+    ensures tells { O.tells out.new ≡ O.tells out.old }
 {
     match job.form {
         Form::Text => print_sections(alloc, answers, job.offset, job.until, out),

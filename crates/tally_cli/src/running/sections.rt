@@ -153,7 +153,7 @@ fn print_gap<O: Output>(out: &mut O) -> Result<(), RunFault>
         ≡ O.written out.old ++ (if is_ok result then 10 ∷ [] else []) }
     ensures cause { IfErr result (λ f. f ≡ RunFault.Write) }
     ensures counts { O.failures out.new ≡ O.failures out.old + failed_writes result }
-    ensures stays { O.tells out.new ≡ O.tells out.old }
+    ensures tells { O.tells out.new ≡ O.tells out.old }
 {
     match out.put(b"\n") {
         Ok(_) => Ok(()),
@@ -178,7 +178,7 @@ fn print_next<O: Output>(
         ≡ O.written out.old ++ 10 ∷ answer_text answer.now offset until) }
     ensures cause { IfErr result IsPrintFault }
     ensures counts { O.failures out.new ≡ O.failures out.old + failed_writes result }
-    ensures stays { O.tells out.new ≡ O.tells out.old }
+    ensures tells { O.tells out.new ≡ O.tells out.old }
 {
     print_gap(out)?;
     print_answer(alloc, answer, offset, out, until)?;
@@ -202,7 +202,7 @@ fn print_others<O: Output>(
         ≡ O.written out.old ++ flat_map (λ a. 10 ∷ answer_text a offset until) answers.now) }
     ensures cause { IfErr result IsPrintFault }
     ensures counts { O.failures out.new ≡ O.failures out.old + failed_writes result }
-    ensures stays { O.tells out.new ≡ O.tells out.old }
+    ensures tells { O.tells out.new ≡ O.tells out.old }
 {
     for index in 0..answers.len() {
         print_next(alloc, &answers[index], offset, until, out)?;
@@ -227,7 +227,7 @@ pub(crate) fn print_sections<O: Output>(
         ≡ O.written out.old ++ sections (map (λ a. answer_text a offset until) answers.now)) }
     ensures cause { IfErr result IsPrintFault }
     ensures counts { O.failures out.new ≡ O.failures out.old + failed_writes result }
-    ensures stays { O.tells out.new ≡ O.tells out.old }
+    ensures tells { O.tells out.new ≡ O.tells out.old }
 {
     let Some((first, others)) = answers.split_first() else {
         return Ok(());

@@ -1,8 +1,8 @@
 //! How a run ends: which call of its output is the last, and what is not touched after a failure.
 ghost use Rattle.std.specs.Prelude.{◌≡◌, None, [], false};
-ghost use Rattle.tally_cli.specs.Jobs.{IsRunnable};
 
-use crate::{Form, Job, Report, RunFault, Source, run};
+use crate::tests::runs::text_job;
+use crate::{Report, RunFault, Source, run};
 use std::alloc::{AllocError, Global};
 use std::hash::RandomState;
 use std::sync::Wait;
@@ -12,20 +12,6 @@ use std::thread::Threads;
 use tally_desk::{FeedFault, Input, InputFault, OpenGate};
 use tally_print::{Output, OutputFault};
 use tally_records::Kind;
-
-/// A job of one feeder.
-fn alone(report: Report) -> Job
-    ensures { IsRunnable result }
-{
-    Job {
-        report,
-        form: Form::Text,
-        feeders: 1,
-        askers: 0,
-        offset: 0,
-        until: None,
-    }
-}
 
 /// An input of so many zeros, which counts how often it is taken from.
 #[derive(Drop)]
@@ -121,7 +107,7 @@ fn all_over<R: Threads + Wait + Sync>(
         let input = Counted { left, takes };
         sources.push(Source { kind, input })?;
     }
-    let job = alone(Report::All);
+    let job = text_job(Report::All, 1, 0);
     let mut out = Closing::new(fails);
     let outcome = run(rt, alloc, keys, &job, sources, &OpenGate, &mut out);
     Ok(Ended {

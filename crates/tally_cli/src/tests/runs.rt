@@ -1,4 +1,5 @@
 //! What runs over small files write.
+ghost use Rattle.std.specs.Prelude.{◌≤◌};
 ghost use Rattle.tally_cli.specs.Jobs.{IsRunnable};
 
 use crate::{Form, Job, Report, RunFault, Source, run};
@@ -17,14 +18,16 @@ const TOTAL: Report = Report::Connect {
     by_user: false,
 };
 
-fn plain(report: Report) -> Job
+// A job as text, by so many feeders and askers.
+pub(crate) fn text_job(report: Report, feeders: u32, askers: u32) -> Job
+    requires { (1 ≤ feeders) × (feeders ≤ 64) × (askers ≤ 128) }
     ensures { IsRunnable result }
 {
     Job {
         report,
         form: Form::Text,
-        feeders: 4,
-        askers: 0,
+        feeders,
+        askers,
         offset: 0,
         until: None,
     }
@@ -53,7 +56,15 @@ fn one_hour(alloc: Global, rest: usize) -> Result<Vec<u8>, AllocError> {
     Ok(bytes)
 }
 
-// What a run over a file of these bytes writes, and how it ends.
+// The one source of these bytes.
+fn source_of(alloc: Global, kind: Kind, bytes: Vec<u8>) -> Result<Vec<Source<Bytes>>, AllocError> {
+    let mut sources = Vec::new(alloc);
+    let input = Bytes::new(bytes);
+    sources.push(Source { kind, input })?;
+    Ok(sources)
+}
+
+// What a report on a file of these bytes writes, and how it ends.
 fn run_over<R: Threads + Wait + Sync>(
     rt: &R,
     alloc: Global,
@@ -62,42 +73,33 @@ fn run_over<R: Threads + Wait + Sync>(
     kind: Kind,
     bytes: Vec<u8>,
 ) -> Result<(Result<(), RunFault>, Kept), AllocError> {
-    let mut sources = Vec::new(alloc);
-    let input = Bytes::new(bytes);
-    sources.push(Source { kind, input })?;
+    let sources = source_of(alloc, kind, bytes)?;
+    let job = text_job(report, 4, 0);
     let mut out = Kept::new(alloc);
-    let outcome = run(
-        rt,
-        alloc,
-        keys,
-        &plain(report),
-        sources,
-        &OpenGate,
-        &mut out,
-    );
+    let outcome = run(rt, alloc, keys, &job, sources, &OpenGate, &mut out);
     Ok((outcome, out))
 }
 
-// What `ac` writes of these bytes, and how it ends.
-fn ac<R: Threads + Wait + Sync>(
+// Whether a report on a file of these bytes ends well and is this text.
+fn writes<R: Threads + Wait + Sync>(
     rt: &R,
     alloc: Global,
     keys: RandomState,
+    report: Report,
+    kind: Kind,
     bytes: Vec<u8>,
-) -> Result<(Result<(), RunFault>, Kept), AllocError> {
-    run_over(rt, alloc, keys, TOTAL, Kind::Login, bytes)
+    text: &[u8],
+) -> Result<bool, AllocError> {
+    let (outcome, out) = run_over(rt, alloc, keys, report, kind, bytes)?;
+    Ok(outcome.is_ok() && out.bytes() == text)
 }
 
 #[test]
 fn an_hour_is_its_total(rt: HostRuntime) -> Result<(), Fail> {
-    let (outcome, out) = ac(
-        &rt,
-        rt.alloc(),
-        RandomState::new(&rt)?,
-        one_hour(rt.alloc(), 768)?,
-    )?;
-    assert!(rt; outcome.is_ok());
-    assert!(rt; out.bytes() == b"total                        1.00\n".as_slice());
+    let keys = RandomState::new(&rt)?;
+    let bytes = one_hour(rt.alloc(), 768)?;
+    let text = b"total                        1.00\n".as_slice();
+    assert!(rt; writes(&rt, rt.alloc(), keys, TOTAL, Kind::Login, bytes, text)?);
     Ok(())
 }
 
@@ -137,19 +139,11 @@ fn a_call_is_a_row_of_its_own(rt: HostRuntime) -> Result<(), Fail> {
         reverse: false,
         all: true,
     };
-    let (outcome, out) = run_over(
-        &rt,
-        rt.alloc(),
-        RandomState::new(&rt)?,
-        report,
-        Kind::Proc,
-        one_call(rt.alloc())?,
-    )?;
-    assert!(rt; outcome.is_ok());
-    assert!(rt;
-        out.bytes()
-            == b"       1         0.03re         0.02cp          0avio          0k\n       1         0.03re         0.02cp          0avio          0k make\n".as_slice()
-    );
+    let keys = RandomState::new(&rt)?;
+    let bytes = one_call(rt.alloc())?;
+    let text =
+        b"       1         0.03re         0.02cp          0avio          0k\n       1         0.03re         0.02cp          0avio          0k make\n".as_slice();
+    assert!(rt; writes(&rt, rt.alloc(), keys, report, Kind::Proc, bytes, text)?);
     Ok(())
 }
 
@@ -159,41 +153,31 @@ fn a_call_is_counted_for_its_user(rt: HostRuntime) -> Result<(), Fail> {
         order: Order::Cpu,
         reverse: false,
     };
-    let (outcome, out) = run_over(
-        &rt,
-        rt.alloc(),
-        RandomState::new(&rt)?,
-        report,
-        Kind::Proc,
-        one_call(rt.alloc())?,
-    )?;
-    assert!(rt; outcome.is_ok());
-    assert!(rt;
-        out.bytes()
-            == b"total             1         0.03re         0.02cp          0avio          0k\n0                 1         0.03re         0.02cp          0avio          0k\n".as_slice()
-    );
+    let keys = RandomState::new(&rt)?;
+    let bytes = one_call(rt.alloc())?;
+    let text =
+        b"total             1         0.03re         0.02cp          0avio          0k\n0                 1         0.03re         0.02cp          0avio          0k\n".as_slice();
+    assert!(rt; writes(&rt, rt.alloc(), keys, report, Kind::Proc, bytes, text)?);
     Ok(())
 }
 
 #[test]
 fn an_empty_file_has_the_total_zero(rt: HostRuntime) -> Result<(), Fail> {
-    let (outcome, out) = ac(
-        &rt,
-        rt.alloc(),
-        RandomState::new(&rt)?,
-        Vec::new(rt.alloc()),
-    )?;
-    assert!(rt; outcome.is_ok());
-    assert!(rt; out.bytes() == b"total                        0.00\n".as_slice());
+    let keys = RandomState::new(&rt)?;
+    let bytes = Vec::new(rt.alloc());
+    let text = b"total                        0.00\n".as_slice();
+    assert!(rt; writes(&rt, rt.alloc(), keys, TOTAL, Kind::Login, bytes, text)?);
     Ok(())
 }
 
 #[test]
 fn a_torn_file_writes_nothing(rt: HostRuntime) -> Result<(), Fail> {
-    let (outcome, out) = ac(
+    let (outcome, out) = run_over(
         &rt,
         rt.alloc(),
         RandomState::new(&rt)?,
+        TOTAL,
+        Kind::Login,
         one_hour(rt.alloc(), 385)?,
     )?;
     let fault = FeedFault::Torn {
@@ -207,19 +191,17 @@ fn a_torn_file_writes_nothing(rt: HostRuntime) -> Result<(), Fail> {
 
 #[test]
 fn a_torn_second_file_is_named(rt: HostRuntime) -> Result<(), Fail> {
-    let mut sources = Vec::new(rt.alloc());
     let kind = Kind::Login;
-    let whole = Bytes::new(one_hour(rt.alloc(), 768)?);
-    sources.push(Source { kind, input: whole })?;
-    let torn = Bytes::new(one_hour(rt.alloc(), 385)?);
-    sources.push(Source { kind, input: torn })?;
+    let mut sources = source_of(rt.alloc(), kind, one_hour(rt.alloc(), 768)?)?;
+    let input = Bytes::new(one_hour(rt.alloc(), 385)?);
+    sources.push(Source { kind, input })?;
     let mut out = Kept::new(rt.alloc());
     let keys = RandomState::new(&rt)?;
     let outcome = run(
         &rt,
         rt.alloc(),
         keys,
-        &plain(Report::All),
+        &text_job(Report::All, 4, 0),
         sources,
         &OpenGate,
         &mut out,
@@ -265,10 +247,8 @@ impl Output for Narrow {
 
 #[test]
 fn an_output_that_fails_ends_the_run(rt: HostRuntime) -> Result<(), Fail> {
-    let mut sources = Vec::new(rt.alloc());
-    let kind = Kind::Login;
-    let input = Bytes::new(one_hour(rt.alloc(), 768)?);
-    sources.push(Source { kind, input })?;
+    let bytes = one_hour(rt.alloc(), 768)?;
+    let sources = source_of(rt.alloc(), Kind::Login, bytes)?;
     let mut out = Narrow {
         room: 5,
         failures: 0,
@@ -277,7 +257,7 @@ fn an_output_that_fails_ends_the_run(rt: HostRuntime) -> Result<(), Fail> {
         &rt,
         rt.alloc(),
         RandomState::new(&rt)?,
-        &plain(TOTAL),
+        &text_job(TOTAL, 4, 0),
         sources,
         &OpenGate,
         &mut out,

@@ -1,8 +1,8 @@
 //! Files that are read while an asker asks, and the same files one after the other.
 ghost use Rattle.std.specs.Prelude.{◌≤◌};
 
-use crate::tests::runs::put_at;
-use crate::{Form, Job, Report, RunFault, Source, run};
+use crate::tests::runs::{put_at, text_job};
+use crate::{Report, RunFault, Source, run};
 use std::alloc::{AllocError, Global};
 use std::hash::RandomState;
 use std::sync::Wait;
@@ -80,14 +80,7 @@ fn all_of_two<R: Threads + Wait + Sync, G: Gate + Sync>(
     sources.push(Source { kind, input: ann })?;
     let bob = Bytes::new(two_blocks(alloc, b"bob", &[0x20, 0x1C])?);
     sources.push(Source { kind, input: bob })?;
-    let job = Job {
-        report: Report::All,
-        form: Form::Text,
-        feeders,
-        askers,
-        offset: 0,
-        until: None,
-    };
+    let job = text_job(Report::All, feeders, askers);
     let mut out = Kept::new(alloc);
     let outcome = run(rt, alloc, keys, &job, sources, gate, &mut out);
     Ok((outcome, out))

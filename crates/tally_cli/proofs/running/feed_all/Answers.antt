@@ -48,39 +48,24 @@ returns-in-None-clause-calls g c =
     let book = c.in_ok-book.ensures in
     few (ended_of c.in_ok-desk.desk.id _ c.in_ok-desk.passes.items opened.1 (book.callers ∙ opened.0) (omega (arith, c.requires.callers)) book.legal (c.entries_are_posts.ensures c.in_ok-book.book book.legal) book.worked)
 
-pub returns-in-Some-clause-cause : goal.returns-in-Some-clause-cause
-returns-in-Some-clause-cause g c = λ inputs tell.
-    let opened = c.in_ok-desk.ensures.opened in
-    let book = c.in_ok-book.ensures in
-    let ended = ended_of c.in_ok-desk.desk.id _ c.in_ok-desk.passes.items opened.1 (book.callers ∙ opened.0) (omega (arith, c.requires.callers)) book.legal (c.entries_are_posts.ensures c.in_ok-book.book book.legal) book.worked in
-    subst (IsReadCause inputs) (sym c.fault_of.ensures.value) (cause_is ended c.in-Some.failure c.in-Some.is inputs tell)
-
-pub returns-in-Some-clause-read : goal.returns-in-Some-clause-read
-returns-in-Some-clause-read g c = λ host is s.
-    let opened = c.in_ok-desk.ensures.opened in
-    let book = c.in_ok-book.ensures in
-    let ended = ended_of c.in_ok-desk.desk.id _ c.in_ok-desk.passes.items opened.1 (book.callers ∙ opened.0) (omega (arith, c.requires.callers)) book.legal (c.entries_are_posts.ensures c.in_ok-book.book book.legal) book.worked in
-    can_fail_at ended c.in-Some.failure c.in-Some.is host (sym c.fault_of.ensures.value ∙ is) s
-
-pub returns-in-Some-clause-allowed : goal.returns-in-Some-clause-allowed
-returns-in-Some-clause-allowed g c =
-    let opened = c.in_ok-desk.ensures.opened in
-    let book = c.in_ok-book.ensures in
-    let ended = ended_of c.in_ok-desk.desk.id _ c.in_ok-desk.passes.items opened.1 (book.callers ∙ opened.0) (omega (arith, c.requires.callers)) book.legal (c.entries_are_posts.ensures c.in_ok-book.book book.legal) book.worked in
-    subst (IsAllowed _) (sym c.fault_of.ensures.value) (allowed ended c.in-Some.failure c.in-Some.is _)
-
-pub returns-in-Some-clause-named : goal.returns-in-Some-clause-named
-returns-in-Some-clause-named g c =
+pub returns-in-Some : goal.returns-in-Some
+returns-in-Some g c =
     let opened = c.in_ok-desk.ensures.opened in
     let book = c.in_ok-book.ensures in
     let passes = c.in_ok-desk.passes.items in
     let ended = ended_of c.in_ok-desk.desk.id _ passes opened.1 (book.callers ∙ opened.0) (omega (arith, c.requires.callers)) book.legal (c.entries_are_posts.ensures c.in_ok-book.book book.legal) book.worked in
     let count = first_count passes (first_pass c.in_ok-desk.desk.id _) _ opened.1 in
-    subst (IsNamed _ _) (sym c.fault_of.ensures.value) (named ended c.in-Some.failure c.in-Some.is _ (omega (arith, count, c.requires.callers)))
-
-pub returns-in-Some-clause-full : goal.returns-in-Some-clause-full
-returns-in-Some-clause-full g c =
-    let opened = c.in_ok-desk.ensures.opened in
-    let book = c.in_ok-book.ensures in
-    let ended = ended_of c.in_ok-desk.desk.id _ c.in_ok-desk.passes.items opened.1 (book.callers ∙ opened.0) (omega (arith, c.requires.callers)) book.legal (c.entries_are_posts.ensures c.in_ok-book.book book.legal) book.worked in
-    subst (IsFullList c.args.sources.items) (sym c.fault_of.ensures.value) (full_list ended c.in-Some.failure c.in-Some.is)
+    let value = c.fault_of.ensures.value in
+    let failure = c.in-Some.failure in
+    let is = c.in-Some.is in
+    record {
+      whole = tt;
+      callers = tt;
+      calls = tt;
+      cause = λ inputs tell. subst (IsReadCause inputs) (sym value) (cause_is ended failure is inputs tell);
+      allowed = subst (IsAllowed _) (sym value) (allowed ended failure is _);
+      named = subst (IsNamed _ _) (sym value) (named ended failure is _ (omega (arith, count, c.requires.callers)));
+      full = subst (IsFullList c.args.sources.items) (sym value) (full_list ended failure is);
+      unprinted = c.fault_of.ensures.unprinted;
+      read = λ host told s. can_fail_at ended failure is host (sym value ∙ told) s;
+    }

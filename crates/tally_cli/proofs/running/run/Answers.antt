@@ -61,7 +61,7 @@ returns-clause-whole g c = on_ok_always c.finish.result (record {
       record {
         good = read.good;
         written = λ tells.
-            c.finish.ensures.written (subst IsTrue (sym c.in_ok-report.ensures.stays) tells)
+            c.finish.ensures.written (subst IsTrue (sym c.in_ok-report.ensures.tells) tells)
             ∙ c.in_ok-report.ensures.ok tells
             ∙ ap (λ l. g.O.Output.written c.args.out.now ++ l) same;
       };
@@ -82,7 +82,7 @@ returns-clause-failed g c = faults_are _ c.finish.result _ c.finish.ensures.caus
       record {
         cause = read.good;
         prefix = λ tells. whole_prefix (g.O.Output.written c.args.out.now) (g.O.Output.written c.finish.new.out) _
-            (c.finish.ensures.written (subst IsTrue (sym c.in_ok-report.ensures.stays) tells)
+            (c.finish.ensures.written (subst IsTrue (sym c.in_ok-report.ensures.tells) tells)
             ∙ c.in_ok-report.ensures.ok tells
             ∙ ap (λ l. g.O.Output.written c.args.out.now ++ l) same);
       };

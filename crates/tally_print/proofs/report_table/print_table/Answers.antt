@@ -15,7 +15,7 @@ returns-clause-prefix g c =
     let offset : FitsSigned w32 c.args.offset = c.ranges.offset in
     λ tells.
     let head = rw c.header.ensures at (c.in_ok-put_all.ensures.ok tells) in
-    let told : IsTrue (g.O.Output.tells c.put_all.new.out) = rw c.in_ok-put_all.ensures.stays tells in
+    let told : IsTrue (g.O.Output.tells c.put_all.new.out) = rw c.in_ok-put_all.ensures.tells tells in
     let rows = prefix_at c.args.table _ _ (to_z-of_z w32 c.args.offset offset) c.args.answers.now _ _ (c.print_rows.ensures.prefix told) in
     subst (AppendsPrefix (g.O.Output.written c.args.out.now) (g.O.Output.written c.print_rows.new.out)) (sym (header_and_rows c.args.table c.args.offset c.args.answers.now))
     (prefix_second _ _ _ _ _ head rows)
@@ -26,7 +26,7 @@ returns-clause-ok g c =
     let old = g.O.Output.written c.args.out.now in
     IfOk-weaker c.print_rows.result _ _ (λ done written tells.
     let head = rw c.header.ensures at (c.in_ok-put_all.ensures.ok tells) in
-    let told : IsTrue (g.O.Output.tells c.put_all.new.out) = rw c.in_ok-put_all.ensures.stays tells in
+    let told : IsTrue (g.O.Output.tells c.put_all.new.out) = rw c.in_ok-put_all.ensures.tells tells in
     let rows = written_at c.args.table _ _ (to_z-of_z w32 c.args.offset offset) c.args.answers.now (g.O.Output.written c.put_all.new.out) _ (written told) in
     rows ∙ ap (λ (t : List ℕ). t ++ flat_map (λ answer. csv_text (answer_rows c.args.table c.args.offset answer)) c.args.answers.now) head
     ∙ append_assoc old (row_text default_writer (header c.args.table)) (flat_map (λ answer. csv_text (answer_rows c.args.table c.args.offset answer)) c.args.answers.now)

@@ -13,7 +13,7 @@ returns-clause-prefix g c = λ tells.
     let first = c.in-Some.first.now in
     let others = c.in-Some.others.now in
     let all = sections_first (λ a. answer_text a c.args.offset c.args.until) c.args.answers.now first others c.in-Some.ensures.cases.0 in
-    let still : IsTrue (g.O.Output.tells c.print_answer.new.out) = subst IsTrue (sym c.in_ok-print_answer.ensures.stays) tells in
+    let still : IsTrue (g.O.Output.tells c.print_answer.new.out) = subst IsTrue (sym c.in_ok-print_answer.ensures.tells) tells in
     prefix_more (g.O.Output.written c.args.out.now) (g.O.Output.written c.print_answer.new.out) (g.O.Output.written c.print_others.new.out)
     (answer_text first c.args.offset c.args.until) (flat_map (λ a. 10 ∷ answer_text a c.args.offset c.args.until) others) [] _
     (simp to_z-of_z at (c.in_ok-print_answer.ensures.ok tells)) (simp to_z-of_z at (c.print_others.ensures.prefix still))
@@ -29,7 +29,7 @@ returns-clause-ok g c =
     let first_ok = simp to_z-of_z at c.in_ok-print_answer.ensures.ok in
     on_ok_weaker c.print_others.result
     (λ written tells.
-    written (subst IsTrue (sym c.in_ok-print_answer.ensures.stays) tells)
+    written (subst IsTrue (sym c.in_ok-print_answer.ensures.tells) tells)
     ∙ ap (λ l. l ++ flat_map (λ a. 10 ∷ answer_text a c.args.offset c.args.until) others) (first_ok tells)
     ∙ append_assoc (g.O.Output.written c.args.out.now) (answer_text first c.args.offset c.args.until) (flat_map (λ a. 10 ∷ answer_text a c.args.offset c.args.until) others)
     ∙ ap (λ l. g.O.Output.written c.args.out.now ++ l) (sym all))
