@@ -14,7 +14,7 @@ returns-in_err-push_total-clause-prefix g c = λ tells.
 pub returns-clause-prefix : goal.returns-clause-prefix
 returns-clause-prefix g c = λ tells.
     let lines = c.in_ok-put_lines.ensures in
-    let told : IsTrue (g.O.Output.tells c.put_lines.new.out) = rw lines.stays tells in
+    let told : IsTrue (g.O.Output.tells c.put_lines.new.out) = rw lines.tells tells in
     let begun = rw c.in_ok-page.ensures at (lines.prefix tells) in
     let whole = rw c.in_ok-page.ensures at (lines.ok tells) in
     let put = rw c.as_slice.ensures.value at (c.put_all.ensures.prefix told) in
@@ -24,6 +24,6 @@ pub returns-clause-ok : goal.returns-clause-ok
 returns-clause-ok g c =
     let lines = c.in_ok-put_lines.ensures in
     IfOk-weaker c.put_all.result _ _ (λ done written tells.
-    let told : IsTrue (g.O.Output.tells c.put_lines.new.out) = rw lines.stays tells in
+    let told : IsTrue (g.O.Output.tells c.put_lines.new.out) = rw lines.tells tells in
     let whole = rw c.in_ok-page.ensures at (lines.ok tells) in
     rw c.as_slice.ensures.value at (written told) ∙ page_ends _ _ _ _ _ _ whole c.in_ok-push_total.ensures) c.put_all.ensures.ok

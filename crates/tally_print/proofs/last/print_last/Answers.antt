@@ -7,7 +7,7 @@ use Rattle.tally_print.proofs.last.print_last.Goals as goal
 pub loop-row-preserved : goal.loop-row-preserved
 loop-row-preserved g c =
     let turned = c.in_ok-turn_page.ensures in
-    next_row (stay_line _ _) _ _ _ _ _ _ _ _ _ _ _ _ _ c.loop-row.invariant c.loop-row-test.true c.in_ok-push_stay.ensures _ _ _ _ turned.ok turned.prefix turned.stays (omega (arith, turned.counts))
+    next_row (stay_line _ _) _ _ _ _ _ _ _ _ _ _ _ _ _ c.loop-row.invariant c.loop-row-test.true c.in_ok-push_stay.ensures _ _ _ _ turned.ok turned.prefix turned.tells (omega (arith, turned.counts))
 
 pub returns-in_err-turn_page-clause-prefix : goal.returns-in_err-turn_page-clause-prefix
 returns-in_err-turn_page-clause-prefix g c =

@@ -7,7 +7,7 @@ loop-row-preserved g c =
     let text = g.L.Line.text c.args.line.now in
     let turned = c.in_ok-turn_page.ensures in
     let pushed = c.in_ok-push.ensures ∙ ap (λ row. c.loop-row.page.items ++ text row) c.row-item.is in
-    next_row text _ _ _ _ _ _ _ _ _ _ _ _ _ c.loop-row.invariant c.loop-row-test.true pushed _ _ _ _ turned.ok turned.prefix turned.stays (omega (arith, turned.counts))
+    next_row text _ _ _ _ _ _ _ _ _ _ _ _ _ c.loop-row.invariant c.loop-row-test.true pushed _ _ _ _ turned.ok turned.prefix turned.tells (omega (arith, turned.counts))
 
 pub returns-in_err-turn_page-clause-prefix : goal.returns-in_err-turn_page-clause-prefix
 returns-in_err-turn_page-clause-prefix g c =

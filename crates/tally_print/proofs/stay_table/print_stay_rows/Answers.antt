@@ -14,7 +14,7 @@ loop-row-init g c = rows_start (stay_fields _) c.args.rows.now _ _ _ _ c.in_ok-p
 pub loop-row-preserved : goal.loop-row-preserved
 loop-row-preserved g c =
     let turned = c.in_ok-turn_page.ensures in
-    next_row (λ row. row_text default_writer (stay_fields _ row)) _ _ _ _ _ _ _ _ _ _ _ _ _ c.loop-row.invariant c.loop-row-test.true c.in_ok-push_row.ensures _ _ _ _ turned.ok turned.prefix turned.stays (omega (arith, turned.counts))
+    next_row (λ row. row_text default_writer (stay_fields _ row)) _ _ _ _ _ _ _ _ _ _ _ _ _ c.loop-row.invariant c.loop-row-test.true c.in_ok-push_row.ensures _ _ _ _ turned.ok turned.prefix turned.tells (omega (arith, turned.counts))
 
 pub returns-in_err-turn_page-clause-prefix : goal.returns-in_err-turn_page-clause-prefix
 returns-in_err-turn_page-clause-prefix g c =
