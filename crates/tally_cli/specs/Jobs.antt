@@ -1,6 +1,7 @@
 -- What a run asks of its job.
 use Rattle.std.specs.Prelude.{◌≡◌, ◌≤◌, Option, None, ℤ, ⊤}
 use Rattle.tally_sessions.specs.Days.{IsOffset}
+use Rattle.tally_sessions.specs.declared.sessions.TheConstants.{HOST_LIMIT}
 use Rattle.tally_cli.specs.declared.job.Form.{Form}
 use Rattle.tally_cli.specs.declared.job.Form.TheVariants.{Text}
 use Rattle.tally_cli.specs.declared.job.Job.{Job}
@@ -23,6 +24,6 @@ pub record IsRunnable (job : Job) : Type 0 where
   pub offset : IsOffset job.offset
   pub some_feeders : 1 ≤ job.feeders
   pub few_feeders : job.feeders ≤ 64
-  pub few_askers : job.askers ≤ 128
+  pub few_askers : job.askers ≤ HOST_LIMIT
   pub until : TakesUntil job.report job.until
   pub form : TakesForm job.report job.form

@@ -9,7 +9,7 @@ use crate::desk::{Desk, Pass};
 use crate::gate::Gate;
 use std::alloc::Global;
 use std::sync::Wait;
-use tally_book::{AskFault, Question};
+use tally_book::{AskFault, CALL_LIMIT, Question};
 
 /// Asks all questions in order, the first as the call of this turn, up to one that is refused, and
 /// answers the next turn.
@@ -24,7 +24,7 @@ fn ask_all<R: Wait, G: Gate>(
 ) -> Result<u32, AskFault>
     requires desk { pass.old.desk ≡ desk.now.id }
     requires askable { All IsAskable questions.now }
-    requires few { turn + length questions.now ≤ 65536 }
+    requires few { turn + length questions.now ≤ CALL_LIMIT }
     ensures keeps { Keeps pass.old pass.new }
     ensures next { IfOk result (λ n. n ≡ turn + length questions.now) }
     ensures asked { OnOk result (Asks pass.old pass.new questions.now) }
@@ -53,7 +53,7 @@ pub fn ask_rounds<R: Wait, G: Gate>(
 ) -> Result<u64, AskFault>
     requires desk { pass.old.desk ≡ desk.now.id }
     requires askable { All IsAskable questions.now }
-    requires few { length questions.now * rounds ≤ 65536 }
+    requires few { length questions.now * rounds ≤ CALL_LIMIT }
     ensures keeps { Keeps pass.old pass.new }
     ensures count { IfOk result (λ k. k ≡ length questions.now * rounds) }
     ensures asked { OnOk result (Asks pass.old pass.new (in_rounds rounds questions.now)) }

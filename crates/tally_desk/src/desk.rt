@@ -116,7 +116,7 @@ impl Model for Desk {
 fn deal_all(lock: &TicketLock, mut seat: Seat, callers: u32, passes: &mut Vec<Pass>)
     requires seat { (seat.table_id ≡ lock.now.table.shared.table_id) × (seat.me ≡ standing (newcomers callers 0 callers)) }
     requires room { (passes.old.items ≡ []) × (callers ≤ vec_capacity passes.old) }
-    requires few { callers ≤ 128 }
+    requires few { callers ≤ HOST_LIMIT }
     ensures { passes.new.items ≡ first_passes lock.now.table.shared.table_id callers }
 {
     for number in 0..callers {
@@ -154,7 +154,7 @@ impl Desk {
         ensures callers { IfOk result (λ r. r.0.callers ≡ callers) }
         ensures passes { IfOk result (λ r. r.1.items ≡ first_passes r.0.id callers) }
         ensures desk { IfOk result (λ r. All (λ p. p.desk ≡ r.0.id) r.1.items) }
-        ensures given { OnOk result ((0 < callers) × (callers ≤ 128)) }
+        ensures given { OnOk result ((0 < callers) × (callers ≤ HOST_LIMIT)) }
         ensures refused { IfErr result (IsOpenFault callers) }
     {
         if callers == 0 || callers > HOST_LIMIT {

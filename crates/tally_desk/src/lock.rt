@@ -24,6 +24,7 @@ use std::thread::Parker;
 use std::time::Duration;
 use tally_book::{AskFault, Book, PostFault, Question, Receipt, Served};
 use tally_records::{Batch, Memory};
+use tally_sessions::HOST_LIMIT;
 
 /// A caller's seat at the table.
 pub type Seat = atomic_table::Seat<Book, View>;
@@ -66,7 +67,7 @@ impl TicketLock {
         callers: u32,
     ) -> Result<(TicketLock, Seat), Memory>
         requires some { 1 ≤ callers }
-        requires few { callers ≤ 128 }
+        requires few { callers ≤ HOST_LIMIT }
         ensures { IfOk result (λ t. (t.0.table.shared.key ≡ callers) × (t.1.table_id ≡ t.0.table.shared.table_id) × (t.1.me ≡ (opening_view callers, []))) }
     {
         let mut slots = Vec::with_capacity(alloc, 1)?;

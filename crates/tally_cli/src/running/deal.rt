@@ -9,10 +9,11 @@ use crate::running::source::Source;
 use crate::running::task::{Outcome, Task, Work};
 use std::alloc::{AllocError, Global};
 use tally_desk::{Desk, Input, Pass};
+use tally_sessions::HOST_LIMIT;
 
 /// The worker of a caller: feeders share the sources, and each asker is one of its own.
 fn worker_of(number: usize, sources: usize, feeders: usize) -> usize
-    requires { (0 < feeders) × (feeders ≤ 64) × (number < 128) }
+    requires { (0 < feeders) × (feeders ≤ 64) × (number < HOST_LIMIT) }
     ensures inside { number < sources → result < feeders }
     ensures feeder { number < sources → result ≡ number % feeders }
     ensures asker { sources ≤ number → result ≡ feeders + (number - sources) }
@@ -68,7 +69,7 @@ pub(crate) fn deal_out<I: Input>(
     until: Option<i32>,
 ) -> Result<Vec<Vec<Task<I>>>, AllocError>
     requires feeders { (0 < feeders) × (feeders ≤ 64) }
-    requires passes { length passes.items ≤ 128 }
+    requires passes { length passes.items ≤ HOST_LIMIT }
     requires desk { All (λ p. p.desk ≡ desk.now.id) passes.items }
     requires numbers { (k : ℕ) (p : _) → k < length passes.items → (slice_index_or passes.items k p).number ≡ k }
     requires sources { length sources.items ≤ length passes.items }

@@ -12,9 +12,10 @@ ghost use Rattle.tally_cli.specs.inside.RunSteps.{IsPrintFault};
 use crate::fault::RunFault;
 use crate::job::{Job, Report};
 use std::alloc::{AllocError, Global};
-use tally_book::{Answer, AskFault, Book, Question};
+use tally_book::{Answer, AskFault, Book, CALL_LIMIT, Question};
 use tally_print::{Output, print_answer};
 use tally_records::{Kind, Memory};
+use tally_sessions::HOST_LIMIT;
 use tally_usage::Order;
 
 /// Whether files of this kind are wanted, where one kind is.
@@ -35,7 +36,7 @@ fn stays_asked(
     limit: Option<u32>,
     until: Option<i32>,
 ) -> Result<Vec<Question>, AllocError>
-    requires { length kinds.now ≤ 128 }
+    requires { length kinds.now ≤ HOST_LIMIT }
     ensures { IfOk result (λ v. v.items ≡ stays_asked wanted limit kinds.now until) }
 {
     let mut questions = Vec::new(alloc);
@@ -56,7 +57,7 @@ fn all_questions(
     offset: i32,
     until: Option<i32>,
 ) -> Result<Vec<Question>, AllocError>
-    requires { length kinds.now ≤ 128 }
+    requires { length kinds.now ≤ HOST_LIMIT }
     ensures { IfOk result (λ v. v.items ≡ questions_of Report.All offset kinds.now until) }
 {
     let mut questions = stays_asked(alloc, kinds, Some(Kind::Login), None, until)?;
@@ -89,7 +90,7 @@ pub(crate) fn questions_of(
     job: &Job,
     kinds: &[Kind],
 ) -> Result<Vec<Question>, AllocError>
-    requires { length kinds.now ≤ 128 }
+    requires { length kinds.now ≤ HOST_LIMIT }
     ensures { IfOk result (λ v. v.items ≡ questions_of job.now.report job.now.offset kinds.now job.now.until) }
 {
     match job.report {
@@ -130,7 +131,7 @@ pub(crate) fn answers_to(
     requires caller { 0 < book.callers }
     requires askable { All IsAskable questions.now }
     requires hosts { All (NamesHostBelow book.callers) questions.now }
-    requires room { length book.calls + length questions.now ≤ 65536 }
+    requires room { length book.calls + length questions.now ≤ CALL_LIMIT }
     ensures value { IfOk result (λ answers. answers.items
         ≡ map (λ q. answer_of q book.logins book.procs) questions.now) }
     ensures days { IfOk result (λ answers. All HasDays answers.items) }

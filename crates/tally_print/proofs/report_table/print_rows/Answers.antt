@@ -24,7 +24,7 @@ loop-answer-preserved g c =
       printing = λ tells.
           let told : IsTrue (g.O.Output.tells c.loop-answer.out) = rw held.stays tells in
           answers_next (λ answer. csv_text (answer_rows _ _ answer)) _ _ _ _ _ _ _ c.loop-answer-test.true is (held.printing tells) (printed.ok told) (printed.prefix told);
-      stays = printed.stays ∙ held.stays;
+      stays = printed.tells ∙ held.stays;
       counts = omega (arith, printed.counts, held.counts);
     }
 
