@@ -1,5 +1,6 @@
 -- The fields of the sessions. Behind the stored entries stand those that are prepared.
 use Rattle.std.specs.Prelude.{◌≡◌, ◌≤◌, ◌<◌, ℕ, All, List, map, take, drop, length, get_or, Some, option_map}
+use Rattle.tally_sessions.specs.declared.sessions.TheConstants.{ENTRY_LIMIT, HOST_LIMIT}
 use Rattle.tally_sessions.specs.declared.entry.Entry.{Entry}
 use Rattle.tally_sessions.specs.declared.sessions.Sessions.TheInside.{Inside}
 use Rattle.tally_sessions.specs.declared.track.Track.{Track}
@@ -21,20 +22,20 @@ state_of a = record {
 
 -- each host has its track, after the first n entries
 pub record AreTracks (es : List Entry) (n : ℕ) (tracks : List Track) : Type 0 where
-  pub count : length tracks ≡ 128
-  pub at : (host : ℕ) (d : Track) → host < 128 → IsTrack host es n (get_or tracks host d)
+  pub count : length tracks ≡ HOST_LIMIT
+  pub at : (host : ℕ) (d : Track) → host < HOST_LIMIT → IsTrack host es n (get_or tracks host d)
 
 -- a track for each host, without entries
 pub record AreNewTracks (tracks : List Track) : Type 0 where
-  pub count : length tracks ≡ 128
-  pub at : (host : ℕ) (d : Track) → host < 128 → IsNewTrack (get_or tracks host d)
+  pub count : length tracks ≡ HOST_LIMIT
+  pub at : (host : ℕ) (d : Track) → host < HOST_LIMIT → IsNewTrack (get_or tracks host d)
 
 -- the fields belong together: each track is that of its host after the stored entries, with room for the prepared ones
 pub record IsSound (a : Inside) : Type 0 where
-  pub few_hosts : a.hosts ≤ 128
+  pub few_hosts : a.hosts ≤ HOST_LIMIT
   pub within : All (λ e. e.host < a.hosts) (take a.stored a.entries)
   pub stored_within : a.stored ≤ length a.entries
-  pub few : length a.entries ≤ 1048576
+  pub few : length a.entries ≤ ENTRY_LIMIT
   pub prepared : (host : ℕ) → a.ready ≡ Some host → posted_by host (map (λ e. e.item) (staged a)) ≡ staged a
   pub host_in : (host : ℕ) → a.ready ≡ Some host → host < a.hosts
   pub tracks : AreTracks a.entries a.stored a.tracks.items

@@ -6,6 +6,7 @@ use Rattle.tally_records.specs.declared.login.LoginRecord.{LoginRecord}
 use Rattle.tally_records.specs.declared.login.Event.{Event}
 use Rattle.tally_records.specs.declared.login.Event.TheVariants.{Login, Logout, Boot, Down}
 use Rattle.tally_records.specs.Event.{event_of}
+use Rattle.tally_sessions.specs.declared.sessions.TheConstants.{ENTRY_LIMIT}
 use Rattle.tally_sessions.specs.declared.track.ended.EndedSums.{EndedSums}
 use Rattle.tally_sessions.specs.declared.entry.Entry.{Entry}
 use Rattle.tally_sessions.specs.declared.entry.Stay.{Stay}
@@ -96,7 +97,7 @@ pub record IsWithin (n : ℕ) (z : ℤ) : Type 0 where
 -- stays that started at one of so many entries
 pub record ArePlaced (n : ℕ) (stays : List TrackedStay) : Type 0 where
   pub at : (k : ℕ) → k < length stays → (stay_at stays k).entry < n
-  pub before : (k : ℕ) → k < length stays → IsWithin 1048576 (stay_at stays k).clock_at
+  pub before : (k : ℕ) → k < length stays → IsWithin ENTRY_LIMIT (stay_at stays k).clock_at
 
 -- the tracked stay at a place: its line leads to it, while it is a login that is pending
 pub record IsTracked (es : List Entry) (n : ℕ) (lines : List (List ℕ × ℕ)) (swept i : ℕ) (t : TrackedStay) : Type 0 where
