@@ -3,6 +3,7 @@ pub mod BlockLemmas
 pub mod CountLemmas
 pub mod Deals
 pub mod Done
+pub mod Ends
 pub mod FeedLemmas
 pub mod Fills
 pub mod Histories

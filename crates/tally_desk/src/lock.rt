@@ -5,22 +5,23 @@ ghost use Rattle.tally_book.specs.Books.{IsLegal, IsReceipt, IsServed, asked, co
 ghost use Rattle.tally_book.specs.Contents.{Contents};
 ghost use Rattle.tally_book.specs.Refusals.{IsAskRefusal, IsPostRefusal};
 ghost use Rattle.tally_desk.specs.declared.lock.view.Known.{Known};
-ghost use Rattle.tally_desk.specs.inside.Seats.{IsNext, idle, standing, turn, waiting};
+ghost use Rattle.tally_desk.specs.inside.Seats.{IsMade, IsNext, idle, standing, turn, waiting};
 ghost use Rattle.tally_desk.specs.inside.Totals.{total};
 ghost use Rattle.tally_desk.specs.Callers.{Fits};
 ghost use Rattle.tally_desk.specs.inside.Views.{AllFit, knowing, opening_view, told_of};
 
 mod rule;
+mod sleepers;
 mod view;
 
 use crate::lock::rule::{Count, Deal, Draw, Gather, Leave, Look, Order, Tell};
+use crate::lock::sleepers::Sleepers;
 use crate::lock::view::View;
 use atomic_table::{Refused, Table};
 use std::alloc::Global;
 use std::hash::RandomState;
 use std::hint;
 use std::sync::Wait;
-use std::thread::Parker;
 use std::time::Duration;
 use tally_book::{AskFault, Book, PostFault, Question, Receipt, Served};
 use tally_records::{Batch, Memory};
@@ -39,23 +40,22 @@ const SERVING: usize = 2;
 // How often the next caller looks for its turn before it sleeps.
 const LOOKS: u32 = 1_000;
 
-// How many microseconds a caller sleeps for each turn before its own, and at most.
-const NAP: u64 = 20;
-
-const LONGEST_NAP: u64 = 1_000;
+// How many microseconds a caller sleeps at most for each turn before its own, if nobody wakes it.
+const NAP: u64 = 500;
 
 // The slot of the book.
 const BOOK: usize = 0;
 
-/// How long a caller sleeps that has so many turns before its own.
+/// How long a caller sleeps at most that has so many turns before its own.
 fn nap_before(turns: u64) -> Duration {
-    Duration::from_micros(turns.saturating_mul(NAP).min(LONGEST_NAP))
+    Duration::from_micros(turns.saturating_mul(NAP))
 }
 
 /// A book that one caller at a time has, in the order of their tickets.
 #[derive(Drop)]
 pub struct TicketLock {
     table: Table<Book, View, u32, Order, Global>,
+    sleepers: Sleepers,
     ghost sized: { (table.shared.table_id.words ≡ 3) × (table.shared.table_id.slots ≡ 1) },
 }
 
@@ -70,10 +70,11 @@ impl TicketLock {
         requires few { callers ≤ HOST_LIMIT }
         ensures { IfOk result (λ t. (t.0.table.shared.key ≡ callers) × (t.1.table_id ≡ t.0.table.shared.table_id) × (t.1.me ≡ (opening_view callers, []))) }
     {
+        let sleepers = Sleepers::new(alloc, callers)?;
         let mut slots = Vec::with_capacity(alloc, 1)?;
         slots.push_reserved(Book::new(alloc, keys, callers)?);
         match Table::new(alloc, &[0, 0, 0], slots, &callers) {
-            Ok((table, seat)) => Ok((TicketLock { table }, seat)),
+            Ok((table, seat)) => Ok((TicketLock { table, sleepers }, seat)),
             Err(Refused { slots: _ }) => Err(Memory),
         }
     }
@@ -105,7 +106,7 @@ impl TicketLock {
         ensures book { (result.callers ≡ self.table.shared.key) × IsLegal result }
         ensures callers { (ks : List Known) → seat.me ≡ standing ks → AllFit result ks × (total (λ k. length k.mine) ks ≡ length result.calls) }
     {
-        let TicketLock { table } = self;
+        let TicketLock { table, sleepers: _ } = self;
         let mut closed = table.close_with(seat);
         let book = closed.take(BOOK);
         closed.free();
@@ -162,13 +163,12 @@ impl TicketLock {
         ensures turn { (k : Known) → seat.old.me ≡ idle k → (ticket : ℕ) × (book : Contents) × (seat.new.me ≡ turn k ticket book book) × IsLegal book × Fits book k }
     {
         let ticket = self.draw(seat);
-        let nap = Parker::new();
         for _ in rt.forever() {
             let before = self.turns_before(seat, ticket);
             if before == 0 {
                 return;
             }
-            nap.park_timeout(rt, nap_before(before));
+            self.sleepers.sleep(rt, ticket, nap_before(before));
         }
         unreachable!()
     }
@@ -219,14 +219,32 @@ impl TicketLock {
         self.table.shared.fetch_add::<Count>(seat, CALLS, 1);
     }
 
-    /// Ends the turn, with the book as the seat's view has it.
+    /// Ends the turn, with the book as the seat's view has it. It wakes the next caller, and the one
+    /// after it, so that this one is awake when its turn comes.
     pub fn leave(&self, seat: &mut Seat)
         requires table { seat.old.table_id ≡ self.now.table.shared.table_id }
         requires serves { (k : Known) × (ticket : ℕ) × (book : Contents) × (seat.old.me ≡ turn k ticket book book) }
         ensures table { seat.new.table_id ≡ seat.old.table_id }
         ensures idle { (k : Known) (ticket : ℕ) (book : Contents) → seat.old.me ≡ turn k ticket book book → seat.new.me ≡ idle (knowing book k) }
     {
-        self.table.shared.fetch_add::<Leave>(seat, SERVING, 1);
+        let served = self.table.shared.fetch_add::<Leave>(seat, SERVING, 1);
+        self.sleepers.wake(served.wrapping_add(1));
+        self.sleepers.wake(served.wrapping_add(2));
+    }
+
+    /// Ends the turn of a call, which counts where the book answered it.
+    fn end(&self, seat: &mut Seat, answered: bool)
+        requires table { seat.old.table_id ≡ self.now.table.shared.table_id }
+        requires made { (k : Known) × (ticket : ℕ) × (before : Contents) × (after : Contents) × IsMade answered k.number before after × (seat.old.me ≡ turn k ticket before after) }
+        ensures table { seat.new.table_id ≡ seat.old.table_id }
+        ensures idle { (k : Known) (ticket : ℕ) (before after : Contents) → IsMade answered k.number before after → seat.old.me ≡ turn k ticket before after → seat.new.me ≡ idle (knowing after k) }
+    {
+        if answered {
+            self.count(seat);
+            self.leave(seat);
+        } else {
+            self.leave(seat);
+        }
     }
 
     /// The number of calls.
@@ -256,17 +274,9 @@ impl TicketLock {
             (λ e. (seat.new.me ≡ idle (knowing book k)) × IsPostRefusal (counts_of book) (length book.calls) batch.now e) }
     {
         self.enter(rt, seat);
-        match self.post_out(seat, number, batch) {
-            Ok(receipt) => {
-                self.count(seat);
-                self.leave(seat);
-                Ok(receipt)
-            }
-            Err(fault) => {
-                self.leave(seat);
-                Err(fault)
-            }
-        }
+        let made = self.post_out(seat, number, batch);
+        self.end(seat, made.is_ok());
+        made
     }
 
     /// Asks in the seat's turn.
@@ -289,16 +299,8 @@ impl TicketLock {
         ensures days { IfOk result (λ r. HasDays r.answer) }
     {
         self.enter(rt, seat);
-        match self.ask_out(alloc, seat, number, question) {
-            Ok(served) => {
-                self.count(seat);
-                self.leave(seat);
-                Ok(served)
-            }
-            Err(refused) => {
-                self.leave(seat);
-                Err(refused)
-            }
-        }
+        let made = self.ask_out(alloc, seat, number, question);
+        self.end(seat, made.is_ok());
+        made
     }
 }

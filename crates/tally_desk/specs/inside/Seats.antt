@@ -1,5 +1,5 @@
 -- A caller's seat, as its view and the slots that are out with it.
-use Rattle.std.specs.Prelude.{◌≡◌, ℕ, List, [], ◌∷◌, ◌++◌}
+use Rattle.std.specs.Prelude.{◌≡◌, ℕ, Bool, List, [], ◌∷◌, ◌++◌, MatchBool}
 use mathlib.Core.List.{IsPrefix}
 use Rattle.tally_book.specs.declared.history.Call.{Call}
 use Rattle.tally_book.specs.Contents.{Contents}
@@ -34,3 +34,7 @@ pub record IsNext (number : ℕ) (before after : Contents) : Type 0 where
   pub procs : IsPrefix before.procs after.procs
   pub callers : after.callers ≡ before.callers
   pub legal : IsLegal after
+
+-- a call was answered and is the next one, or it was refused and the book is as it was
+abbrev pub IsMade : Bool → ℕ → Contents → Contents → Type 0
+IsMade answered number before after = MatchBool answered (IsNext number before after) (after ≡ before)

@@ -7,8 +7,8 @@ use Rattle.tally_desk.specs.inside.Rule.{Orderly}
 use Rattle.tally_desk.proofs.Seats.{starts}
 use Rattle.tally_desk.proofs.lock.TicketLock.open.Goals as goal
 
-pub new-requires-2 : goal.new-requires-2
-new-requires-2 c =
+pub new-requires-3 : goal.new-requires-3
+new-requires-3 c =
     let callers = c.args.callers in
     let book : Contents = c.in_ok-new.field-0 in
     let made : book ≡ empty callers = c.in_ok-new.ensures.empty in
