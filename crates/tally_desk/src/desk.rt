@@ -15,6 +15,7 @@ ghost use Rattle.tally_desk.specs.Passes.{Grows, HasDone, IsAnswered, IsCurrent,
 ghost use Rattle.tally_desk.specs.inside.Seats.{idle, standing};
 ghost use Rattle.tally_desk.specs.inside.Views.{newcomers};
 
+use crate::fault::{CloseFault, OpenFault};
 use crate::lock::{Seat, TicketLock};
 use std::alloc::Global;
 use std::hash::RandomState;
@@ -23,25 +24,6 @@ use std::sync::Wait;
 use tally_book::{AskFault, Book, PostFault, Question, Receipt, Served};
 use tally_records::Batch;
 use tally_sessions::HOST_LIMIT;
-use thiserror::Error;
-
-/// Why no desk was opened.
-#[derive(Debug, PartialEq, Eq, Drop, Error)]
-pub enum OpenFault {
-    #[error("out of memory")]
-    Memory,
-    /// It is not 1 to 128.
-    #[error("{0} callers, 1 to 128 are allowed")]
-    Callers(u32),
-}
-
-/// Why a desk was not closed.
-#[derive(Debug, PartialEq, Eq, Drop, Error)]
-pub enum CloseFault {
-    /// Not all passes were handed in.
-    #[error("a pass is missing")]
-    PassMissing,
-}
 
 /// One caller's access to a desk. Contracts see what the caller knows.
 #[derive(Drop)]

@@ -1,4 +1,4 @@
-//! Why an input is refused.
+//! Why no desk was opened or closed, and why an input is refused.
 ghost use Rattle.std.specs.Prelude.{◌≡◌};
 ghost use Rattle.tally_desk.specs.Feeds.{refusal_of};
 ghost use Rattle.tally_desk.specs.declared.fault.FeedFault.TheVariants as fault;
@@ -8,6 +8,24 @@ use std::alloc::AllocError;
 use tally_book::PostFault;
 use tally_records::{Memory, RecordFault};
 use thiserror::Error;
+
+/// Why no desk was opened.
+#[derive(Debug, PartialEq, Eq, Drop, Error)]
+pub enum OpenFault {
+    #[error("out of memory")]
+    Memory,
+    /// It is not 1 to 128.
+    #[error("{0} callers, 1 to 128 are allowed")]
+    Callers(u32),
+}
+
+/// Why a desk was not closed.
+#[derive(Debug, PartialEq, Eq, Drop, Error)]
+pub enum CloseFault {
+    /// Not all passes were handed in.
+    #[error("a pass is missing")]
+    PassMissing,
+}
 
 /// Why an input was not fed to its end.
 #[derive(Debug, PartialEq, Eq, Drop, Error)]

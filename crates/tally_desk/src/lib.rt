@@ -14,8 +14,8 @@ mod gate;
 mod lock;
 
 pub use crate::asking::ask_rounds;
-pub use crate::desk::{CloseFault, Desk, OpenFault, Pass};
-pub use crate::fault::FeedFault;
+pub use crate::desk::{Desk, Pass};
+pub use crate::fault::{CloseFault, FeedFault, OpenFault};
 pub use crate::feeding::input::{Input, InputFault};
 pub use crate::feeding::memory::Bytes;
 pub use crate::feeding::reader::Reading;
