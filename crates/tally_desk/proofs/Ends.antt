@@ -9,7 +9,7 @@ use Rattle.tally_desk.specs.Passes.{Sat}
 
 -- the call of the caller `number`, after which the book is `after number`; the seat was `into`, and is `out`
 module _ {T E : Type 0} (k : Known) (ticket number : ℕ) (before : Contents) (after : ℕ → Contents) (P : Contents → T → Type 0) (Q : E → Type 0)
-  (own : number ≡ k.number) (next : IsLegal (after number) → IsNext k.number before (after number)) (into out : Sat) (entered : ◌≡◌ {A = Sat} into (turn k ticket before before)) where
+    (own : number ≡ k.number) (next : IsLegal (after number) → IsNext k.number before (after number)) (into out : Sat) (entered : ◌≡◌ {A = Sat} into (turn k ticket before before)) where
   abbrev pub Told : Result T E → Type 0
   Told r = MatchResult r (λ t. ◌≡◌ {A = Sat} out (turn k ticket before (after number)) × IsLegal (after number) × P (after number) t) (λ e. ◌≡◌ {A = Sat} out into × Q e)
 

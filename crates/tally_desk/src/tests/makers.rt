@@ -9,6 +9,7 @@ use std::sync::atomic::{AtomicU64, Ordering};
 use std::test::Fail;
 use std::{io, thread};
 use tally_book::Book;
+use tally_records::Batch;
 
 /// A desk of one caller, and its pass.
 pub(crate) fn opened(alloc: Global, keys: RandomState) -> Result<(Desk, Pass), Fail>
@@ -161,4 +162,46 @@ impl Gate for Meeting {
         }
         self.late.fetch_add(1, Ordering::SeqCst);
     }
+}
+
+fn put(bytes: &mut [u8], at: usize, text: &[u8]) {
+    for (to, from) in bytes.iter_mut().skip(at).zip(text) {
+        *to = *from;
+    }
+}
+
+fn login_record(kind: u8, user: &str, time: i32) -> [u8; 384] {
+    let mut bytes = [0; 384];
+    bytes[0] = kind;
+    put(&mut bytes, 8, b"tty1");
+    put(&mut bytes, 44, user.as_bytes());
+    put(&mut bytes, 340, &time.to_le_bytes());
+    bytes
+}
+
+fn make_record(flag: u8, numbers: &[u8; 10]) -> [u8; 64] {
+    let mut bytes = [0; 64];
+    bytes[0] = flag;
+    bytes[1] = 2;
+    put(&mut bytes, 12, numbers);
+    put(&mut bytes, 36, b"make");
+    bytes
+}
+
+/// A session of one hour.
+pub(crate) fn hour(alloc: Global) -> Result<Batch, Fail> {
+    let mut bytes = Vec::new(alloc);
+    bytes.extend_from_slice(&login_record(7, "ann", 1_000_000))?;
+    bytes.extend_from_slice(&login_record(8, "", 1_003_600))?;
+    Ok(Batch::logins(alloc, bytes.as_slice())?)
+}
+
+/// One run of make that executed, and two that only forked.
+pub(crate) fn makes(alloc: Global) -> Result<Batch, Fail> {
+    let mut bytes = Vec::new(alloc);
+    bytes.extend_from_slice(&make_record(0, &[120, 0, 60, 0, 0x58, 2, 0xf4, 1, 0xe8, 3]))?;
+    for _ in 0..2 {
+        bytes.extend_from_slice(&make_record(1, &[60, 0, 0, 0, 60, 0, 200, 0, 3, 0]))?;
+    }
+    Ok(Batch::procs(alloc, bytes.as_slice())?)
 }
