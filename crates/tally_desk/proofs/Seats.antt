@@ -17,6 +17,7 @@ use Rattle.tally_desk.specs.Passes.{Sat}
 use Rattle.tally_desk.specs.inside.Seats.{idle, standing}
 use Rattle.tally_desk.proofs.Totals.{total-append, total-set, terms_le, below-one, total-one, total_alone}
 use Rattle.tally_desk.proofs.Histories.{follows_self}
+use Rattle.tally_desk.proofs.Tickets.{apart_from, placed_by}
 
 -- a seat has one caller's number
 pub same_number : (k k' : Known) → idle k ≡ idle k' → k.number ≡ k'.number
@@ -96,19 +97,8 @@ module _ (callers : ℕ) where
             (λ (t : (j ≢ id) × (get_elem? s.views j ≡ some u)). r.each j u t.1) (at_set s.views id j w u old))
             (λ (same : given ≡ u). subst (Knows r.book r.served s.homes) same record { fit = (mine.fit.0, tt); turn = tt; one = omega arith })
             (at_snoc (set s.views id w) given u j d);
-        place = ⊎_elim inl
-            (λ p. let serving = p.1 in inr (
-              p.0,
-              (
-                serving.0,
-                serving.1,
-                serving.2,
-                serving.3,
-                at_longer (set s.views id w) (given ∷ []) serving.0 serving.1
-                    (set_else s.views id serving.0 w (λ same. let both : v ≡ serving.1 = some-injective v serving.1 (sym at ∙ (ap (get_elem? s.views) (sym same) ∙ serving.4)) in cc (ap (λ (x : View). x.stage) both, serving.5)) ∙ serving.4),
-                serving.5,
-              ),
-            )) r.place;
+        place = placed_by r.book s.homes s.views (set s.views id w ++ given ∷ [])
+            (λ j u t b there serves. at_longer (set s.views id w) (given ∷ []) j u (set_else s.views id j w (apart_from s.views id j v u t b at there serves (λ t b e. cc)) ∙ there)) r.place;
       })
 
   pub gathers : (id : ℕ) (v : View) (other : ℕ) (w : View) → v.stage ≡ Idle → w.stage ≡ Idle → Joins Rule id v other w (joined v w) spent
@@ -138,20 +128,10 @@ module _ (callers : ℕ) where
             })
             (λ (q : (j ≢ id) × (get_elem? s.views j ≡ some u)). r.each j u q.1) (at_set s.views id j both u t.1))
             (at_set mid other j spent u d);
-        place = ⊎_elim inl
-            (λ p. let serving = p.1 in
-            let other_view : (i : ℕ) (x : View) → get_elem? s.views i ≡ some x → x.stage ≡ Idle → serving.0 ≢ i = λ i x here idle same.
-            let one : x ≡ serving.1 = some-injective x serving.1 (sym here ∙ (ap (get_elem? s.views) (sym same) ∙ serving.4)) in cc (ap (λ (y : View). y.stage) one, serving.5, idle) in inr (
-              p.0,
-              (
-                serving.0,
-                serving.1,
-                serving.2,
-                serving.3,
-                set_else mid other serving.0 spent (other_view other w was ends) ∙ (set_else s.views id serving.0 both (other_view id v at rests) ∙ serving.4),
-                serving.5,
-              ),
-            )) r.place;
+        place = placed_by r.book s.homes s.views (set mid other spent)
+            (λ j u t b there serves.
+            set_else mid other j spent (apart_from s.views other j w u t b was there serves (λ t b e. cc (ends, e)))
+            ∙ (set_else s.views id j both (apart_from s.views id j v u t b at there serves (λ t b e. cc (rests, e))) ∙ there)) r.place;
       }
 
   -- whoever stands for all callers finds the book at home
@@ -166,7 +146,7 @@ module _ (callers : ℕ) where
       let no_calls : (ls : List Known) → total (λ (k : Known). 1) ls ≡ 0 → total (λ (k : Known). length k.mine) ls ≡ 0 = λ ls. elim ls as (λ x. total (λ (k : Known). 1) x ≡ 0 → total (λ (k : Known). length k.mine) x ≡ 0) [ [] ↦ λ e. refl | y ∷ ys ↦ λ e. absurd (omega arith) ] in (
         ⊎_elim (λ home. home)
             (λ p. let serving = p.1 in
-            let apart : serving.0 ≢ id = λ same. let both : v ≡ serving.1 = some-injective v serving.1 (sym at ∙ (ap (get_elem? s.views) (sym same) ∙ serving.4)) in cc (ap (λ (x : View). x.stage) both, serving.5) in
+            let apart : serving.0 ≢ id = apart_from s.views id serving.0 v serving.1 serving.2 serving.3 at serving.4 serving.5 (λ t b e. cc) in
             let theirs = r.each serving.0 serving.1 serving.4 in absurd (omega (arith, nobody serving.0 serving.1 apart serving.4, theirs.one, ap (ticket_weight (λ _. 1)) serving.5)))
             r.place,
         mine.fit,

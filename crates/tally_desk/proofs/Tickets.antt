@@ -29,24 +29,24 @@ none_serves book served homes b home Idle h ticket held e = cc
 none_serves book served homes b home (Waiting t) h ticket held e = cc
 none_serves book served homes b home (Serving t x) h ticket held e = absurd (cc (h.2, home))
 
+-- a seat that serves is none that does not
+pub apart_from : (views : List View) (i j : ℕ) (v u : View) (ticket : ℕ) (held : Contents) → get_elem? views i ≡ some v → get_elem? views j ≡ some u → u.stage ≡ Serving ticket held
+    → ((t : ℕ) (b : Contents) → v.stage ≢ Serving t b) → j ≢ i
+apart_from views i j v u ticket held at there serves never same = never ticket held (ap (λ (x : View). x.stage) (some-injective v u (sym at ∙ (ap (get_elem? views) (sym same) ∙ there))) ∙ serves)
+
+-- the book stays where it is, while no seat changes that serves
+pub placed_by : (book : Contents) (homes : List (Option Contents)) (views next : List View)
+    → ((j : ℕ) (u : View) (ticket : ℕ) (held : Contents) → get_elem? views j ≡ some u → u.stage ≡ Serving ticket held → get_elem? next j ≡ some u) → Placed book homes views → Placed book homes next
+placed_by book homes views next kept = ⊎_elim inl (λ p. inr (p.0, (p.1.0, p.1.1, p.1.2, p.1.3, kept p.1.0 p.1.1 p.1.2 p.1.3 p.1.4 p.1.5, p.1.5)))
+
 module _ (callers : ℕ) where
   abbrev Rule : St → Type 0
   Rule = Orderly callers
 
   -- the book stays where it is, while a seat changes that does not serve
   pub still_placed : (s : St) (r : Rule s) (id : ℕ) (v w : View) → get_elem? s.views id ≡ some v → ((ticket : ℕ) (held : Contents) → v.stage ≢ Serving ticket held) → Placed r.book s.homes (set s.views id w)
-  still_placed s r id v w at never = ⊎_elim inl
-      (λ p. let serving = p.1 in inr (
-        p.0,
-        (
-          serving.0,
-          serving.1,
-          serving.2,
-          serving.3,
-          set_else s.views id serving.0 w (λ same. never serving.2 serving.3 (ap (λ (x : View). x.stage) (some-injective v serving.1 (sym at ∙ (ap (get_elem? s.views) (sym same) ∙ serving.4))) ∙ serving.5)) ∙ serving.4,
-          serving.5,
-        ),
-      )) r.place
+  still_placed s r id v w at never =
+      placed_by r.book s.homes s.views (set s.views id w) (λ j u t b there serves. set_else s.views id j w (apart_from s.views id j v u t b at there serves never) ∙ there) r.place
 
   -- a ticket that is held is one of those that wait
   pub held_range : (s : St) (r : Rule s) (j : ℕ) (v : View) (ticket : ℕ) → get_elem? s.views j ≡ some v → ticket_weight (only ticket) v.stage ≡ 1 → (r.served ≤ ticket) × (ticket < r.drawn)

@@ -14,7 +14,7 @@ use std::sync::Wait;
 use std::time::Duration;
 
 // How often the next caller looks for its turn before it sleeps.
-const LOOKS: u32 = 1_000;
+const LOOKS: u32 = 200;
 
 // How many microseconds a caller sleeps at most for each turn before its own, if nobody wakes it.
 const NAP: u64 = 500;
