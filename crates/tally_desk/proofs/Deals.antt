@@ -6,7 +6,6 @@ use Rattle.std.specs.List.{All, range_with_len, sum_by}
 use Rattle.atomic_table.specs.Seated.{TableId}
 use Rattle.tally_book.specs.Contents.{Contents}
 use Rattle.tally_desk.specs.declared.lock.view.Known.{Known}
-use Rattle.tally_desk.specs.inside.Totals.{total}
 use Rattle.tally_desk.specs.Callers.{newcomer}
 use Rattle.tally_desk.specs.inside.Views.{AllFit}
 use Rattle.tally_desk.specs.Passes.{PassState, first_pass, known_of, Stands, HasDone}
@@ -34,9 +33,9 @@ all_stand book [] h = All-nil (Stands book)
 all_stand book (p ∷ ps) h = All-cons (Stands book) p ps h.0 (all_stand book ps h.1)
 
 -- the calls of all passes, as the closing seat counts them
-pub calls_of_all : (ps : List PassState) → total (λ (k : Known). length k.mine) (map known_of ps) ≡ sum_by (λ (p : PassState). length p.mine) ps
+pub calls_of_all : (ps : List PassState) → sum_by (λ (k : Known). length k.mine) (map known_of ps) ≡ sum_by (λ (p : PassState). length p.mine) ps
 calls_of_all [] = refl
-calls_of_all (p ∷ ps) = ap (λ n. length p.mine + n) (calls_of_all ps) ∙ sym (sum_by-cons (λ (q : PassState). length q.mine) p ps)
+calls_of_all (p ∷ ps) = sum_by-cons (λ (k : Known). length k.mine) (known_of p) (map known_of ps) ∙ ap (λ n. length p.mine + n) (calls_of_all ps) ∙ sym (sum_by-cons (λ (q : PassState). length q.mine) p ps)
 
 pub all_done : (book : Contents) (ps : List PassState) → All (Stands book) ps → All (λ p. IsSound (known_of p)) ps → All (HasDone book) ps
 all_done book [] h s = All-nil (HasDone book)

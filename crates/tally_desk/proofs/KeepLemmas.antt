@@ -1,7 +1,6 @@
 -- Passes that know no less.
 use Rattle.std.proofs.Common.{◌∙◌, refl, arith}
-use Rattle.tally_desk.specs.Feeds.{Keeps}
-use Rattle.tally_desk.specs.Passes.{Grows, PassState}
+use Rattle.tally_desk.specs.Passes.{Keeps, PassState}
 use Rattle.tally_desk.proofs.Histories.{follows_self, follows_trans}
 
 pub keeps_same : (p : PassState) → Keeps p p
@@ -21,16 +20,3 @@ keeps_trans p q r first next = record {
   legal = λ legal. next.legal (first.legal legal);
   told = omega (arith, first.told, next.told);
 }
-
-keeps_grown : (p q : PassState) → Grows p q → Keeps p q
-keeps_grown p q grown = record {
-  desk = grown.desk;
-  number = grown.number;
-  seen = grown.seen;
-  legal = λ _. grown.legal;
-  told = grown.told;
-}
-
--- one call more
-pub keeps_more : (p q r : PassState) → Keeps p q → Grows q r → Keeps p r
-keeps_more p q r first next = keeps_trans p q r first (keeps_grown q r next)

@@ -1,6 +1,7 @@
 -- Each step of the lock keeps its rule.
-use Rattle.std.proofs.Common.{◌≡◌, ℕ, suc, zero, ◌+◌, ◌%◌, ◌^◌, ◌<◌, ◌≤◌, ◌≢◌, Bool, true, false, MatchBool, List, [], ◌∷◌, ◌++◌, length, get_or, set, sym, refl, ap, ◌∙◌, subst, inl, inr, ⊎_elim, arith, le_refl, length-append, eq-eqb, ne_eqb}
+use Rattle.std.proofs.Common.{◌≡◌, ℕ, suc, zero, ◌+◌, ◌%◌, ◌^◌, ◌<◌, ◌≤◌, ◌≢◌, Bool, true, false, MatchBool, List, [], ◌∷◌, ◌++◌, length, get_or, set, sum_by, sym, refl, ap, ◌∙◌, subst, inl, inr, ⊎_elim, arith, le_refl, length-append, eq-eqb, ne_eqb}
 use mathlib.Core.Logic.{dite}
+use Rattle.std.proofs.lemmas.List.Sums.{sum_by-cons}
 use mathlib.Core.Option.{Option, none, some, some-injective, some-ne-none}
 use native.Mathlib.Decide.{ℕ_discrete}
 use lib.ListN.{get_elem?}
@@ -13,7 +14,7 @@ use Rattle.tally_book.specs.Books.{IsLegal, calls_of, caller_of}
 use Rattle.tally_desk.specs.declared.lock.view.Known.{Known}
 use Rattle.tally_desk.specs.declared.lock.view.Stage.TheVariants.{Idle, Waiting, Serving}
 use Rattle.tally_desk.specs.declared.lock.view.View.{View}
-use Rattle.tally_desk.specs.inside.Totals.{total, below}
+use Rattle.tally_desk.specs.inside.Totals.{below}
 use Rattle.tally_desk.specs.Callers.{Follows, Fits}
 use Rattle.tally_desk.specs.inside.Views.{view, AllFit, knowing, told_of, ticket_weight, number_weight, calls_made}
 use Rattle.tally_desk.specs.inside.Rule.{Orderly, Knows, HasTurn, Placed}
@@ -55,11 +56,12 @@ fits_after before after call number by made more k other fit = record {
 }
 
 all_fit_after : (before after : Contents) (call : Call) (number : ℕ) → caller_of call ≡ number → after.calls ≡ before.calls ++ call ∷ [] → Follows before after
-    → (ks : List Known) → total (λ k. only number k.number) ks ≡ 0 → AllFit before ks → AllFit after ks
+    → (ks : List Known) → sum_by (λ k. only number k.number) ks ≡ 0 → AllFit before ks → AllFit after ks
 all_fit_after before after call number by made more [] weightless fit = tt
-all_fit_after before after call number by made more (k ∷ ks) weightless fit = (
-  fits_after before after call number by made more k (λ e. let one = only-same number k.number e in absurd (omega arith)) fit.0,
-  all_fit_after before after call number by made more ks (omega arith) fit.1,
+all_fit_after before after call number by made more (k ∷ ks) weightless fit =
+  let weight = sum_by-cons (λ (x : Known). only number x.number) k ks in (
+  fits_after before after call number by made more k (λ e. let one = only-same number k.number e in absurd (omega (arith, weight))) fit.0,
+  all_fit_after before after call number by made more ks (omega (arith, weight)) fit.1,
 )
 
 module _ (callers : ℕ) where
@@ -214,7 +216,7 @@ module _ (callers : ℕ) where
         gives,
         tt,
         changed s r id v w at r.book r.drawn (r.served + 1) words homes are r.legal r.all (λ f. refl)
-            (λ f. omega (arith, below_more f r.served, ap f now)) (ap (λ (cs : List Call). length cs + 0 + length r.book.calls) own)
+            (λ f. omega (arith, below_more f r.served, ap f now)) (ap (λ (cs : List Call). 0 + length cs + length r.book.calls) own)
             record { fit = (subst (λ b. Fits b (knowing book k)) same (knowing_fits book k), tt); turn = tt; one = omega arith }
             (λ j u apart e. let theirs = r.each j u e in record {
               fit = theirs.fit;

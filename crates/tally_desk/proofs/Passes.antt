@@ -20,7 +20,7 @@ use Rattle.tally_sessions.specs.Hosts.{posted_by}
 use Rattle.tally_usage.specs.Summary.{entries_of}
 use Rattle.tally_desk.specs.declared.lock.view.Known.{Known}
 use Rattle.tally_desk.specs.inside.Knowledge.{IsSound}
-use Rattle.tally_desk.specs.Passes.{PassState, pass_of, deeds, Grows, IsAnswered, IsCurrent, Stores, Sat}
+use Rattle.tally_desk.specs.Passes.{PassState, pass_of, deeds, IsAnswered, IsCurrent, Keeps, Stores, Sat}
 use Rattle.tally_desk.specs.inside.Seats.{IsNext, idle}
 use Rattle.tally_desk.specs.Callers.{Follows, Fits}
 use Rattle.tally_desk.specs.inside.Views.{knowing, told_of}
@@ -29,7 +29,8 @@ use Rattle.tally_desk.proofs.Histories.{asked_next, calls_of_own, follows_next, 
 
 -- what a post shows of the pass before and after it
 pub record PostTells (batch : Records) (result : Result Receipt PostFault) (old new : PassState) : Type 0 where
-  pub grows : Grows old new
+  pub keeps : Keeps old new
+  pub legal : IsLegal new.seen
   pub current : IsCurrent new
   pub answered : IfOk result (λ r. IsAnswered old (Posted old.number r.before r.after) r.call new)
   pub stored : IfOk result (λ r. Stores old.number r.before batch new.seen)
@@ -40,7 +41,8 @@ pub record PostTells (batch : Records) (result : Result Receipt PostFault) (old 
 
 -- what a report shows of the pass before and after it
 pub record AskTells (question : Question) (result : Result Served AskFault) (old new : PassState) : Type 0 where
-  pub grows : Grows old new
+  pub keeps : Keeps old new
+  pub legal : IsLegal new.seen
   pub current : IsCurrent new
   pub answered : IfOk result (λ r. IsAnswered old (Asked old.number r.at question r.answer) r.call new)
   pub at : IfOk result (λ r. r.at ≡ counts_of new.seen)
@@ -72,12 +74,12 @@ answered id k book after call place fit made by is = record {
   mine = ap (calls_of k.number) made ∙ (calls_of_own k.number book.calls call by ∙ ap (λ cs. cs ++ call ∷ []) fit.own);
 }
 
-grown : (id : TableId) (k : Known) (book after : Contents) → Fits book k → Follows book after → length book.calls ≤ length after.calls → IsLegal after → Grows (pass_of id k) (pass_of id (knowing after k))
+grown : (id : TableId) (k : Known) (book after : Contents) → Fits book k → Follows book after → length book.calls ≤ length after.calls → IsLegal after → Keeps (pass_of id k) (pass_of id (knowing after k))
 grown id k book after fit more longer' legal = record {
   desk = refl;
   number = refl;
   seen = follows_trans k.seen book after fit.seen more;
-  legal = legal;
+  legal = λ _. legal;
   told = omega (arith, fit.told);
 }
 
@@ -101,7 +103,8 @@ module _ (id : TableId) (k : Known) (sound : IsSound k) (book : Contents) (fit :
         refl,
         knowing_sound after k sound (follows_trans k.seen book after fit.seen more) h.1,
         record {
-          grows = grown id k book after fit more (omega (arith, longer book.calls after.calls _ made)) h.1;
+          keeps = grown id k book after fit more (omega (arith, longer book.calls after.calls _ made)) h.1;
+          legal = h.1;
           current = record { told = refl; own = refl };
           answered = answered id k book after (Posted k.number r.before r.after) r.call fit made refl receipt.call;
           stored = record {
@@ -120,7 +123,8 @@ module _ (id : TableId) (k : Known) (sound : IsSound k) (book : Contents) (fit :
     refl,
     knowing_sound book k sound fit.seen legal,
     record {
-      grows = record { desk = refl; number = refl; seen = fit.seen; legal = legal; told = fit.told };
+      keeps = record { desk = refl; number = refl; seen = fit.seen; legal = λ _. legal; told = fit.told };
+      legal = legal;
       current = record { told = refl; own = refl };
       answered = tt;
       stored = tt;
@@ -146,7 +150,8 @@ module _ (id : TableId) (k : Known) (sound : IsSound k) (book : Contents) (fit :
         refl,
         knowing_sound after k sound (follows_trans k.seen book after fit.seen more) h.1,
         record {
-          grows = grown id k book after fit more (omega (arith, longer book.calls after.calls _ made)) h.1;
+          keeps = grown id k book after fit more (omega (arith, longer book.calls after.calls _ made)) h.1;
+          legal = h.1;
           current = record { told = refl; own = refl };
           answered = answered id k book after (Asked k.number r.at question r.answer) r.call fit made refl served.call;
           at = served.at;
@@ -162,7 +167,8 @@ module _ (id : TableId) (k : Known) (sound : IsSound k) (book : Contents) (fit :
     refl,
     knowing_sound book k sound fit.seen legal,
     record {
-      grows = record { desk = refl; number = refl; seen = fit.seen; legal = legal; told = fit.told };
+      keeps = record { desk = refl; number = refl; seen = fit.seen; legal = λ _. legal; told = fit.told };
+      legal = legal;
       current = record { told = refl; own = refl };
       answered = tt;
       at = tt;

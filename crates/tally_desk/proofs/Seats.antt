@@ -1,5 +1,5 @@
 -- The table as it begins, and as seats are dealt, gathered and closed.
-use Rattle.std.proofs.Common.{◌≡◌, ℕ, suc, zero, ◌+◌, ◌≤◌, ◌≢◌, List, [], ◌∷◌, ◌++◌, length, map, get_or, set, sym, refl, ap, ◌∙◌, subst, inl, inr, ⊎_elim, arith}
+use Rattle.std.proofs.Common.{◌≡◌, ℕ, suc, zero, ◌+◌, ◌≤◌, ◌≢◌, List, [], ◌∷◌, ◌++◌, length, map, get_or, set, sym, refl, ap, ◌∙◌, subst, inl, ⊎_elim, arith}
 use mathlib.Core.Option.{some, some-injective, some-ne-none}
 use lib.ListN.{get_elem?}
 use Rattle.atomic_table.specs.Table.{State, opening, Splits, Joins, Final, Seen}
@@ -10,12 +10,15 @@ use Rattle.tally_book.specs.Books.{IsLegal, empty}
 use Rattle.tally_desk.specs.declared.lock.view.Known.{Known}
 use Rattle.tally_desk.specs.declared.lock.view.Stage.TheVariants.{Idle}
 use Rattle.tally_desk.specs.declared.lock.view.View.{View}
-use Rattle.tally_desk.specs.inside.Totals.{total, below}
+use Rattle.std.specs.Prelude.{sum_by}
+use Rattle.std.proofs.lemmas.List.Sums.{sum_by-append, sum_by-cons}
+use Rattle.tally_desk.specs.inside.Totals.{below}
 use Rattle.tally_desk.specs.inside.Views.{view, AllFit, newcomers, opening_view, dealt, kept, joined, spent, ticket_weight, number_weight, calls_made}
 use Rattle.tally_desk.specs.inside.Rule.{Orderly, Knows}
+use Rattle.tally_desk.specs.Callers.{newcomer}
 use Rattle.tally_desk.specs.Passes.{Sat}
 use Rattle.tally_desk.specs.inside.Seats.{idle, standing}
-use Rattle.tally_desk.proofs.Totals.{total-append, total-set, terms_le, below-one, total-one, total_alone}
+use Rattle.tally_desk.proofs.Totals.{total-set, terms_le, below-one, total-one, total_alone}
 use Rattle.tally_desk.proofs.Histories.{follows_self}
 use Rattle.tally_desk.proofs.Tickets.{apart_from, placed_by}
 
@@ -27,16 +30,16 @@ newcomers_fit : (callers number n : ℕ) → AllFit (empty callers) (newcomers c
 newcomers_fit callers number zero = tt
 newcomers_fit callers number (suc n) = (record { seen = follows_self (empty callers); own = refl; told = omega arith }, newcomers_fit callers (number + 1) n)
 
-newcomers_numbers : (f : ℕ → ℕ) (callers number n : ℕ) → total (λ (k : Known). f k.number) (newcomers callers number n) + below f number ≡ below f (number + n)
+newcomers_numbers : (f : ℕ → ℕ) (callers number n : ℕ) → sum_by (λ (k : Known). f k.number) (newcomers callers number n) + below f number ≡ below f (number + n)
 newcomers_numbers f callers number zero = let e : number ≡ number + 0 = omega arith in omega (arith, ap (below f) e)
 newcomers_numbers f callers number (suc n) =
     let rest = newcomers_numbers f callers (number + 1) n in
     let next : number + 1 ≡ suc number = omega arith in
-    let far : number + 1 + n ≡ number + suc n = omega arith in omega (arith, ap (below f) next, ap (below f) far)
+    let far : number + 1 + n ≡ number + suc n = omega arith in omega (arith, rest, sum_by-cons (λ (k : Known). f k.number) (newcomer callers number) (newcomers callers (number + 1) n), ap (below f) next, ap (below f) far)
 
-newcomers_calls : (callers number n : ℕ) → total (λ (k : Known). length k.mine) (newcomers callers number n) ≡ 0
+newcomers_calls : (callers number n : ℕ) → sum_by (λ (k : Known). length k.mine) (newcomers callers number n) ≡ 0
 newcomers_calls callers number zero = refl
-newcomers_calls callers number (suc n) = omega (arith, newcomers_calls callers (number + 1) n)
+newcomers_calls callers number (suc n) = omega (arith, newcomers_calls callers (number + 1) n, sum_by-cons (λ (k : Known). length k.mine) (newcomer callers number) (newcomers callers (number + 1) n))
 
 pub empty_legal : (callers : ℕ) → 1 ≤ callers → callers ≤ 128 → IsLegal (empty callers)
 empty_legal callers least few = record {
@@ -81,16 +84,16 @@ module _ (callers : ℕ) where
       let w : View = view ks Idle in
       let given : View = view (k ∷ []) Idle in
       let mine = r.each id v at in
-      let split : (g : View → ℕ) → total g (set s.views id w ++ given ∷ []) + g v ≡ total g s.views + g w + g given = λ g. omega (arith, total-append g (set s.views id w) (given ∷ []), total-set g s.views id v w at) in record {
+      let split : (g : View → ℕ) → sum_by g (set s.views id w ++ given ∷ []) + g v ≡ sum_by g s.views + g w + g given = λ g. omega (arith, sum_by-append g (set s.views id w) (given ∷ []), total-set g s.views id v w at) in record {
         book = r.book;
         drawn = r.drawn;
         served = r.served;
         words = r.words;
         legal = r.legal;
         all = r.all;
-        numbers = λ f. omega (arith, split (number_weight f), r.numbers f);
+        numbers = λ f. omega (arith, split (number_weight f), r.numbers f, sum_by-cons (λ (x : Known). f x.number) k ks);
         tickets = λ f. omega (arith, split (λ x. ticket_weight f x.stage), r.tickets f);
-        counted = omega (arith, split calls_made, r.counted);
+        counted = omega (arith, split calls_made, r.counted, sum_by-cons (λ (x : Known). length x.mine) k ks);
         each = λ j u d. ⊎_elim
             (λ (old : get_elem? (set s.views id w) j ≡ some u). ⊎_elim
             (λ (t : (j ≡ id) × (w ≡ u)). subst (Knows r.book r.served s.homes) t.1 record { fit = mine.fit.1; turn = tt; one = omega arith })
@@ -108,23 +111,23 @@ module _ (callers : ℕ) where
       let was : get_elem? s.views other ≡ some w = sym (set_else s.views id other both apart) ∙ there in
       let mine = r.each id v at in
       let theirs = r.each other w was in
-      let moved : (g : View → ℕ) → total g (set mid other spent) + g w + g v ≡ total g s.views + g both + g spent = λ g. omega (arith, total-set g s.views id v both at, total-set g mid other w spent there) in record {
+      let moved : (g : View → ℕ) → sum_by g (set mid other spent) + g w + g v ≡ sum_by g s.views + g both + g spent = λ g. omega (arith, total-set g s.views id v both at, total-set g mid other w spent there) in record {
         book = r.book;
         drawn = r.drawn;
         served = r.served;
         words = r.words;
         legal = r.legal;
         all = r.all;
-        numbers = λ f. omega (arith, moved (number_weight f), r.numbers f, total-append (λ (k : Known). f k.number) w.known v.known);
+        numbers = λ f. omega (arith, moved (number_weight f), r.numbers f, sum_by-append (λ (k : Known). f k.number) w.known v.known);
         tickets = λ f. omega (arith, moved (λ x. ticket_weight f x.stage), r.tickets f, ap (ticket_weight f) ends);
-        counted = omega (arith, moved calls_made, r.counted, total-append (λ (k : Known). length k.mine) w.known v.known);
+        counted = omega (arith, moved calls_made, r.counted, sum_by-append (λ (k : Known). length k.mine) w.known v.known);
         each = λ j u d. ⊎_elim
             (λ (t : (j ≡ other) × (spent ≡ u)). subst (Knows r.book r.served s.homes) t.1 record { fit = tt; turn = tt; one = omega arith })
             (λ (t : (j ≢ other) × (get_elem? mid j ≡ some u)). ⊎_elim
             (λ (q : (j ≡ id) × (both ≡ u)). subst (Knows r.book r.served s.homes) q.1 record {
               fit = all_fit_append r.book w.known v.known theirs.fit mine.fit;
               turn = mine.turn;
-              one = omega (arith, mine.one, total-append (λ (k : Known). 1) w.known v.known);
+              one = omega (arith, mine.one, sum_by-append (λ (k : Known). 1) w.known v.known);
             })
             (λ (q : (j ≢ id) × (get_elem? s.views j ≡ some u)). r.each j u q.1) (at_set s.views id j both u t.1))
             (at_set mid other j spent u d);
@@ -136,14 +139,14 @@ module _ (callers : ℕ) where
 
   -- whoever stands for all callers finds the book at home
   pub ends_at_home : (s : State Contents View) (r : Rule s) (id : ℕ) (ks : List Known) → get_elem? s.views id ≡ some (view ks Idle) → callers ≤ length ks
-      → (s.homes ≡ some r.book ∷ []) × AllFit r.book ks × (total (λ (k : Known). length k.mine) ks ≡ length r.book.calls)
+      → (s.homes ≡ some r.book ∷ []) × AllFit r.book ks × (sum_by (λ (k : Known). length k.mine) ks ≡ length r.book.calls)
   ends_at_home s r id ks at whole =
       let v : View = view ks Idle in
       let mine = r.each id v at in
       let numbers = r.numbers (λ _. 1) in
       let nobody : (j : ℕ) (u : View) → j ≢ id → get_elem? s.views j ≡ some u → number_weight (λ _. 1) u ≡ 0 = λ j u apart e.
       omega (arith, terms_le (number_weight (λ _. 1)) s.views id j v u apart at e, below-one callers, total-one ks) in
-      let no_calls : (ls : List Known) → total (λ (k : Known). 1) ls ≡ 0 → total (λ (k : Known). length k.mine) ls ≡ 0 = λ ls. elim ls as (λ x. total (λ (k : Known). 1) x ≡ 0 → total (λ (k : Known). length k.mine) x ≡ 0) [ [] ↦ λ e. refl | y ∷ ys ↦ λ e. absurd (omega arith) ] in (
+      let no_calls : (ls : List Known) → sum_by (λ (k : Known). 1) ls ≡ 0 → sum_by (λ (k : Known). length k.mine) ls ≡ 0 = λ ls. elim ls as (λ x. sum_by (λ (k : Known). 1) x ≡ 0 → sum_by (λ (k : Known). length k.mine) x ≡ 0) [ [] ↦ λ e. refl | y ∷ ys ↦ λ e. absurd (omega (arith, sum_by-cons (λ (k : Known). 1) y ys)) ] in (
         ⊎_elim (λ home. home)
             (λ p. let serving = p.1 in
             let apart : serving.0 ≢ id = apart_from s.views id serving.0 v serving.1 serving.2 serving.3 at serving.4 serving.5 (λ t b e. cc) in
@@ -155,11 +158,11 @@ module _ (callers : ℕ) where
 
   -- the book that is found at the end
   pub closes : (id : ℕ) (m : Sat) (ks : List Known) (words : List ℕ) (slots : List Contents) (book : Contents) → Final (Seen Rule id m.0) words slots → m ≡ standing ks → callers ≤ length ks → get_elem? slots 0 ≡ some book
-      → IsLegal book × (book.callers ≡ callers) × AllFit book ks × (total (λ (k : Known). length k.mine) ks ≡ length book.calls)
+      → IsLegal book × (book.callers ≡ callers) × AllFit book ks × (sum_by (λ (k : Known). length k.mine) ks ≡ length book.calls)
   closes id m ks words slots book final e whole found =
       let s : State Contents View = final.0 in
       let r = final.1.0 in
       let back = final.4 in
       let end = ends_at_home s r id ks (final.1.1 ∙ ap (λ (x : Sat). some x.0) e) whole in
       let same : r.book ≡ book = some-injective r.book book (sym (back 0 r.book (ap (λ hs. get_elem? hs 0) end.0)) ∙ found) in
-      subst (λ (b : Contents). IsLegal b × (b.callers ≡ callers) × AllFit b ks × (total (λ (k : Known). length k.mine) ks ≡ length b.calls)) same (r.legal, r.all, end.1, end.2)
+      subst (λ (b : Contents). IsLegal b × (b.callers ≡ callers) × AllFit b ks × (sum_by (λ (k : Known). length k.mine) ks ≡ length b.calls)) same (r.legal, r.all, end.1, end.2)

@@ -4,7 +4,7 @@ use Rattle.std.specs.List.{All}
 use Rattle.tally_records.specs.Records.{Records, kind_of, logins_in, procs_in, record_count}
 use Rattle.tally_records.specs.declared.batch.Kind.{Kind}
 use Rattle.tally_records.specs.declared.batch.Kind.TheVariants.{Login, Proc}
-use Rattle.tally_book.specs.Books.{IsLegal, counts_of}
+use Rattle.tally_book.specs.Books.{counts_of}
 use Rattle.tally_book.specs.Contents.{Contents}
 use Rattle.tally_book.specs.Deeds.{Deed, Post}
 use Rattle.tally_book.specs.Refusals.{IsPostRefusal}
@@ -13,7 +13,6 @@ use Rattle.tally_book.specs.declared.fault.PostFault.TheVariants as post
 use Rattle.tally_desk.specs.Batches.{AreJoined, record_size, records_in}
 use Rattle.tally_desk.specs.Blocks.{feed_fault, good_blocks}
 use Rattle.tally_desk.specs.Passes.{PassState, deeds}
-use Rattle.tally_desk.specs.Callers.{Follows}
 use Rattle.tally_desk.specs.declared.fault.FeedFault.{FeedFault}
 use Rattle.tally_desk.specs.declared.fault.FeedFault.TheVariants.{Memory, Read, Torn, TooLong, Bad, LoginsFull, ProcsFull, CallsFull}
 use Rattle.tally_desk.specs.declared.feeding.Fed.{Fed}
@@ -25,14 +24,6 @@ post_of batch = Post (logins_in batch) (procs_in batch)
 -- what the caller did between are posts of these batches
 abbrev pub Posts : PassState → PassState → List Records → Type 0
 Posts old new batches = deeds new ≡ deeds old ++ map post_of batches
-
--- it is the same caller's pass of the same desk, it knows no less, and a legal book stays one
-pub record Keeps (old new : PassState) : Type 0 where
-  pub desk : new.desk ≡ old.desk
-  pub number : new.number ≡ old.number
-  pub seen : Follows old.seen new.seen
-  pub legal : IsLegal old.seen → IsLegal new.seen
-  pub told : old.told ≤ new.told
 
 -- a batch of the most records
 abbrev pub IsFull : Records → Type 0

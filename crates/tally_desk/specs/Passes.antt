@@ -52,12 +52,12 @@ first_pass id callers number = pass_of id (newcomer callers number)
 abbrev pub first_passes : TableId → ℕ → List PassState
 first_passes id callers = map (first_pass id callers) (range_with_len 0 callers)
 
--- the pass stays the same one, and knows no less
-pub record Grows (old new : PassState) : Type 0 where
+-- it is the same caller's pass of the same desk, it knows no less, and a legal book stays one
+pub record Keeps (old new : PassState) : Type 0 where
   pub desk : new.desk ≡ old.desk
   pub number : new.number ≡ old.number
   pub seen : Follows old.seen new.seen
-  pub legal : IsLegal new.seen
+  pub legal : IsLegal old.seen → IsLegal new.seen
   pub told : old.told ≤ new.told
 
 -- the pass has learned of as many calls as it has seen, and its own are those of its number

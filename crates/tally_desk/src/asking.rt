@@ -2,8 +2,8 @@
 ghost use Rattle.std.specs.Prelude.{◌≡◌, ◌+◌, ◌*◌, ◌≤◌, IfErr, IfOk, OnOk, length};
 ghost use Rattle.std.specs.List.{All};
 ghost use Rattle.tally_book.specs.Answers.{IsAskable};
-ghost use Rattle.tally_desk.specs.Feeds.{Keeps};
 ghost use Rattle.tally_desk.specs.Rounds.{AskStops, Asks, in_rounds};
+ghost use Rattle.tally_desk.specs.Passes.{Keeps};
 
 use crate::desk::{Desk, Pass};
 use crate::gate::Gate;

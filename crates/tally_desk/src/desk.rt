@@ -11,7 +11,7 @@ ghost use Rattle.tally_records.specs.Records.{logins_in, procs_in};
 ghost use Rattle.tally_desk.specs.declared.lock.view.Known.{Known};
 ghost use Rattle.tally_desk.specs.inside.Knowledge.{IsSound};
 ghost use Rattle.tally_desk.specs.Openings.{IsOpenFault};
-ghost use Rattle.tally_desk.specs.Passes.{Grows, HasDone, IsAnswered, IsCurrent, Stands, Stores, deeds, first_passes, known_of, pass_of, told_pass};
+ghost use Rattle.tally_desk.specs.Passes.{HasDone, IsAnswered, IsCurrent, Keeps, Stands, Stores, deeds, first_passes, known_of, pass_of, told_pass};
 ghost use Rattle.tally_desk.specs.inside.Seats.{idle, standing};
 ghost use Rattle.tally_desk.specs.inside.Views.{newcomers};
 
@@ -186,7 +186,8 @@ impl Desk {
         batch: &Batch,
     ) -> Result<Receipt, PostFault>
         requires desk { pass.old.desk ≡ self.now.id }
-        ensures grows { Grows pass.old pass.new }
+        ensures keeps { Keeps pass.old pass.new }
+        ensures legal { IsLegal pass.new.seen }
         ensures current { IsCurrent pass.new }
         ensures answered { IfOk result (λ r. IsAnswered pass.old (Posted pass.old.number r.before r.after) r.call pass.new) }
         ensures stored { IfOk result (λ r. Stores pass.old.number r.before batch.now pass.new.seen) }
@@ -212,7 +213,8 @@ impl Desk {
     ) -> Result<Served, AskFault>
         requires desk { pass.old.desk ≡ self.now.id }
         requires askable { IsAskable question.now }
-        ensures grows { Grows pass.old pass.new }
+        ensures keeps { Keeps pass.old pass.new }
+        ensures legal { IsLegal pass.new.seen }
         ensures current { IsCurrent pass.new }
         ensures answered { IfOk result (λ r. IsAnswered pass.old (Asked pass.old.number r.at question.now r.answer) r.call pass.new) }
         ensures at { IfOk result (λ r. r.at ≡ counts_of pass.new.seen) }

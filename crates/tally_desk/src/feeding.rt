@@ -3,9 +3,10 @@ ghost use Rattle.std.specs.Prelude.{◌≡◌, ◌≢◌, ◌+◌, ◌-◌, ◌^
 ghost use Rattle.std.specs.Io.KnownBytes.{IsAtEnd};
 ghost use Rattle.tally_desk.specs.Blocks.{block_size};
 ghost use Rattle.tally_desk.specs.Takings.{TakesAtMost};
-ghost use Rattle.tally_desk.specs.Feeds.{Counts, IsFeedRefusal, IsStopped, IsWhole, Keeps, Posts, Stops};
+ghost use Rattle.tally_desk.specs.Feeds.{Counts, IsFeedRefusal, IsStopped, IsWhole, Posts, Stops};
 ghost use Rattle.tally_desk.specs.declared.fault.FeedFault.TheVariants as fault;
 ghost use Rattle.tally_records.specs.Records.{Records};
+ghost use Rattle.tally_desk.specs.Passes.{Keeps};
 
 mod block;
 pub(crate) mod input;

@@ -1,12 +1,11 @@
 //! A ticket lock over a book, by the steps of a table.
-ghost use Rattle.std.specs.Prelude.{◌≡◌, ◌<◌, ◌≤◌, [], ◌∷◌, ℕ, length, List, IfOk, MatchResult};
+ghost use Rattle.std.specs.Prelude.{◌≡◌, ◌<◌, ◌≤◌, [], ◌∷◌, ℕ, length, List, IfOk, MatchResult, sum_by};
 ghost use Rattle.tally_book.specs.Answers.{HasDays, IsAskable};
 ghost use Rattle.tally_book.specs.Books.{IsLegal, IsReceipt, IsServed, asked, counts_of, posted};
 ghost use Rattle.tally_book.specs.Contents.{Contents};
 ghost use Rattle.tally_book.specs.Refusals.{IsAskRefusal, IsPostRefusal};
 ghost use Rattle.tally_desk.specs.declared.lock.view.Known.{Known};
 ghost use Rattle.tally_desk.specs.inside.Seats.{idle, standing, turn};
-ghost use Rattle.tally_desk.specs.inside.Totals.{total};
 ghost use Rattle.tally_desk.specs.Callers.{Fits};
 ghost use Rattle.tally_desk.specs.inside.Views.{AllFit, knowing, opening_view, told_of};
 
@@ -92,7 +91,7 @@ impl TicketLock {
         requires table { seat.table_id ≡ self.table.shared.table_id }
         requires all { (ks : List Known) × (seat.me ≡ standing ks) × (self.table.shared.key ≤ length ks) }
         ensures book { (result.callers ≡ self.table.shared.key) × IsLegal result }
-        ensures callers { (ks : List Known) → seat.me ≡ standing ks → AllFit result ks × (total (λ k. length k.mine) ks ≡ length result.calls) }
+        ensures callers { (ks : List Known) → seat.me ≡ standing ks → AllFit result ks × (sum_by (λ k. length k.mine) ks ≡ length result.calls) }
     {
         let TicketLock { table, sleepers: _ } = self;
         let mut closed = table.close_with(seat);

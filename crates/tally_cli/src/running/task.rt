@@ -1,6 +1,6 @@
 //! One caller's work.
 ghost use Rattle.std.specs.Prelude.{◌≡◌, IfErr, IfOk, MatchBool, OnOk};
-ghost use Rattle.tally_desk.specs.Feeds.{Keeps};
+ghost use Rattle.tally_desk.specs.Passes.{Keeps};
 ghost use Rattle.tally_desk.specs.Rounds.{AskStops, Asks};
 ghost use Rattle.tally_cli.specs.inside.Tasks.{asked_once, asker_questions, HasFailed, IsCountable, IsDone, IsUntried, Works};
 

@@ -1,5 +1,5 @@
 -- The rule of the table: a ticket lock over a book and its one history.
-use Rattle.std.specs.Prelude.{◌≡◌, ℕ, ◌+◌, ◌%◌, ◌^◌, ◌≤◌, ◌⊎◌, List, [], ◌∷◌, length}
+use Rattle.std.specs.Prelude.{◌≡◌, ℕ, ◌+◌, ◌%◌, ◌^◌, ◌≤◌, ◌⊎◌, List, [], ◌∷◌, length, sum_by}
 use mathlib.Core.Option.{Option, none, some}
 use lib.ListN.{get_elem?}
 use Rattle.atomic_table.specs.Table.{State}
@@ -8,7 +8,7 @@ use Rattle.tally_book.specs.Books.{IsLegal}
 use Rattle.tally_desk.specs.declared.lock.view.Stage.{Stage}
 use Rattle.tally_desk.specs.declared.lock.view.Stage.TheVariants.{Idle, Waiting, Serving}
 use Rattle.tally_desk.specs.declared.lock.view.View.{View}
-use Rattle.tally_desk.specs.inside.Totals.{total, below}
+use Rattle.tally_desk.specs.inside.Totals.{below}
 use Rattle.tally_desk.specs.inside.Views.{AllFit, ticket_weight, number_weight, calls_made}
 
 -- whoever has the turn has the ticket that is served, knows the book as it is, and has it out
@@ -41,10 +41,10 @@ pub record Orderly (callers : ℕ) (s : State Contents View) : Type 0 where
   pub legal : IsLegal book
   pub all : book.callers ≡ callers
   -- each number below `callers` stands with one seat, once, and no other number does
-  pub numbers : (f : ℕ → ℕ) → total (number_weight f) s.views ≡ below f callers
+  pub numbers : (f : ℕ → ℕ) → sum_by (number_weight f) s.views ≡ below f callers
   -- each ticket from `served` up to `drawn` is held by one seat, and no other ticket is
-  pub tickets : (f : ℕ → ℕ) → total (λ v. ticket_weight f v.stage) s.views + below f served ≡ below f drawn
+  pub tickets : (f : ℕ → ℕ) → sum_by (λ v. ticket_weight f v.stage) s.views + below f served ≡ below f drawn
   -- the calls are those that the callers made
-  pub counted : total calls_made s.views ≡ length book.calls
+  pub counted : sum_by calls_made s.views ≡ length book.calls
   pub each : (j : ℕ) (v : View) → get_elem? s.views j ≡ some v → Knows book served s.homes v
   pub place : Placed book s.homes s.views

@@ -1,5 +1,5 @@
 -- What seats know.
-use Rattle.std.specs.Prelude.{ℕ, List, [], ◌∷◌, ◌++◌, length, map, take, drop}
+use Rattle.std.specs.Prelude.{ℕ, List, [], ◌∷◌, ◌++◌, length, map, take, drop, sum_by}
 use Rattle.std.specs.List.{range_with_len}
 use Rattle.tally_book.specs.Contents.{Contents}
 use Rattle.tally_book.specs.Books.{calls_of}
@@ -7,7 +7,6 @@ use Rattle.tally_desk.specs.declared.lock.view.Known.{Known}
 use Rattle.tally_desk.specs.declared.lock.view.Stage.{Stage}
 use Rattle.tally_desk.specs.declared.lock.view.Stage.TheVariants.{Idle, Waiting, Serving}
 use Rattle.tally_desk.specs.declared.lock.view.View.{View}
-use Rattle.tally_desk.specs.inside.Totals.{total}
 use Rattle.tally_desk.specs.Callers.{newcomer, Fits}
 
 -- a view
@@ -59,8 +58,8 @@ ticket_weight f (Serving ticket book) = f ticket
 
 -- the weight of the callers' numbers
 abbrev pub number_weight : (ℕ → ℕ) → View → ℕ
-number_weight f v = total (λ k. f k.number) v.known
+number_weight f v = sum_by (λ k. f k.number) v.known
 
 -- how many calls the callers have made
 abbrev pub calls_made : View → ℕ
-calls_made v = total (λ k. length k.mine) v.known
+calls_made v = sum_by (λ k. length k.mine) v.known

@@ -1,5 +1,5 @@
 use Rattle.std.proofs.Common.{◌≡◌, ◌+◌, take}
-use Rattle.tally_desk.specs.Feeds.{Keeps}
+use Rattle.tally_desk.specs.Passes.{Keeps}
 use Rattle.tally_desk.specs.Rounds.{Asks}
 use Rattle.tally_desk.proofs.asking.ask_all.Given as goal
 

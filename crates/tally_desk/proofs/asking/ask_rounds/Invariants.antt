@@ -1,5 +1,5 @@
 use Rattle.std.proofs.Common.{◌≡◌, ◌*◌, length}
-use Rattle.tally_desk.specs.Feeds.{Keeps}
+use Rattle.tally_desk.specs.Passes.{Keeps}
 use Rattle.tally_desk.specs.Rounds.{Asks, in_rounds}
 use Rattle.tally_desk.proofs.asking.ask_rounds.Given as goal
 

@@ -7,7 +7,7 @@ use Rattle.tally_desk.specs.Feeds.{IsFull}
 use Rattle.tally_desk.specs.declared.fault.FeedFault.TheVariants as fault
 use Rattle.tally_desk.proofs.CountLemmas.{after_all, counts_full, counts_last, full_cut, full_more, full_none, one_more_batch, unplaced}
 use Rattle.tally_desk.proofs.FeedLemmas.{begins, some_batch, takes_end, takes_some, told_end, told_more, told_short, told_stops, told_unposted}
-use Rattle.tally_desk.proofs.KeepLemmas.{keeps_more}
+use Rattle.tally_desk.proofs.KeepLemmas.{keeps_trans}
 use Rattle.tally_desk.proofs.RefusalLemmas.{no_refusal, post_refusal}
 use Rattle.tally_desk.proofs.TakeLemmas.{takes_few, takes_last, takes_next}
 use Rattle.tally_desk.proofs.TurnLemmas.{last_turn_stops}
@@ -57,7 +57,7 @@ returns-in_err-post-clause-full g c =
     let p = err_from_is_err_and c.from_residual-in_err-post.result c.from_residual-in_err-post.ensures.1 in
     let post = c.in_err-post.ensures in
     let batch = some_batch c.args.kind _ c.in-Some.batch c.in-Some.is c.in_ok-batch.ensures.batch in
-    rw (p.1, p.2) (post_refusal c.post.new.pass.seen post.grows.legal c.args.kind c.in-Some.batch _ batch post.cause)
+    rw (p.1, p.2) (post_refusal c.post.new.pass.seen post.legal c.args.kind c.in-Some.batch _ batch post.cause)
 
 pub returns-then-records-lt-BATCH_LIMIT-clause-counted :
     goal.returns-then-records-lt-BATCH_LIMIT-clause-counted
@@ -97,7 +97,7 @@ loop-turn-preserved g c =
         length-append c.next_batch.new.block (drop (length c.next_batch.new.block) c.loop-turn.block.items),
         length-drop (length c.next_batch.new.block) c.loop-turn.block.items,
       );
-      keeps = keeps_more c.args.pass.now c.loop-turn.pass c.post.new.pass c.loop-turn.invariant.keeps c.in_ok-post.ensures.grows;
+      keeps = keeps_trans c.args.pass.now c.loop-turn.pass c.post.new.pass c.loop-turn.invariant.keeps c.in_ok-post.ensures.keeps;
       posts = full_more c.args.kind c.args.pass.now c.loop-turn.pass c.post.new.pass c.loop-turn.turn c.loop-turn.invariant.posts c.in-Some.batch batch c.in_ok-post.ensures.did full;
       told = λ bytes told.
           let so_far = c.loop-turn.invariant.told bytes told in

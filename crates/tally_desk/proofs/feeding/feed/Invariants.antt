@@ -1,6 +1,7 @@
 use Rattle.std.proofs.Common.{◌≡◌, ◌*◌, ℕ, List, Some, length}
 use Rattle.tally_desk.specs.Blocks.{block_size}
-use Rattle.tally_desk.specs.Feeds.{Keeps, Posts}
+use Rattle.tally_desk.specs.Feeds.{Posts}
+use Rattle.tally_desk.specs.Passes.{Keeps}
 use Rattle.tally_desk.specs.Takings.{TakesAtMost}
 use Rattle.tally_desk.proofs.FeedLemmas.{FullPosts, Told}
 use Rattle.tally_desk.proofs.feeding.feed.Given as goal

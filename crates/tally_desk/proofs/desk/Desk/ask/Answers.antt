@@ -20,8 +20,11 @@ invariant_of-pass g c =
     let b = c.ask.ensures.asked o.0 o.1 in
     let t = asked_pass c.pass.inside.seat.table_id o.0 o.3 b.0 b.1 c.args.question.now _ _ b.2 b.3 in (t.0, t.1, o.2 ∙ t.2, t.3)
 
-pub returns-clause-grows : goal.returns-clause-grows
-returns-clause-grows g c = (tells g c).grows
+pub returns-clause-keeps : goal.returns-clause-keeps
+returns-clause-keeps g c = (tells g c).keeps
+
+pub returns-clause-legal : goal.returns-clause-legal
+returns-clause-legal g c = (tells g c).legal
 
 pub returns-clause-current : goal.returns-clause-current
 returns-clause-current g c = (tells g c).current
