@@ -1,8 +1,8 @@
 //! A book that several threads share, and the inputs and the questions that callers bring to it.
 //!
 //! `desk` has the shared book and its callers' passes, and `lock` the ticket lock that gives it to
-//! one caller at a time: `rule` of its table, and each caller's `view`. `feeding` takes an input to
-//! the desk by blocks: `input` is what gives bytes, `memory` and `reader` are such inputs, `block`
+//! one caller at a time: `turns` of its callers, who are `sleepers` until these are near, `rule` of
+//! its table, and each caller's `view`. `feeding` takes an input to the desk by blocks: `input` is what gives bytes, `memory` and `reader` are such inputs, `block`
 //! reads one block of records. `asking` brings questions, and `gate` comes before each call.
 #![tactic(auto)]
 
