@@ -10,7 +10,6 @@ ghost use Rattle.tally_sessions.specs.Totals.{connect_of};
 
 mod day_sums;
 mod day_user_rows;
-pub(crate) mod sums;
 mod user_sums;
 
 use crate::sessions::{HOST_LIMIT, Sessions};

@@ -9,7 +9,7 @@ ghost use Rattle.tally_sessions.specs.inside.Sums.{sum_at};
 ghost use Rattle.tally_sessions.specs.Totals.{stays_of};
 ghost use Rattle.tally_sessions.specs.inside.Track as spec;
 
-use crate::connect::sums::{Session, add};
+use crate::sums::{Session, add};
 use crate::days::{day_of, seconds_on};
 use crate::entries::Entries;
 use crate::sessions::{ENTRY_LIMIT, HOST_LIMIT, Sessions};

@@ -13,7 +13,7 @@ ghost use Rattle.tally_sessions.specs.inside.Track as spec;
 ghost use Rattle.tally_sessions.specs.declared.connect.day_user_rows.DayUser.{DayUser as Key};
 
 use crate::connect::day_sums::change_on;
-use crate::connect::sums::Session;
+use crate::sums::Session;
 use crate::days::day_of;
 use crate::entries::Entries;
 use crate::sessions::{ENTRY_LIMIT, HOST_LIMIT, Sessions};

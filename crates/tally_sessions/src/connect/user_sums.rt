@@ -9,7 +9,7 @@ ghost use Rattle.tally_sessions.specs.inside.Totals.{seconds_of};
 ghost use Rattle.tally_sessions.specs.Totals.{stays_of};
 ghost use Rattle.tally_sessions.specs.inside.Track as spec;
 
-use crate::connect::sums::add;
+use crate::sums::add;
 use crate::entries::Entries;
 use crate::sessions::ENTRY_LIMIT;
 use crate::track::Track;

@@ -7,7 +7,7 @@ ghost use Rattle.tally_sessions.specs.inside.Totals.{seconds_of};
 ghost use Rattle.tally_sessions.specs.Totals.{stays_of};
 ghost use Rattle.tally_sessions.specs.inside.Track as spec;
 
-use crate::connect::sums::Session;
+use crate::sums::Session;
 use crate::entries::Entries;
 use crate::entry::Stay;
 use crate::sessions::ENTRY_LIMIT;

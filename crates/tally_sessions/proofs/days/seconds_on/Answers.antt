@@ -4,8 +4,8 @@ use Rattle.std.specs.Int.{w32, w64, int_max, int_min}
 use Rattle.std.specs.Prelude.{FitsSigned}
 use Rattle.tally_sessions.specs.Days.{day_start, seconds_on}
 use Rattle.tally_sessions.specs.Stays.{seconds_between}
-use Rattle.tally_sessions.proofs.DaysLemmas.{min_least, min_at_most_first, max_at_least, max_most}
-use Rattle.tally_sessions.proofs.Lengths.{held}
+use Rattle.tally_sessions.proofs.days.DaysLemmas.{min_least, min_at_most_first, max_at_least, max_most}
+use Rattle.tally_sessions.proofs.track.Lengths.{held}
 use Rattle.tally_sessions.proofs.days.seconds_on.Goals as goal
 
 next_start : (offset day : ℤ) → (day_start offset day +ℤ pos 86400) ≡ day_start offset (day +ℤ pos 1)

@@ -3,17 +3,17 @@ use Rattle.std.proofs.lemmas.Int.{to_z-of_z}
 use Rattle.std.proofs.lemmas.List.{get_or-replicate}
 use Rattle.std.specs.List.{flat_map, range_with_len}
 use Rattle.tally_sessions.specs.declared.entry.Entry.{Entry}
-use Rattle.tally_sessions.specs.declared.connect.sums.Session.{Session}
+use Rattle.tally_sessions.specs.declared.sums.Session.{Session}
 use Rattle.tally_sessions.specs.inside.Changes.{change_at, change_of_day, day_at}
 use Rattle.tally_sessions.specs.Lent.{entries_in}
 use Rattle.tally_sessions.specs.State.{State}
 use Rattle.tally_sessions.specs.Sums.{seconds_of_day, sessions_among}
 use Rattle.tally_sessions.specs.Totals.{stays_of}
-use Rattle.tally_sessions.proofs.DayChanges.{ChangesTo, table_high, table_low, whole_slice}
-use Rattle.tally_sessions.proofs.DayHosts.{HaveDays, change_joined, days_joined}
-use Rattle.tally_sessions.proofs.HostCounts.{count_below-le, count_below-more}
-use Rattle.tally_sessions.proofs.SessionLists.{hosts_all, hosts_more, length-sessions}
-use Rattle.tally_sessions.proofs.Staging.{track_of}
+use Rattle.tally_sessions.proofs.connect.DayChanges.{ChangesTo, table_high, table_low, whole_slice}
+use Rattle.tally_sessions.proofs.connect.DayHosts.{HaveDays, change_joined, days_joined}
+use Rattle.tally_sessions.proofs.sessions.HostCounts.{count_below-le, count_below-more}
+use Rattle.tally_sessions.proofs.sums.SessionLists.{hosts_all, hosts_more, length-sessions}
+use Rattle.tally_sessions.proofs.sessions.Staging.{track_of}
 use Rattle.tally_sessions.proofs.sessions.Sessions.day_changes.Goals as goal
 
 abbrev held : ℤ → ℤ

@@ -3,9 +3,9 @@ use Rattle.std.specs.List.{flat_map, range_with_len}
 use Rattle.tally_sessions.specs.Lent.{entries_in}
 use Rattle.tally_sessions.specs.Sums.{sessions_among}
 use Rattle.tally_sessions.specs.Totals.{stays_of}
-use Rattle.tally_sessions.proofs.DayChanges.{ChangesTo}
-use Rattle.tally_sessions.proofs.DayHosts.{HaveDays}
-use Rattle.tally_sessions.proofs.HostCounts.{count_below}
+use Rattle.tally_sessions.proofs.connect.DayChanges.{ChangesTo}
+use Rattle.tally_sessions.proofs.connect.DayHosts.{HaveDays}
+use Rattle.tally_sessions.proofs.sessions.HostCounts.{count_below}
 use Rattle.tally_sessions.proofs.sessions.Sessions.day_changes.Given as goal
 
 abbrev pub invariant-loop-host : goal.invariant-loop-host

@@ -6,10 +6,10 @@ use Rattle.tally_sessions.specs.State.{State}
 use Rattle.tally_sessions.specs.inside.Totals.{seconds_of, seconds_of_hosts}
 use Rattle.tally_sessions.specs.Totals.{stays_of}
 use Rattle.tally_sessions.specs.declared.entry.Entry.{Entry}
-use Rattle.tally_sessions.proofs.HostCounts.{count_below-more, count_below-le}
-use Rattle.tally_sessions.proofs.StayCounts.{length-of_host}
-use Rattle.tally_sessions.proofs.EveryHost.{every_host_is}
-use Rattle.tally_sessions.proofs.Staging.{track_of}
+use Rattle.tally_sessions.proofs.sessions.HostCounts.{count_below-more, count_below-le}
+use Rattle.tally_sessions.proofs.track.StayCounts.{length-of_host}
+use Rattle.tally_sessions.proofs.sessions.EveryHost.{every_host_is}
+use Rattle.tally_sessions.proofs.sessions.Staging.{track_of}
 use Rattle.tally_sessions.proofs.sessions.Sessions.seconds.Goals as goal
 
 pub seconds-total-requires-clause-track : goal.seconds-total-requires-clause-track

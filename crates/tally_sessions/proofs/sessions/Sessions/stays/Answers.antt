@@ -4,8 +4,8 @@ use Rattle.tally_sessions.specs.declared.entry.Stay.{Stay}
 use Rattle.tally_sessions.specs.Lent.{entries_in}
 use Rattle.tally_sessions.specs.State.{State}
 use Rattle.tally_sessions.specs.Totals.{latest_stays, limited, stays_of}
-use Rattle.tally_sessions.proofs.StayCounts.{stays_of-all}
-use Rattle.tally_sessions.proofs.Staging.{track_of}
+use Rattle.tally_sessions.proofs.track.StayCounts.{stays_of-all}
+use Rattle.tally_sessions.proofs.sessions.Staging.{track_of}
 use Rattle.tally_sessions.proofs.sessions.Sessions.stays.Goals as goal
 
 pub latest-requires-clause-track : goal.latest-requires-clause-track

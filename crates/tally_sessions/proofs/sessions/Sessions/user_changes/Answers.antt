@@ -2,17 +2,17 @@ use Rattle.std.proofs.Common.{◌≡◌, ◌∙◌, ◌+◌, ◌<◌, ◌≤◌,
 use Rattle.std.proofs.lemmas.Int.{to_z-of_z}
 use Rattle.std.specs.List.{flat_map, range_with_len}
 use Rattle.tally_sessions.specs.declared.entry.Entry.{Entry}
-use Rattle.tally_sessions.specs.declared.connect.sums.Session.{Session}
+use Rattle.tally_sessions.specs.declared.sums.Session.{Session}
 use Rattle.tally_sessions.specs.inside.Changes.{change_of, change_of_day_user}
 use Rattle.tally_sessions.specs.Lent.{entries_in}
 use Rattle.tally_sessions.specs.State.{State}
 use Rattle.tally_sessions.specs.Sums.{seconds_of_day_user, sessions_among}
 use Rattle.tally_sessions.specs.Totals.{stays_of}
-use Rattle.tally_sessions.proofs.HostCounts.{count_below-le, count_below-more}
-use Rattle.tally_sessions.proofs.SessionLists.{hosts_all, hosts_more, length-sessions}
-use Rattle.tally_sessions.proofs.Staging.{track_of}
-use Rattle.tally_sessions.proofs.UserChanges.{changes_high, changes_low}
-use Rattle.tally_sessions.proofs.UserHosts.{HaveUserDays, user_days_joined, users_joined}
+use Rattle.tally_sessions.proofs.sessions.HostCounts.{count_below-le, count_below-more}
+use Rattle.tally_sessions.proofs.sums.SessionLists.{hosts_all, hosts_more, length-sessions}
+use Rattle.tally_sessions.proofs.sessions.Staging.{track_of}
+use Rattle.tally_sessions.proofs.connect.UserChanges.{changes_high, changes_low}
+use Rattle.tally_sessions.proofs.connect.UserHosts.{HaveUserDays, user_days_joined, users_joined}
 use Rattle.tally_sessions.proofs.sessions.Sessions.user_changes.Goals as goal
 
 abbrev held : ℤ → ℤ

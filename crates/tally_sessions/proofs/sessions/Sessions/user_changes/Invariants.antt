@@ -5,8 +5,8 @@ use Rattle.tally_sessions.specs.inside.Changes.{change_of, change_of_day_user}
 use Rattle.tally_sessions.specs.Lent.{entries_in}
 use Rattle.tally_sessions.specs.Sums.{sessions_among}
 use Rattle.tally_sessions.specs.Totals.{stays_of}
-use Rattle.tally_sessions.proofs.HostCounts.{count_below}
-use Rattle.tally_sessions.proofs.UserHosts.{HaveUserDays}
+use Rattle.tally_sessions.proofs.sessions.HostCounts.{count_below}
+use Rattle.tally_sessions.proofs.connect.UserHosts.{HaveUserDays}
 use Rattle.tally_sessions.proofs.sessions.Sessions.user_changes.Given as goal
 
 abbrev pub invariant-loop-host : goal.invariant-loop-host

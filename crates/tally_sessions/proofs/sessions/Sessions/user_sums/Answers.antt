@@ -8,9 +8,9 @@ use Rattle.tally_sessions.specs.State.{State}
 use Rattle.tally_sessions.specs.inside.Sums.{sum_at}
 use Rattle.tally_sessions.specs.Totals.{connect_of, stays_of}
 use Rattle.tally_sessions.specs.inside.Totals.{seconds_of}
-use Rattle.tally_sessions.proofs.EveryHost.{every_host_is}
-use Rattle.tally_sessions.proofs.HostCounts.{count_below-le, count_below-more}
-use Rattle.tally_sessions.proofs.Staging.{track_of}
+use Rattle.tally_sessions.proofs.sessions.EveryHost.{every_host_is}
+use Rattle.tally_sessions.proofs.sessions.HostCounts.{count_below-le, count_below-more}
+use Rattle.tally_sessions.proofs.sessions.Staging.{track_of}
 use Rattle.tally_sessions.proofs.sessions.Sessions.user_sums.Goals as goal
 
 pub loop-host-init : goal.loop-host-init

@@ -1,14 +1,14 @@
 use Rattle.std.proofs.Common.{◌≡◌, ◌∙◌, ◌<◌, ◌+◌, ◌++◌, ◌∷◌, ◌+ℤ◌, ℤ, List, [], length, map, take, unwrap_or, sym, ap, subst, arith, rules, to_z, of_z, w32}
 use Rattle.std.proofs.lemmas.Int.{to_z-of_z}
 use Rattle.std.proofs.lemmas.List.{append-nil}
-use Rattle.tally_sessions.specs.declared.connect.sums.Session.{Session}
+use Rattle.tally_sessions.specs.declared.sums.Session.{Session}
 use Rattle.tally_sessions.specs.inside.Changes.{change_at, change_of_day, day_at}
 use Rattle.tally_sessions.specs.Lent.{entries_in}
 use Rattle.tally_sessions.specs.Sums.{seconds_of_day, sessions_among}
 use Rattle.tally_sessions.specs.inside.Track.{stay_now}
-use Rattle.tally_sessions.proofs.DayHosts.{Grows, HaveDays, days_joined, days_one, grown_high, grown_low, grows_more}
-use Rattle.tally_sessions.proofs.SessionLists.{few_among}
-use Rattle.tally_sessions.proofs.StaysNow.{sessions_next, sessions_now}
+use Rattle.tally_sessions.proofs.connect.DayHosts.{Grows, HaveDays, days_joined, days_one, grown_high, grown_low, grows_more}
+use Rattle.tally_sessions.proofs.sums.SessionLists.{few_among}
+use Rattle.tally_sessions.proofs.track.StaysNow.{sessions_next, sessions_now}
 use Rattle.tally_sessions.proofs.track.Track.add_day_changes.Goals as goal
 use Rattle.tally_sessions.proofs.track.Track.add_day_changes.Goals.{in-Some, in_default}
 

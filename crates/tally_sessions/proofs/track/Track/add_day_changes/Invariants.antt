@@ -2,7 +2,7 @@ use Rattle.std.proofs.Common.{◌≡◌, length, map, take, unwrap_or}
 use Rattle.tally_sessions.specs.Lent.{entries_in}
 use Rattle.tally_sessions.specs.Sums.{sessions_among}
 use Rattle.tally_sessions.specs.inside.Track.{stay_now}
-use Rattle.tally_sessions.proofs.DayHosts.{Grows, HaveDays}
+use Rattle.tally_sessions.proofs.connect.DayHosts.{Grows, HaveDays}
 use Rattle.tally_sessions.proofs.track.Track.add_day_changes.Given as goal
 
 abbrev pub invariant-loop-i : goal.invariant-loop-i

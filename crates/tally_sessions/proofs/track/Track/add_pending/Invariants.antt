@@ -4,7 +4,7 @@ use Rattle.std.specs.Ordering.{nat_cmp}
 use Rattle.std.specs.Prelude.{sum_by}
 use Rattle.tally_sessions.specs.Lent.{entries_in}
 use Rattle.tally_sessions.specs.inside.Sums.{sum_at}
-use Rattle.tally_sessions.proofs.PendingSums.{pending_at}
+use Rattle.tally_sessions.proofs.track.PendingSums.{pending_at}
 use Rattle.tally_sessions.proofs.track.Track.add_pending.Given as goal
 
 abbrev pub invariant-loop-k : goal.invariant-loop-k

@@ -4,8 +4,8 @@ use Rattle.tally_sessions.specs.declared.entry.Entry.{Entry}
 use Rattle.tally_sessions.specs.declared.track.Track.{Track}
 use Rattle.tally_sessions.specs.Lent.{entries_in}
 use Rattle.tally_sessions.specs.inside.Track.{ended_sum, sum_of, IsTrack}
-use Rattle.tally_sessions.proofs.PendingSums.{ended_and_pending, now_sum-le}
-use Rattle.tally_sessions.proofs.StaysNow.{count_now, seconds_are}
+use Rattle.tally_sessions.proofs.track.PendingSums.{ended_and_pending, now_sum-le}
+use Rattle.tally_sessions.proofs.track.StaysNow.{count_now, seconds_are}
 use Rattle.tally_sessions.proofs.track.Track.add_seconds.Goals as goal
 
 -- the sum of a user's sessions that have ended is far from the largest number

@@ -2,14 +2,14 @@ use Rattle.std.proofs.Common.{◌≡◌, ◌∙◌, ◌<◌, ◌+◌, ◌++◌, 
 use Rattle.std.proofs.lemmas.Int.{to_z-of_z}
 use Rattle.std.proofs.lemmas.List.{append-nil}
 use Rattle.tally_sessions.specs.declared.connect.day_user_rows.DayUser.{DayUser}
-use Rattle.tally_sessions.specs.declared.connect.sums.Session.{Session}
+use Rattle.tally_sessions.specs.declared.sums.Session.{Session}
 use Rattle.tally_sessions.specs.inside.Changes.{change_of, change_of_day_user}
 use Rattle.tally_sessions.specs.Lent.{entries_in}
 use Rattle.tally_sessions.specs.Sums.{seconds_of_day_user, sessions_among}
 use Rattle.tally_sessions.specs.inside.Track.{stay_now}
-use Rattle.tally_sessions.proofs.SessionLists.{few_among}
-use Rattle.tally_sessions.proofs.StaysNow.{sessions_next, sessions_now}
-use Rattle.tally_sessions.proofs.UserHosts.{HaveUserDays, UsersGrow, user_days_joined, user_days_one, users_high, users_low, users_more}
+use Rattle.tally_sessions.proofs.sums.SessionLists.{few_among}
+use Rattle.tally_sessions.proofs.track.StaysNow.{sessions_next, sessions_now}
+use Rattle.tally_sessions.proofs.connect.UserHosts.{HaveUserDays, UsersGrow, user_days_joined, user_days_one, users_high, users_low, users_more}
 use Rattle.tally_sessions.proofs.track.Track.add_user_changes.Goals as goal
 use Rattle.tally_sessions.proofs.track.Track.add_user_changes.Goals.{in-Some+in_ok-add_changes, in_default}
 

@@ -8,8 +8,8 @@ use Rattle.tally_sessions.specs.declared.entry.Stay.{Stay}
 use Rattle.tally_sessions.specs.Lent.{entries_in}
 use Rattle.tally_sessions.specs.Totals.{stays_of}
 use Rattle.tally_sessions.specs.inside.Track.{no_stay, stay_at, stay_now}
-use Rattle.tally_sessions.proofs.TrackedAdvance.{IsWithin-all}
-use Rattle.tally_sessions.proofs.StaysNow.{stays_now, latest_more, latest_all, latest_limit}
+use Rattle.tally_sessions.proofs.track.TrackedAdvance.{IsWithin-all}
+use Rattle.tally_sessions.proofs.track.StaysNow.{stays_now, latest_more, latest_all, latest_limit}
 use Rattle.tally_sessions.proofs.track.Track.latest.Goals as goal
 use Rattle.tally_sessions.proofs.track.Track.latest.Goals.{then-loop-i-test+else-len-limit, else-loop-i-test}
 

@@ -7,7 +7,7 @@ use Rattle.tally_sessions.specs.declared.track.ending.Ending.{Ending}
 use Rattle.tally_sessions.specs.declared.track.ending.TrackedStay.{TrackedStay}
 use Rattle.tally_sessions.specs.Lent.{entries_in}
 use Rattle.tally_sessions.specs.inside.Track.{counts, no_stay, pending_length, start_of, stay_at, still_at, still_of, ArePlaced, IsWithin}
-use Rattle.tally_sessions.proofs.Lengths.{held}
+use Rattle.tally_sessions.proofs.track.Lengths.{held}
 use Rattle.tally_sessions.proofs.track.Track.pending_length.Goals as goal
 
 read_stay : (stays : List TrackedStay) (i : ℕ) (t : TrackedStay) → i < length stays → t ≡ get_or stays i t → stay_at stays i ≡ t

@@ -7,8 +7,8 @@ use Rattle.std.specs.Int.{w32}
 use Rattle.std.specs.Prelude.{FitsSigned, sum_by}
 use Rattle.tally_sessions.specs.Lent.{entries_in}
 use Rattle.tally_sessions.specs.inside.Track.{pending_sum}
-use Rattle.tally_sessions.proofs.TrackedAdvance.{IsWithin-all}
-use Rattle.tally_sessions.proofs.PendingSums.{ended_and_pending, line_within, lines_sum, no_line, now_sum-le, pending_at, pending_read, pending_sum-le}
+use Rattle.tally_sessions.proofs.track.TrackedAdvance.{IsWithin-all}
+use Rattle.tally_sessions.proofs.track.PendingSums.{ended_and_pending, line_within, lines_sum, no_line, now_sum-le, pending_at, pending_read, pending_sum-le}
 use Rattle.tally_sessions.proofs.track.Track.pending_seconds.Goals as goal
 
 pub pending_length-seconds-requires-clause-i_in : goal.pending_length-seconds-requires-clause-i_in

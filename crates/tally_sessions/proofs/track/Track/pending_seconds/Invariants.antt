@@ -1,7 +1,7 @@
 use Rattle.std.proofs.Common.{◌≡◌, take, unwrap_or}
 use Rattle.std.specs.Prelude.{sum_by}
 use Rattle.tally_sessions.specs.Lent.{entries_in}
-use Rattle.tally_sessions.proofs.PendingSums.{pending_at}
+use Rattle.tally_sessions.proofs.track.PendingSums.{pending_at}
 use Rattle.tally_sessions.proofs.track.Track.pending_seconds.Given as goal
 
 abbrev pub invariant-loop-k : goal.invariant-loop-k

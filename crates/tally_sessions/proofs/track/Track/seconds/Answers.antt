@@ -1,7 +1,7 @@
 use Rattle.std.proofs.Common.{◌≡◌, ◌∙◌, ◌+◌, arith}
 use Rattle.tally_sessions.specs.Lent.{entries_in}
 use Rattle.tally_sessions.specs.inside.Track.{ended_sum}
-use Rattle.tally_sessions.proofs.StaysNow.{count_now, seconds_are}
+use Rattle.tally_sessions.proofs.track.StaysNow.{count_now, seconds_are}
 use Rattle.tally_sessions.proofs.track.Track.seconds.Goals as goal
 
 pub overflow_add-result : goal.overflow_add-result

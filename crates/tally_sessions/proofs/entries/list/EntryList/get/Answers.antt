@@ -1,5 +1,5 @@
 use Rattle.std.proofs.Common.{rules, ◌≡◌, ◌∙◌, ℕ, List, sym, ap, slice_get, Some, None}
-use Rattle.tally_sessions.proofs.Joined.{got, none_got, none_got_record}
+use Rattle.tally_sessions.proofs.entries.Joined.{got, none_got, none_got_record}
 use Rattle.tally_sessions.proofs.entries.list.EntryList.get.Goals as goal
 
 pub returns-in_err-host : goal.returns-in_err-host

@@ -3,11 +3,11 @@ use Rattle.std.proofs.Common.{◌≡◌, ◌≢◌, ◌⊎◌, inl, inr, ℕ, �
 use Rattle.std.proofs.lemmas.Bool.{cases_eq, cases_lt}
 use Rattle.std.proofs.lemmas.Int.{ints}
 use Rattle.std.proofs.lemmas.List.Sums.{sum_by-append, sum_by-cons}
-use Rattle.tally_sessions.specs.declared.connect.sums.Session.{Session}
+use Rattle.tally_sessions.specs.declared.sums.Session.{Session}
 use Rattle.tally_sessions.specs.inside.Changes.{change_at, change_of_day, change_on, day_at}
 use Rattle.tally_sessions.specs.Days.{IsDay, seconds_on}
 use Rattle.tally_sessions.specs.Sums.{seconds_of_day}
-use Rattle.tally_sessions.proofs.DayChanges.{change_sum, changes_high, changes_low, past_end}
+use Rattle.tally_sessions.proofs.connect.DayChanges.{change_sum, changes_high, changes_low, past_end}
 
 -- a table has the changes of sessions more than another
 abbrev pub Grows : ℤ → List Session → List ℤ → List ℤ → Type 0

@@ -16,7 +16,7 @@ use Rattle.tally_sessions.specs.declared.track.ending.TrackedStay.{TrackedStay}
 use Rattle.tally_sessions.specs.inside.Entries.{entry_at}
 use Rattle.tally_sessions.specs.Stays.{ends_event, ends_stay, starts_stay}
 use Rattle.tally_sessions.specs.inside.Track.{is_login_event, no_stay, stay_at, start_of, after, IsWithin, IsTracked, IsOnLine, AreTracked, started, LeadsTo}
-use Rattle.tally_sessions.proofs.TrackSteps.{after-ended, after-ends, after-pending, is_login_of_event, some_inj}
+use Rattle.tally_sessions.proofs.track.TrackSteps.{after-ended, after-ends, after-pending, is_login_of_event, some_inj}
 
 pub IsWithin-more : (n : ℕ) (z : ℤ) → IsWithin n z → IsWithin (n + 1) z
 IsWithin-more n z h = let a = h.low in let b = h.high in record { low = omega (arith, ints); high = omega (arith, ints) }

@@ -10,14 +10,14 @@ use Rattle.std.specs.Ordering.{int_cmp, is_eq}
 use Rattle.std.specs.declared.cmp.Ordering.TheVariants.{Equal}
 use Rattle.tally_records.proofs.Members.{Member, Member-append_left, Member-append_right}
 use Rattle.tally_sessions.specs.declared.entry.Entry.{Entry}
-use Rattle.tally_sessions.specs.declared.connect.sums.Session.{Session}
+use Rattle.tally_sessions.specs.declared.sums.Session.{Session}
 use Rattle.tally_sessions.specs.declared.times.DayTime.{DayTime}
 use Rattle.tally_sessions.specs.Days.{days_between, IsDay, seconds_on}
 use Rattle.tally_sessions.specs.inside.Sums.{above_zero, day_time_of, sum_at}
 use Rattle.tally_sessions.specs.Rows.{day_times, days_of}
 use Rattle.tally_sessions.specs.Sums.{seconds_of_day, sessions_of}
-use Rattle.tally_sessions.proofs.DayWalk.{day_among, day_with_time}
-use Rattle.tally_sessions.proofs.RowLemmas.{rows_are, each_row}
+use Rattle.tally_sessions.proofs.connect.DayWalk.{day_among, day_with_time}
+use Rattle.tally_sessions.proofs.connect.RowLemmas.{rows_are, each_row}
 
 -- days that tie are one
 pub same_day : (a b : ℤ) → int_cmp a b ≡ Equal → a ≡ b

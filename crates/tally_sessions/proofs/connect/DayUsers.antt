@@ -16,15 +16,15 @@ use Rattle.std.specs.declared.cmp.Ordering.{Ordering}
 use Rattle.std.specs.declared.cmp.Ordering.TheVariants.{Less, Equal, Greater}
 use Rattle.tally_records.proofs.Members.{Member, Member-append_left, Member-append_right, Member-map}
 use Rattle.tally_sessions.specs.declared.connect.day_user_rows.DayUser.{DayUser}
-use Rattle.tally_sessions.specs.declared.connect.sums.Session.{Session}
+use Rattle.tally_sessions.specs.declared.sums.Session.{Session}
 use Rattle.tally_sessions.specs.declared.times.DayUserTime.{DayUserTime}
 use Rattle.tally_sessions.specs.inside.Changes.{session_rows}
 use Rattle.tally_sessions.specs.Days.{days_between, IsDay, seconds_on}
 use Rattle.tally_sessions.specs.inside.Sums.{above_zero, day_user_time_of, day_user_cmp, sum_at}
 use Rattle.tally_sessions.specs.Rows.{day_users_of}
 use Rattle.tally_sessions.specs.Sums.{seconds_of_day, seconds_of_day_user}
-use Rattle.tally_sessions.proofs.DayWalk.{day_among, day_with_time}
-use Rattle.tally_sessions.proofs.RowLemmas.{rows_are, each_row}
+use Rattle.tally_sessions.proofs.connect.DayWalk.{day_among, day_with_time}
+use Rattle.tally_sessions.proofs.connect.RowLemmas.{rows_are, each_row}
 
 both_equal : (r s : Ordering) (n : ℤ) → cond (is_eq (ordering_then r s)) n (pos 0) ≡ cond (is_eq r) (cond (is_eq s) n (pos 0)) (pos 0)
 both_equal Less s n = refl

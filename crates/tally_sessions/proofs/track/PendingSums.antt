@@ -22,9 +22,9 @@ use Rattle.tally_sessions.specs.declared.track.ending.TrackedStay.{TrackedStay}
 use Rattle.tally_sessions.specs.Stays.{clamped, is_boot_event, seconds_between, starts_stay}
 use Rattle.tally_sessions.specs.inside.Track.{is_login_event, no_stay, stay_at, start_of, still_of, ending_now, stay_now, counts, ended_length, ended_sum, pending_length, pending_sum, AreTracked, LengthFits}
 use Rattle.tally_sessions.specs.inside.Totals.{counted, seconds_of}
-use Rattle.tally_sessions.proofs.TrackSteps.{is_login_of_event}
-use Rattle.tally_sessions.proofs.Lengths.{seconds_fit}
-use Rattle.tally_sessions.proofs.LineSums.{lookup_of_member, sum_same, table_sum}
+use Rattle.tally_sessions.proofs.track.TrackSteps.{is_login_of_event}
+use Rattle.tally_sessions.proofs.track.Lengths.{seconds_fit}
+use Rattle.tally_sessions.proofs.track.LineSums.{lookup_of_member, sum_same, table_sum}
 
 -- a start that counts is a login
 login_of : (w : Option (List ℕ)) (r : LoginRecord) → counts w r ≡ true → event_of r ≡ Login

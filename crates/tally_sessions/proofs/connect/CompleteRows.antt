@@ -11,17 +11,17 @@ use Rattle.tally_records.proofs.SortedLemmas.{in_order-has}
 use Rattle.tally_records.specs.Sorted.{in_order}
 use Rattle.tally_sessions.specs.declared.connect.day_user_rows.DayUser.{DayUser}
 use Rattle.tally_sessions.specs.declared.entry.Entry.{Entry}
-use Rattle.tally_sessions.specs.declared.connect.sums.Session.{Session}
+use Rattle.tally_sessions.specs.declared.sums.Session.{Session}
 use Rattle.tally_sessions.specs.declared.times.DayTime.{DayTime}
 use Rattle.tally_sessions.specs.declared.times.DayUserTime.{DayUserTime}
 use Rattle.tally_sessions.specs.declared.times.UserTime.{UserTime}
 use Rattle.tally_sessions.specs.Laws.{HaveRows}
 use Rattle.tally_sessions.specs.Rows.{day_time, day_user_time, day_users_of, days_of, user_time, user_times}
 use Rattle.tally_sessions.specs.Sums.{sessions_of}
-use Rattle.tally_sessions.proofs.DayRows.{day_counted, same_day}
-use Rattle.tally_sessions.proofs.DayUsers.{day_user_counted, day_user_total, same_day_user}
-use Rattle.tally_sessions.proofs.SumLemmas.{user_of_session}
-use Rattle.tally_sessions.proofs.UserRows.{same_user}
+use Rattle.tally_sessions.proofs.connect.DayRows.{day_counted, same_day}
+use Rattle.tally_sessions.proofs.connect.DayUsers.{day_user_counted, day_user_total, same_day_user}
+use Rattle.tally_sessions.proofs.sums.SumLemmas.{user_of_session}
+use Rattle.tally_sessions.proofs.connect.UserRows.{same_user}
 
 -- rows with a key each, which name it
 module _ {C K Row : Type 0} {cmp : K → K → Ordering} (o : IsTotalOrder cmp) (exact : (x y : K) → cmp x y ≡ Equal → x ≡ y)

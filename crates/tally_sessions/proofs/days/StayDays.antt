@@ -7,7 +7,7 @@ use Rattle.tally_records.specs.Event.{event_of}
 use Rattle.tally_sessions.specs.Laws.{HasItsDays, StaysHaveTheirDays}
 use Rattle.tally_sessions.specs.Hosts.{of_host}
 use Rattle.tally_sessions.specs.Stays.{begin_of, end_time_of, seconds_of, starts_stay, stay_of, stays_from}
-use Rattle.tally_sessions.proofs.DaysLemmas.{days_add_up}
+use Rattle.tally_sessions.proofs.days.DaysLemmas.{days_add_up}
 
 stay_has_days : (offset : ℤ) (host : ℕ) (before : List LoginRecord) (r : LoginRecord) (after : List LoginRecord) (until : Option ℤ) → HasItsDays offset (stay_of host before r after until)
 unfolding seconds_of

@@ -9,12 +9,12 @@ use Rattle.std.specs.List.{flat_map, range_with_len}
 use Rattle.tally_sessions.specs.declared.entry.Entry.{Entry}
 use Rattle.tally_sessions.specs.declared.entry.Stay.{Stay}
 use Rattle.tally_sessions.specs.declared.track.ending.TrackedStay.{TrackedStay}
-use Rattle.tally_sessions.specs.declared.connect.sums.Session.{Session}
+use Rattle.tally_sessions.specs.declared.sums.Session.{Session}
 use Rattle.tally_sessions.specs.Hosts.{of_host}
 use Rattle.tally_sessions.specs.Sums.{session_of, sessions_among, sessions_of}
 use Rattle.tally_sessions.specs.Totals.{stays_of}
-use Rattle.tally_sessions.proofs.EveryHost.{every_host_is}
-use Rattle.tally_sessions.proofs.StayCounts.{length-stays_from}
+use Rattle.tally_sessions.proofs.sessions.EveryHost.{every_host_is}
+use Rattle.tally_sessions.proofs.track.StayCounts.{length-stays_from}
 
 sessions_among-append : (xs ys : List Stay) → sessions_among (xs ++ ys) ≡ sessions_among xs ++ sessions_among ys
 sessions_among-append xs ys =

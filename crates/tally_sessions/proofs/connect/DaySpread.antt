@@ -10,8 +10,8 @@ use Rattle.std.specs.Prelude.{unsigned_abs}
 use Rattle.tally_sessions.specs.declared.connect.day_user_rows.DayUser.{DayUser}
 use Rattle.tally_sessions.specs.Days.{IsDay}
 use Rattle.tally_sessions.specs.inside.Sums.{day_user_cmp}
-use Rattle.tally_sessions.proofs.DaysLemmas.{reach}
-use Rattle.tally_sessions.proofs.DayUsers.{day_user_total, same_day_user}
+use Rattle.tally_sessions.proofs.days.DaysLemmas.{reach}
+use Rattle.tally_sessions.proofs.connect.DayUsers.{day_user_total, same_day_user}
 
 abbrev pub day_before : DayUser → DayUser
 day_before k = record { day = k.day -ℤ pos 1; user = k.user }

@@ -20,9 +20,9 @@ use Rattle.tally_sessions.specs.inside.Kept.{AreTracks}
 use Rattle.tally_sessions.specs.Stays.{starts_stay, last_time}
 use Rattle.tally_sessions.specs.inside.Track.{no_stay, stay_at, start_of, stay_with, tracked_in, counts, ended_length, AreOf, AreTracked, HasSums, IsEntered, IsTrack, IsWithin}
 use Rattle.tally_sessions.specs.inside.Tracking.{Tracked, clock, tracked_from}
-use Rattle.tally_sessions.proofs.EndedSteps.{HasSums-same}
-use Rattle.tally_sessions.proofs.HostSteps.{of_host-take_other}
-use Rattle.tally_sessions.proofs.TrackedAdvance.{IsWithin-all}
+use Rattle.tally_sessions.proofs.track.EndedSteps.{HasSums-same}
+use Rattle.tally_sessions.proofs.sessions.HostSteps.{of_host-take_other}
+use Rattle.tally_sessions.proofs.track.TrackedAdvance.{IsWithin-all}
 
 map-equal : {X Y : Type 0} (f g : X → Y) (d : X) (xs : List X) → ((k : ℕ) → k < length xs → f (get_or xs k d) ≡ g (get_or xs k d)) → map f xs ≡ map g xs
 map-equal f g d [] h = refl

@@ -20,12 +20,12 @@ use Rattle.tally_sessions.specs.inside.Entries.{entry_at}
 use Rattle.tally_sessions.specs.Stays.{ends_stay, starts_stay, last_time}
 use Rattle.tally_sessions.specs.inside.Track.{start_of, after, tracked_in, IsWithin, AreTracked, IsTrack, started, LeadsTo, ends_every_stay, sum_of, HasRoom, HasSums, IsEntered}
 use Rattle.tally_sessions.specs.inside.Tracking.{Tracked, pending_at, clock, tracked_from, advanced, fresh}
-use Rattle.tally_sessions.proofs.Clocks.{pending_old_time-push}
-use Rattle.tally_sessions.proofs.EndedSteps.{HasSums-start}
-use Rattle.tally_sessions.proofs.Forward.{clock-push, last_time-push, tracked_from-push}
-use Rattle.tally_sessions.proofs.HostSteps.{of_host-take_same}
-use Rattle.tally_sessions.proofs.TrackSteps.{tracked_in-after, ends_alike}
-use Rattle.tally_sessions.proofs.TrackedAdvance.{AreTracked-advance, Sweeps}
+use Rattle.tally_sessions.proofs.track.Clocks.{pending_old_time-push}
+use Rattle.tally_sessions.proofs.track.EndedSteps.{HasSums-start}
+use Rattle.tally_sessions.proofs.track.Forward.{clock-push, last_time-push, tracked_from-push}
+use Rattle.tally_sessions.proofs.sessions.HostSteps.{of_host-take_same}
+use Rattle.tally_sessions.proofs.track.TrackSteps.{tracked_in-after, ends_alike}
+use Rattle.tally_sessions.proofs.track.TrackedAdvance.{AreTracked-advance, Sweeps}
 
 map-tracked_in : (host : ℕ) (es : List Entry) (now : ℤ) (x : LoginRecord) (ts : List TrackedStay) → map (tracked_in host es) (map (after es now x) ts) ≡ map (advanced host now x) (map (tracked_in host es) ts)
 map-tracked_in host es now x [] = refl

@@ -13,7 +13,7 @@ use Rattle.tally_records.specs.Event.{event_of}
 use Rattle.tally_sessions.specs.declared.entry.Entry.{Entry}
 use Rattle.tally_sessions.specs.declared.track.ending.TrackedStay.{TrackedStay}
 use Rattle.tally_sessions.specs.inside.Track.{is_login_event, pending_length, start_of, stay_at, still_of}
-use Rattle.tally_sessions.proofs.PendingSums.{pending_at}
+use Rattle.tally_sessions.proofs.track.PendingSums.{pending_at}
 
 -- the number of an entry, where its name is this one
 abbrev pub part_of : List ℕ → List ℕ × ℕ → ℕ

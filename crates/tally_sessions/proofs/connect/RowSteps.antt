@@ -13,10 +13,10 @@ use Rattle.tally_sessions.specs.declared.times.DayUserTime.{DayUserTime}
 use Rattle.tally_sessions.specs.inside.Changes.{change_of, days_ahead, days_from}
 use Rattle.tally_sessions.specs.Days.{IsDay}
 use Rattle.tally_sessions.specs.inside.Sums.{day_user_cmp}
-use Rattle.tally_sessions.proofs.DaySpread.{day_after, day_before, first_is_all, IsSpread, none_left, same_or_not, spread_high, spread_low, spread_on, spread_past}
-use Rattle.tally_sessions.proofs.DayWalk.{walk_nearer}
-use Rattle.tally_sessions.proofs.RowOrder.{AreBefore, AreRows, before_later, before_push, given_by, given_push, key_of, no_rows, none_given, rows_push}
-use Rattle.tally_sessions.proofs.UserChanges.{days_ahead-cons}
+use Rattle.tally_sessions.proofs.connect.DaySpread.{day_after, day_before, first_is_all, IsSpread, none_left, same_or_not, spread_high, spread_low, spread_on, spread_past}
+use Rattle.tally_sessions.proofs.connect.DayWalk.{walk_nearer}
+use Rattle.tally_sessions.proofs.connect.RowOrder.{AreBefore, AreRows, before_later, before_push, given_by, given_push, key_of, no_rows, none_given, rows_push}
+use Rattle.tally_sessions.proofs.connect.UserChanges.{days_ahead-cons}
 
 -- the change that a table has at a key
 abbrev pub found_at : List (DayUser × ℤ) → DayUser → Option ℤ

@@ -7,7 +7,7 @@ use Rattle.std.specs.List.{range_with_len}
 use Rattle.std.specs.Prelude.{int_le, int_lt, unsigned_abs}
 use Rattle.tally_records.proofs.Members.{Member, Member-map}
 use Rattle.tally_sessions.specs.Days.{day_count, day_of, days_between, seconds_on}
-use Rattle.tally_sessions.proofs.DaysLemmas.{above, none_on_earlier, none_on_later, strictly}
+use Rattle.tally_sessions.proofs.days.DaysLemmas.{above, none_on_earlier, none_on_later, strictly}
 
 -- a day that has seconds of a stay is one of its days
 pub day_with_time : (offset day b e : ℤ) → 0 < seconds_on offset day b e → (day_of offset b ≤ℤ day) × (day ≤ℤ day_of offset e)

@@ -11,14 +11,14 @@ use Rattle.std.specs.Prelude.{nat_lt}
 use Rattle.std.specs.declared.cmp.Ordering.TheVariants.{Equal}
 use Rattle.tally_records.specs.Sorted.{in_order}
 use Rattle.tally_sessions.specs.declared.entry.Entry.{Entry}
-use Rattle.tally_sessions.specs.declared.connect.sums.Session.{Session}
+use Rattle.tally_sessions.specs.declared.sums.Session.{Session}
 use Rattle.tally_sessions.specs.declared.times.UserTime.{UserTime}
 use Rattle.tally_sessions.specs.inside.Sums.{above_zero, user_time_of, sum_at}
 use Rattle.tally_sessions.specs.Rows.{user_time, user_time_cmp, user_times}
 use Rattle.tally_sessions.specs.Sums.{sessions_of}
 use Rattle.tally_sessions.specs.Totals.{connect_of}
-use Rattle.tally_sessions.proofs.RowLemmas.{rows_are}
-use Rattle.tally_sessions.proofs.SumLemmas.{user_of_session}
+use Rattle.tally_sessions.proofs.connect.RowLemmas.{rows_are}
+use Rattle.tally_sessions.proofs.sums.SumLemmas.{user_of_session}
 
 -- users that tie are one
 pub same_user : (a b : List ℕ) → slice_cmp nat_cmp a b ≡ Equal → a ≡ b

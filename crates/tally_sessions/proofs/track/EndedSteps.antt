@@ -16,7 +16,7 @@ use Rattle.tally_sessions.specs.declared.track.ending.TrackedStay.{TrackedStay}
 use Rattle.tally_sessions.specs.inside.Entries.{entry_at}
 use Rattle.tally_sessions.specs.inside.Track.{no_stay, stay_at, start_of, counts, ended_length, ended_sum, sum_of, started, HasSums, IsEntered, LengthFits}
 use Rattle.tally_sessions.specs.Stays.{starts_stay}
-use Rattle.tally_sessions.proofs.Places.{each-push}
+use Rattle.tally_sessions.proofs.track.Places.{each-push}
 
 -- one stay is replaced by its next state
 pub HasSums-set : (es : List Entry) (sums sums' : EndedSums) (ts : List TrackedStay) (i : ℕ) (before after : TrackedStay) → HasSums es sums ts → i < length ts → stay_at ts i ≡ before → after.entry ≡ before.entry

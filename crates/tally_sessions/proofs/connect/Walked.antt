@@ -4,7 +4,7 @@ use Rattle.std.proofs.lemmas.Bool.Decides.{Decides-int_eq}
 use Rattle.std.proofs.lemmas.Int.{ints}
 use Rattle.std.specs.Ordering.{is_eq, int_cmp, int_eq}
 use Rattle.std.specs.Prelude.{int_lt}
-use Rattle.tally_sessions.proofs.DaysLemmas.{above, strictly}
+use Rattle.tally_sessions.proofs.days.DaysLemmas.{above, strictly}
 
 -- the days before this one have what is added, and the others what they had
 pub record IsWalked {X : Type 0} (add : X → X → X) (amount old now : ℤ → X) (day : ℤ) : Type 0 where

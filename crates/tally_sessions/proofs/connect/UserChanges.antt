@@ -9,12 +9,12 @@ use Rattle.std.specs.declared.cmp.Ordering.{Ordering}
 use Rattle.std.specs.declared.cmp.Ordering.TheVariants.{Less, Equal, Greater}
 use Rattle.std.proofs.lemmas.List.Sums.{sum_by-cons}
 use Rattle.tally_sessions.specs.declared.connect.day_user_rows.DayUser.{DayUser}
-use Rattle.tally_sessions.specs.declared.connect.sums.Session.{Session}
+use Rattle.tally_sessions.specs.declared.sums.Session.{Session}
 use Rattle.tally_sessions.specs.inside.Changes.{change_of, change_of_day_user, days_ahead, days_from}
 use Rattle.tally_sessions.specs.inside.Sums.{day_user_cmp}
 use Rattle.tally_sessions.specs.Sums.{seconds_of_day_user}
-use Rattle.tally_sessions.proofs.DayChanges.{seconds_of_day-le}
-use Rattle.tally_sessions.proofs.DaySpread.{same_or_not}
+use Rattle.tally_sessions.proofs.connect.DayChanges.{seconds_of_day-le}
+use Rattle.tally_sessions.proofs.connect.DaySpread.{same_or_not}
 
 pub no_more : (n : ℤ) → n ≡ n +ℤ pos 0
 no_more n = omega (arith, ints)

@@ -7,7 +7,7 @@ use Rattle.tally_sessions.specs.declared.entry.Stay.{Stay}
 use Rattle.tally_sessions.specs.declared.track.ending.Ending.{Ending}
 use Rattle.tally_sessions.specs.declared.track.ending.TrackedStay.{TrackedStay}
 use Rattle.tally_sessions.specs.declared.track.Track.{Track}
-use Rattle.tally_sessions.specs.declared.connect.sums.Session.{Session}
+use Rattle.tally_sessions.specs.declared.sums.Session.{Session}
 use Rattle.tally_sessions.specs.Hosts.{of_host}
 use Rattle.tally_sessions.specs.Stays.{last_time}
 use Rattle.tally_sessions.specs.Sums.{sessions_among}
@@ -15,10 +15,10 @@ use Rattle.tally_sessions.specs.inside.Totals.{seconds_of}
 use Rattle.tally_sessions.specs.Totals.{stays_of}
 use Rattle.tally_sessions.specs.inside.Track.{ended_sum, no_stay, pending_sum, stay_at, stay_now, tracked_in, IsTrack}
 use Rattle.tally_sessions.specs.inside.Tracking.{clock, completed, tracked_from}
-use Rattle.tally_sessions.proofs.Forward.{stays_from-tracked}
-use Rattle.tally_sessions.proofs.PendingSums.{ended_and_pending, seconds_now}
-use Rattle.tally_sessions.proofs.SessionLists.{sessions_more}
-use Rattle.tally_sessions.proofs.StayCounts.{length-stays_from}
+use Rattle.tally_sessions.proofs.track.Forward.{stays_from-tracked}
+use Rattle.tally_sessions.proofs.track.PendingSums.{ended_and_pending, seconds_now}
+use Rattle.tally_sessions.proofs.sums.SessionLists.{sessions_more}
+use Rattle.tally_sessions.proofs.track.StayCounts.{length-stays_from}
 
 stay_now-completed : (host : ℕ) (es : List Entry) (now time : ℤ) (t : TrackedStay) → stay_now host es now time t ≡ completed host now time (tracked_in host es t)
 stay_now-completed host es now time t = by t.ended

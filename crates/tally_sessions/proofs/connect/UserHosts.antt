@@ -6,13 +6,13 @@ use Rattle.std.proofs.lemmas.List.Elements.{filter-append}
 use Rattle.std.proofs.lemmas.List.Sums.{sum_by-append}
 use Rattle.std.specs.Prelude.{bytes_eq}
 use Rattle.tally_sessions.specs.declared.connect.day_user_rows.DayUser.{DayUser}
-use Rattle.tally_sessions.specs.declared.connect.sums.Session.{Session}
+use Rattle.tally_sessions.specs.declared.sums.Session.{Session}
 use Rattle.tally_sessions.specs.inside.Changes.{change_of, change_of_day_user, change_on}
 use Rattle.tally_sessions.specs.Days.{IsDay, seconds_on}
 use Rattle.tally_sessions.specs.Sums.{seconds_of_day, seconds_of_day_user}
-use Rattle.tally_sessions.proofs.DayChanges.{change_sum}
-use Rattle.tally_sessions.proofs.DayHosts.{change_one, days_one}
-use Rattle.tally_sessions.proofs.UserChanges.{changes_high, changes_low}
+use Rattle.tally_sessions.proofs.connect.DayChanges.{change_sum}
+use Rattle.tally_sessions.proofs.connect.DayHosts.{change_one, days_one}
+use Rattle.tally_sessions.proofs.connect.UserChanges.{changes_high, changes_low}
 
 -- a table has the changes of sessions more than another
 abbrev pub UsersGrow : ℤ → List Session → List (DayUser × ℤ) → List (DayUser × ℤ) → Type 0

@@ -1,8 +1,8 @@
 use Rattle.std.proofs.Common.{◌≡◌, ◌+◌, cond, None, is_eq, subst, sym}
 use Rattle.std.specs.Map.{lookup}
 use Rattle.tally_sessions.specs.inside.Sums.{sum_at}
-use Rattle.tally_sessions.proofs.SumSteps.{sum_at-new}
-use Rattle.tally_sessions.proofs.connect.sums.add.Goals as goal
+use Rattle.tally_sessions.proofs.sums.SumSteps.{sum_at-new}
+use Rattle.tally_sessions.proofs.sums.add.Goals as goal
 
 pub returns-in_ok-insert-in-None : goal.returns-in_ok-insert-in-None
 returns-in_ok-insert-in-None g c =

@@ -12,7 +12,7 @@ use Rattle.std.specs.declared.cmp.Ordering.TheVariants.{Less, Equal, Greater}
 use Rattle.tally_sessions.specs.declared.connect.day_user_rows.DayUser.{DayUser}
 use Rattle.tally_sessions.specs.declared.times.DayUserTime.{DayUserTime}
 use Rattle.tally_sessions.specs.inside.Sums.{above_zero, day_user_time_of, day_user_cmp, sum_at}
-use Rattle.tally_sessions.proofs.DayUsers.{day_user_total}
+use Rattle.tally_sessions.proofs.connect.DayUsers.{day_user_total}
 
 abbrev pub key_of : DayUserTime → DayUser
 key_of row = record { day = row.day; user = row.user }
