@@ -11,6 +11,7 @@ ghost use Rattle.tally_sessions.specs.Totals.{connect_of};
 mod day_sums;
 mod day_user_rows;
 mod user_sums;
+pub(crate) mod walk;
 
 use crate::sessions::{HOST_LIMIT, Sessions};
 use crate::times::{DayTime, DayUserTime, UserTime};

@@ -1,5 +1,5 @@
 -- The stays of a host as they stand now, from its track.
-use Rattle.std.proofs.Common.{◌≡◌, ℕ, ◌+◌, ◌<◌, ◌≤◌, List, [], ◌∷◌, ◌++◌, map, length, get_or, take, drop, reverse, Option, Some, None, unwrap_or, ℤ, pos, refl, sym, ap, ◌∙◌, arith}
+use Rattle.std.proofs.Common.{◌≡◌, ℕ, ◌+◌, ◌<◌, ◌≤◌, List, [], ◌∷◌, ◌++◌, map, length, get_or, take, drop, reverse, Option, Some, None, unwrap_or, ℤ, pos, refl, sym, ap, subst, ◌∙◌, arith}
 use Rattle.std.proofs.lemmas.List.{take_all, length-map, at_drop_more, reverse-append, take-append-le, take-append-drop, get_or-map}
 use Rattle.std.proofs.Math.Seq.{take-length}
 use Rattle.tally_sessions.specs.declared.entry.Entry.{Entry}
@@ -7,17 +7,14 @@ use Rattle.tally_sessions.specs.declared.entry.Stay.{Stay}
 use Rattle.tally_sessions.specs.declared.track.ending.Ending.{Ending}
 use Rattle.tally_sessions.specs.declared.track.ending.TrackedStay.{TrackedStay}
 use Rattle.tally_sessions.specs.declared.track.Track.{Track}
-use Rattle.tally_sessions.specs.declared.sums.Session.{Session}
 use Rattle.tally_sessions.specs.Hosts.{of_host}
 use Rattle.tally_sessions.specs.Stays.{last_time}
-use Rattle.tally_sessions.specs.Sums.{sessions_among}
 use Rattle.tally_sessions.specs.inside.Totals.{seconds_of}
 use Rattle.tally_sessions.specs.Totals.{stays_of}
 use Rattle.tally_sessions.specs.inside.Track.{ended_sum, no_stay, pending_sum, stay_at, stay_now, tracked_in, IsTrack}
 use Rattle.tally_sessions.specs.inside.Tracking.{clock, completed, tracked_from}
 use Rattle.tally_sessions.proofs.track.Forward.{stays_from-tracked}
 use Rattle.tally_sessions.proofs.track.PendingSums.{ended_and_pending, seconds_now}
-use Rattle.tally_sessions.proofs.sums.SessionLists.{sessions_more}
 use Rattle.tally_sessions.proofs.track.StayCounts.{length-stays_from}
 
 stay_now-completed : (host : ℕ) (es : List Entry) (now time : ℤ) (t : TrackedStay) → stay_now host es now time t ≡ completed host now time (tracked_in host es t)
@@ -43,19 +40,6 @@ stays_now host es a until h =
     ∙ ap (λ (z : ℤ). map (completed host (clock (of_host host es)) (unwrap_or until z)) (tracked_from host [] (of_host host es))) (h.last ∙ ap (last_time (pos 0)) all)
     ∙ sym (stays_from-tracked host [] (of_host host es) until (pos 0))
 
--- once all stays are gone over, their sessions are those of the host
-pub sessions_now : (host : ℕ) (es : List Entry) (a : Track) (until : Option ℤ) (i : ℕ) → length a.stays.items ≤ i → IsTrack host es (length es) a
-    → sessions_among (map (stay_now host es a.clock (unwrap_or until a.last)) (take i a.stays.items)) ≡ sessions_among (stays_of host es until)
-sessions_now host es a until i all h =
-    ap (λ ts. sessions_among (map (stay_now host es a.clock (unwrap_or until a.last)) ts)) (take_all i a.stays.items all) ∙ ap sessions_among (stays_now host es a until h)
-
--- one stay more, with its session if it is one
-pub sessions_next : (host : ℕ) (es : List Entry) (now read time : ℤ) (ts : List TrackedStay) (i : ℕ) (ss : List Session) → i < length ts → read ≡ time → sessions_among (stay_now host es now read (stay_at ts i) ∷ []) ≡ ss
-    → sessions_among (map (stay_now host es now time) (take i ts)) ++ ss ≡ sessions_among (map (stay_now host es now time) (take (i + 1) ts))
-sessions_next host es now read time ts i ss lt same one =
-    ap (λ xs. sessions_among (map (stay_now host es now time) (take i ts)) ++ xs) (sym one ∙ ap (λ (z : ℤ). sessions_among (stay_now host es now z (stay_at ts i) ∷ [])) same)
-    ∙ sym (sessions_more (stay_now host es now time) ts i no_stay lt)
-
 -- the sessions are those that have ended and those that are pending
 pub seconds_are : (who : Option (List ℕ)) (host : ℕ) (es : List Entry) (a : Track) (until : Option ℤ) → IsTrack host es (length es) a
     → ended_sum who es a.stays.items + pending_sum who es a.clock (unwrap_or until a.last) a.stays.items ≡ seconds_of who (stays_of host es until)
@@ -64,18 +48,29 @@ seconds_are who host es a until h =
     ∙ sym (seconds_now who es a.clock (unwrap_or until a.last) host a.stays.items (λ k lt. (h.tracked.at k lt).starts))
     ∙ ap (seconds_of who) (stays_now host es a until h)
 
+-- one stay more
+drop_more : (f : TrackedStay → Stay) (ts : List TrackedStay) (i : ℕ) (t : TrackedStay) (d : Stay) → i < length ts → drop i (map f ts) ≡ f (get_or ts i t) ∷ drop (i + 1) (map f ts)
+drop_more f ts i t d lt =
+    at_drop_more (λ (ss : List Stay). ss) (map f ts) i d (omega (arith, length-map ts f))
+    ∙ ap (λ s. s ∷ drop (i + 1) (map f ts)) (get_or-map f ts i t d lt)
+
+-- the stay at a place is one of the host's
+pub stay_here : (host : ℕ) (es : List Entry) (a : Track) (until : Option ℤ) (i : ℕ) → IsTrack host es (length es) a → i < length a.stays.items
+    → drop i (stays_of host es until) ≡ stay_now host es a.clock (unwrap_or until a.last) (stay_at a.stays.items i) ∷ drop (i + 1) (stays_of host es until)
+stay_here host es a until i h lt =
+    let f = stay_now host es a.clock (unwrap_or until a.last) in
+    subst (λ ss. drop i ss ≡ f (stay_at a.stays.items i) ∷ drop (i + 1) ss) (stays_now host es a until h) (drop_more f a.stays.items i no_stay (f no_stay) lt)
+
+-- as many stays are tracked as the host has
+pub same_count : (host : ℕ) (es : List Entry) (a : Track) (until : Option ℤ) → IsTrack host es (length es) a → length (stays_of host es until) ≡ length a.stays.items
+same_count host es a until h = sym (ap length (stays_now host es a until h)) ∙ length-map a.stays.items (stay_now host es a.clock (unwrap_or until a.last))
+
 pub count_now : (host : ℕ) (es : List Entry) (a : Track) → IsTrack host es (length es) a → length a.stays.items ≤ length (of_host host es)
-count_now host es a h =
-    let same = ap length (stays_now host es a None h) in
-    let mapped = length-map a.stays.items (stay_now host es a.clock a.last) in
-    let few = length-stays_from host [] (of_host host es) None in omega arith
+count_now host es a h = omega (arith, same_count host es a None h, length-stays_from host [] (of_host host es) None)
 
 -- one stay further back
 pub latest_more : (f : TrackedStay → Stay) (ts : List TrackedStay) (i : ℕ) (t : TrackedStay) (d : Stay) → i < length ts → reverse (drop i (map f ts)) ≡ reverse (drop (i + 1) (map f ts)) ++ f (get_or ts i t) ∷ []
-latest_more f ts i t d lt =
-    ap reverse (at_drop_more (λ (ss : List Stay). ss) (map f ts) i d (omega (arith, length-map ts f)))
-    ∙ reverse-append (get_or (map f ts) i d ∷ []) (drop (i + 1) (map f ts))
-    ∙ ap (λ s. reverse (drop (i + 1) (map f ts)) ++ s ∷ []) (get_or-map f ts i t d lt)
+latest_more f ts i t d lt = ap reverse (drop_more f ts i t d lt) ∙ reverse-append (f (get_or ts i t) ∷ []) (drop (i + 1) (map f ts))
 
 -- no stay is left, or the limit is reached
 pub latest_all : (all found : List Stay) (i limit : ℕ) → found ≡ reverse (drop i all) → i ≡ 0 → length found ≤ limit → found ≡ take limit (reverse all)

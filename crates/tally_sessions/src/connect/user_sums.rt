@@ -9,9 +9,9 @@ ghost use Rattle.tally_sessions.specs.inside.Totals.{seconds_of};
 ghost use Rattle.tally_sessions.specs.Totals.{stays_of};
 ghost use Rattle.tally_sessions.specs.inside.Track as spec;
 
-use crate::sums::add;
 use crate::entries::Entries;
 use crate::sessions::ENTRY_LIMIT;
+use crate::sums::add;
 use crate::track::Track;
 use std::collections::BTreeMap;
 use tally_records::{Memory, Name};

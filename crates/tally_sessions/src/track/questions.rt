@@ -7,10 +7,10 @@ ghost use Rattle.tally_sessions.specs.inside.Totals.{seconds_of};
 ghost use Rattle.tally_sessions.specs.Totals.{stays_of};
 ghost use Rattle.tally_sessions.specs.inside.Track as spec;
 
-use crate::sums::Session;
 use crate::entries::Entries;
 use crate::entry::Stay;
 use crate::sessions::ENTRY_LIMIT;
+use crate::sums::Session;
 use crate::track::Track;
 use crate::track::ending::{Ending, TrackedStay, still};
 use crate::track::rules::{is_boot, is_counted, is_login};
@@ -97,26 +97,26 @@ impl Track {
         List::from_vec(alloc, found)
     }
 
-    /// The session at a time that the stay at a place is, unless it is a boot's.
+    /// The session that the stay at a place is, unless it is a boot's.
     pub(crate) fn session_at(
         &self,
         host: u32,
         entries: Entries<'_>,
         i: usize,
-        time: i32,
+        until: Option<i32>,
     ) -> Option<Session>
         requires i_in { i < vec_len self.now.stays }
         requires few { length (entries_in entries) ≤ ENTRY_LIMIT }
         requires track { spec.IsTrack host (entries_in entries) (length (entries_in entries)) self.now }
-        ensures session { IfSome result (λ s. sessions_among (spec.stay_now host (entries_in entries.entry) self.now.clock time (spec.stay_at self.now.stays.items i) ∷ []) ≡ s ∷ []) }
-        ensures none { IfNone result (sessions_among (spec.stay_now host (entries_in entries.entry) self.now.clock time (spec.stay_at self.now.stays.items i) ∷ []) ≡ []) }
+        ensures session { IfSome result (λ s. sessions_among (spec.stay_now host (entries_in entries.entry) self.now.clock (unwrap_or until self.now.last) (spec.stay_at self.now.stays.items i) ∷ []) ≡ s ∷ []) }
+        ensures none { IfNone result (sessions_among (spec.stay_now host (entries_in entries.entry) self.now.clock (unwrap_or until self.now.last) (spec.stay_at self.now.stays.items i) ∷ []) ≡ []) }
     {
         let stay = self.stays[i];
         let at = stay.entry as usize;
         if !is_login(entries.event(at)) {
             return None;
         }
-        let ending = self.ending(entries, stay, time);
+        let ending = self.ending(entries, stay, self.time_now(until));
         Some(Session {
             user: entries.user(at),
             begin: ending.begin,
