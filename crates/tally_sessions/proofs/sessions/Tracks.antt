@@ -18,7 +18,7 @@ use Rattle.tally_sessions.specs.Hosts.{of_host}
 use Rattle.tally_sessions.specs.inside.Entries.{no_entry}
 use Rattle.tally_sessions.specs.inside.Kept.{AreTracks}
 use Rattle.tally_sessions.specs.Stays.{starts_stay, last_time}
-use Rattle.tally_sessions.specs.inside.Track.{no_stay, stay_at, start_of, stay_with, tracked_in, counts, ended_length, AreOf, AreTracked, HasSums, IsEntered, IsTrack, IsWithin}
+use Rattle.tally_sessions.specs.inside.Track.{no_stay, stay_at, start_of, ended_with, tracked_in, counts, ended_length, AreOf, AreTracked, HasSums, IsEntered, IsTrack, IsWithin}
 use Rattle.tally_sessions.specs.inside.Tracking.{Tracked, clock, tracked_from}
 use Rattle.tally_sessions.proofs.track.EndedSteps.{HasSums-same}
 use Rattle.tally_sessions.proofs.sessions.HostSteps.{of_host-take_other}
@@ -105,7 +105,7 @@ IsTrack-take host es es' n a same h =
     }
   where
     kept : LoginRecord → TrackedStay → Tracked
-    kept r t = record { start = r; clock_at = t.clock_at; ended = option_map (stay_with host r) t.ended }
+    kept r t = record { start = r; clock_at = t.clock_at; ended = option_map (ended_with host r) t.ended }
 
 -- entries of another host
 of_host-others : (h host : ℕ) (es : List Entry) (n k : ℕ) → h ≢ host → AreOf host es n → n + k ≤ length es → of_host h (take (n + k) es) ≡ of_host h (take n es)

@@ -20,7 +20,7 @@ use Rattle.tally_sessions.specs.declared.entry.Stay.{Stay}
 use Rattle.tally_sessions.specs.declared.track.ending.Ending.{Ending}
 use Rattle.tally_sessions.specs.declared.track.ending.TrackedStay.{TrackedStay}
 use Rattle.tally_sessions.specs.Stays.{clamped, is_boot_event, seconds_between, starts_stay}
-use Rattle.tally_sessions.specs.inside.Track.{is_login_event, no_stay, stay_at, start_of, still_of, ending_now, stay_now, counts, ended_length, ended_sum, pending_length, pending_sum, AreTracked, LengthFits}
+use Rattle.tally_sessions.specs.inside.Track.{is_login_event, no_line, no_stay, stay_at, start_of, still_of, ending_now, stay_now, counts, ended_length, ended_sum, pending_length, pending_sum, AreTracked, LengthFits}
 use Rattle.tally_sessions.specs.inside.Totals.{counted, seconds_of}
 use Rattle.tally_sessions.proofs.track.TrackSteps.{is_login_of_event}
 use Rattle.tally_sessions.proofs.track.Lengths.{seconds_fit}
@@ -154,10 +154,6 @@ module _ (who : Option (List ℕ)) (es : List Entry) (now time : ℤ) where
 -- the length so far of the stay that a line leads to, where it counts and is pending
 abbrev pub pending_at : Option (List ℕ) → List Entry → ℤ → ℤ → List TrackedStay → List ℕ × ℕ → ℕ
 pending_at who es now time stays e = pending_length who es now time (stay_at stays e.1)
-
--- what a read of a line gives past the end
-abbrev pub no_line : List ℕ × ℕ
-no_line = ([], 0)
 
 -- the stay that a line leads to
 pub line_within : (es : List Entry) (n : ℕ) (lines : List (List ℕ × ℕ)) (swept : ℕ) (stays : List TrackedStay) (k i : ℕ) → AreTracked es n lines swept stays → k < length lines

@@ -1,7 +1,11 @@
 -- The stays of a host as they stand now, from its track.
-use Rattle.std.proofs.Common.{◌≡◌, ℕ, ◌+◌, ◌<◌, ◌≤◌, List, [], ◌∷◌, ◌++◌, map, length, get_or, take, drop, reverse, Option, Some, None, unwrap_or, ℤ, pos, refl, sym, ap, subst, ◌∙◌, arith}
+use Rattle.std.proofs.Common.{◌≡◌, ℕ, ◌+◌, ◌*◌, ◌<◌, ◌≤◌, ◌≤ℤ◌, List, [], ◌∷◌, ◌++◌, map, length, get_or, take, drop, reverse, Option, Some, None, unwrap_or, ℤ, pos, refl, sym, ap, subst, ◌∙◌, arith}
 use Rattle.std.proofs.lemmas.List.{take_all, length-map, at_drop_more, reverse-append, take-append-le, take-append-drop, get_or-map}
+use Rattle.std.proofs.lemmas.List.Sums.{sum_by_more_le}
 use Rattle.std.proofs.Math.Seq.{take-length}
+use Rattle.std.specs.List.{IsDistinct}
+use Rattle.std.specs.Map.{keys_of}
+use Rattle.std.specs.Prelude.{bytes_eq, sum_by}
 use Rattle.tally_sessions.specs.declared.entry.Entry.{Entry}
 use Rattle.tally_sessions.specs.declared.entry.Stay.{Stay}
 use Rattle.tally_sessions.specs.declared.track.ending.Ending.{Ending}
@@ -11,10 +15,10 @@ use Rattle.tally_sessions.specs.Hosts.{of_host}
 use Rattle.tally_sessions.specs.Stays.{last_time}
 use Rattle.tally_sessions.specs.inside.Totals.{seconds_of}
 use Rattle.tally_sessions.specs.Totals.{stays_of}
-use Rattle.tally_sessions.specs.inside.Track.{ended_sum, no_stay, pending_sum, stay_at, stay_now, tracked_in, IsTrack}
+use Rattle.tally_sessions.specs.inside.Track.{ended_sum, line_at, no_line, no_stay, pending_sum, stay_at, stay_now, sum_of, tracked_in, IsTrack}
 use Rattle.tally_sessions.specs.inside.Tracking.{clock, completed, tracked_from}
 use Rattle.tally_sessions.proofs.track.Forward.{stays_from-tracked}
-use Rattle.tally_sessions.proofs.track.PendingSums.{ended_and_pending, seconds_now}
+use Rattle.tally_sessions.proofs.track.PendingSums.{ended_and_pending, lines_sum, now_sum-le, pending_at, seconds_now}
 use Rattle.tally_sessions.proofs.track.StayCounts.{length-stays_from}
 
 stay_now-completed : (host : ℕ) (es : List Entry) (now time : ℤ) (t : TrackedStay) → stay_now host es now time t ≡ completed host now time (tracked_in host es t)
@@ -85,3 +89,34 @@ latest_limit all found i limit e n =
     ∙ take-append-le limit found (reverse (take i all)) (omega arith)
     ∙ take_all limit found (omega arith)
     )
+
+-- the length of the stays that are sessions is bounded by the number of records
+pub seconds_fit : (who : Option (List ℕ)) (host : ℕ) (es : List Entry) (a : Track) (until : Option ℤ) → IsTrack host es (length es) a → unwrap_or until a.last ≤ℤ pos 2147483647
+    → seconds_of who (stays_of host es until) ≤ 4294967295 * length (of_host host es)
+seconds_fit who host es a until h last =
+    let few = now_sum-le who es a.clock (unwrap_or until a.last) a.stays.items last h.sums.fits in
+    omega (arith, few, seconds_are who host es a until h, ended_and_pending who es a.clock (unwrap_or until a.last) a.stays.items, count_now host es a h)
+
+-- the sum of the sessions that have ended, and of those that the first lines lead to
+abbrev pub sum_so_far : Option (List ℕ) → List Entry → ℤ → Track → ℕ → ℕ
+sum_so_far who es time a k = sum_of a.sums who + sum_by (pending_at who es a.clock time a.stays.items) (take k a.lines.entries)
+
+-- after the last line it is that of all sessions
+pub sum_at_end : (who : Option (List ℕ)) (host : ℕ) (es : List Entry) (a : Track) (until : Option ℤ) (k : ℕ) → IsTrack host es (length es) a → IsDistinct bytes_eq (keys_of a.lines.entries) → length a.lines.entries ≤ k
+    → sum_so_far who es (unwrap_or until a.last) a k ≡ seconds_of who (stays_of host es until)
+sum_at_end who host es a until k h distinct all =
+    let time = unwrap_or until a.last in
+    omega (
+      arith,
+      h.sums.at who,
+      ap (sum_by (pending_at who es a.clock time a.stays.items)) (take_all k a.lines.entries all),
+      lines_sum who es a.clock time (length es) a.lines.entries a.swept a.stays.items h.tracked distinct,
+      seconds_are who host es a until h,
+    )
+
+-- and before, with one line more, it is no more
+pub sum_within : (who : Option (List ℕ)) (host : ℕ) (es : List Entry) (a : Track) (until : Option ℤ) (k : ℕ) → IsTrack host es (length es) a → IsDistinct bytes_eq (keys_of a.lines.entries) → k < length a.lines.entries
+    → sum_so_far who es (unwrap_or until a.last) a k + pending_at who es a.clock (unwrap_or until a.last) a.stays.items (line_at a.lines.entries k) ≤ seconds_of who (stays_of host es until)
+sum_within who host es a until k h distinct lt =
+    let f = pending_at who es a.clock (unwrap_or until a.last) a.stays.items in
+    omega (arith, sum_at_end who host es a until (length a.lines.entries) h distinct (omega arith), ap (sum_by f) (take_all (length a.lines.entries) a.lines.entries (omega arith)), sum_by_more_le f a.lines.entries k no_line lt)

@@ -13,7 +13,7 @@ use Rattle.tally_sessions.specs.declared.entry.Entry.{Entry}
 use Rattle.tally_sessions.specs.declared.track.ending.Ending.{Ending}
 use Rattle.tally_sessions.specs.declared.track.ending.TrackedStay.{TrackedStay}
 use Rattle.tally_sessions.specs.Stays.{ends_event, ends_stay, starts_stay}
-use Rattle.tally_sessions.specs.inside.Track.{is_login_event, stay_at, start_of, ending_of, end_if, after, ends_line_stay, stay_with, tracked_in, IsTracked, AreTracked}
+use Rattle.tally_sessions.specs.inside.Track.{is_login_event, stay_at, start_of, ending_of, end_if, after, ends_line_stay, ended_with, tracked_in, IsTracked, AreTracked}
 use Rattle.tally_sessions.specs.inside.Tracking.{Tracked, advanced, advance_if, ended_by}
 
 pub is_login_of_event : (e : Event) → is_login_event e ≡ true → e ≡ Login
@@ -30,7 +30,7 @@ pub tracked_in-after : (host : ℕ) (es : List Entry) (now : ℤ) (x : LoginReco
 tracked_in-after host es now x t = by t.ended
   where
     kept : Option Ending → Tracked
-    kept e = record { start = start_of es t; clock_at = t.clock_at; ended = option_map (stay_with host (start_of es t)) e }
+    kept e = record { start = start_of es t; clock_at = t.clock_at; ended = option_map (ended_with host (start_of es t)) e }
 
     ending : Ending
     ending = ending_of (start_of es t) (now -ℤ t.clock_at) x
@@ -39,7 +39,7 @@ tracked_in-after host es now x t = by t.ended
     pending true = refl
     pending false = refl
 
-    by : (e : Option Ending) → kept (option_or e (end_if (ends_stay (start_of es t) x) ending)) ≡ advance_if host now x (kept e) (option_map (stay_with host (start_of es t)) e)
+    by : (e : Option Ending) → kept (option_or e (end_if (ends_stay (start_of es t) x) ending)) ≡ advance_if host now x (kept e) (option_map (ended_with host (start_of es t)) e)
     by (Some e) = refl
     by None = pending (ends_stay (start_of es t) x)
 
