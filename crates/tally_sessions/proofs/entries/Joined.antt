@@ -1,5 +1,5 @@
 -- Hosts beside their records.
-use Rattle.std.proofs.Common.{◌≡◌, ℕ, zero, suc, List, [], ◌∷◌, ◌++◌, length, take, replicate, slice_get, Some, None, IsSome, Option, option_map, ◌<◌, refl, sym, ap, ◌∙◌, subst, arith}
+use Rattle.std.proofs.Common.{◌≡◌, ◌⊎◌, inl, inr, ℕ, zero, suc, List, [], ◌∷◌, ◌++◌, length, take, replicate, slice_get, Some, None, IsSome, Option, option_map, ◌<◌, refl, sym, ap, ◌∙◌, subst, arith}
 use Rattle.tally_records.specs.declared.login.LoginRecord.{LoginRecord}
 use Rattle.tally_sessions.specs.declared.entry.Entry.{Entry}
 use Rattle.tally_sessions.specs.inside.Entries.{entry_at}
@@ -75,29 +75,19 @@ pub joined-nil : (rs : List LoginRecord) → joined [] rs ≡ []
 unfolding joined
 joined-nil rs = refl
 
--- where no record is, or a host and a record are
-none_at : (hs : List ℕ) (rs : List LoginRecord) (i : ℕ) → slice_get hs i ≡ None → slice_get (joined hs rs) i ≡ None
+-- where no host or no record is, or both are
+none_at : (hs : List ℕ) (rs : List LoginRecord) (i : ℕ) → (slice_get hs i ≡ None) ⊎ (slice_get rs i ≡ None) → slice_get (joined hs rs) i ≡ None
 unfolding joined
 none_at [] rs i e = refl
 none_at (h ∷ hs) [] i e = refl
-none_at (h ∷ hs) (r ∷ rs) zero e = cc
+none_at (h ∷ hs) (r ∷ rs) zero e = elim e [ inl no_host ↦ cc | inr no_record ↦ cc ]
 none_at (h ∷ hs) (r ∷ rs) (suc i) e = none_at hs rs i e
-
-none_at_record : (hs : List ℕ) (rs : List LoginRecord) (i : ℕ) → slice_get rs i ≡ None → slice_get (joined hs rs) i ≡ None
-unfolding joined
-none_at_record [] rs i e = refl
-none_at_record (h ∷ hs) [] i e = refl
-none_at_record (h ∷ hs) (r ∷ rs) zero e = cc
-none_at_record (h ∷ hs) (r ∷ rs) (suc i) e = none_at_record hs rs i e
 
 pub got : (hs : List ℕ) (rs : List LoginRecord) (es : List Entry) (i h : ℕ) (r : LoginRecord) → joined hs rs ≡ es → slice_get hs i ≡ Some h → slice_get rs i ≡ Some r → Some (record { host = h; item = r }) ≡ slice_get es i
 got hs rs es i h r view e f = sym (slice_get-joined hs rs i h r e f) ∙ ap (λ (xs : List Entry). slice_get xs i) view
 
-pub none_got : (hs : List ℕ) (rs : List LoginRecord) (es : List Entry) (i : ℕ) → joined hs rs ≡ es → slice_get hs i ≡ None → None ≡ slice_get es i
+pub none_got : (hs : List ℕ) (rs : List LoginRecord) (es : List Entry) (i : ℕ) → joined hs rs ≡ es → (slice_get hs i ≡ None) ⊎ (slice_get rs i ≡ None) → None ≡ slice_get es i
 none_got hs rs es i view e = sym (none_at hs rs i e) ∙ ap (λ (xs : List Entry). slice_get xs i) view
-
-pub none_got_record : (hs : List ℕ) (rs : List LoginRecord) (es : List Entry) (i : ℕ) → joined hs rs ≡ es → slice_get rs i ≡ None → None ≡ slice_get es i
-none_got_record hs rs es i view e = sym (none_at_record hs rs i e) ∙ ap (λ (xs : List Entry). slice_get xs i) view
 
 -- a whole record, likewise
 same_map : (o : Option LoginRecord) → o ≡ option_map (λ r. r) o

@@ -8,6 +8,7 @@ use Rattle.std.specs.List.{AllByRecursion, IsDistinct}
 use Rattle.std.specs.Map.{keys_of, lookup}
 use Rattle.std.specs.Prelude.{bytes_eq, sum_by}
 use Rattle.tally_records.proofs.Members.{Member}
+use Rattle.tally_sessions.proofs.track.Names.{same_both_ways}
 
 -- sums of terms that agree at each item
 pub sum_same : {X : Type 0} (f g : X → ℕ) (xs : List X) → ((x : X) → Member x xs → f x ≡ g x) → sum_by f xs ≡ sum_by g xs
@@ -32,15 +33,8 @@ unfolding IsDistinct
 lookup_of_member [] e distinct m = absurd m
 lookup_of_member (f ∷ fs) e distinct m = elim m [
   | inl same ↦ ap (λ b. cond b (Some f.1) (lookup (bytes_eq e.0) fs)) ((bytes_eq-Decides e.0 f.0).1 (ap (λ (g : List ℕ × ℕ). g.0) same)) ∙ ap (λ (g : List ℕ × ℕ). Some g.1) (sym same)
-  | inr n ↦ ap (λ b. cond b (Some f.1) (lookup (bytes_eq e.0) fs)) (other_key e.0 f.0 (apart f.0 fs e distinct.0 n)) ∙ lookup_of_member fs e distinct.1 n
+  | inr n ↦ ap (λ b. cond b (Some f.1) (lookup (bytes_eq e.0) fs)) (same_both_ways f.0 e.0 false (apart f.0 fs e distinct.0 n)) ∙ lookup_of_member fs e distinct.1 n
 ]
-  where
-    other_key : (a b : List ℕ) → bytes_eq b a ≡ false → bytes_eq a b ≡ false
-    other_key a b h = by (bytes_eq a b) refl
-      where
-        by : (t : Bool) → bytes_eq a b ≡ t → bytes_eq a b ≡ false
-        by false e = e
-        by true e = absurd (false≢true (sym h ∙ (bytes_eq-Decides b a).1 (sym ((bytes_eq-Decides a b).0 e))))
 
 none≢some : (m : ℕ) → None ≡ Some m → ⊥
 none≢some m e = cc

@@ -1,11 +1,13 @@
 -- Where a name stands in a table.
-use Rattle.std.proofs.Common.{◌≡◌, ℕ, true, cond, List, slice_get, get_or, position, Option, None, Some, IfSome, sym, ap, ◌∙◌}
+use Rattle.std.proofs.Common.{◌≡◌, ℕ, Bool, true, false, refl, cond, List, slice_get, get_or, position, Option, None, Some, IfSome, sym, ap, ◌∙◌}
 use Rattle.std.specs.Cmp.Lexicographic.{nat_list_eq_equiv, same_text}
 use Rattle.std.specs.Map.{keys_of, lookup}
 use Rattle.std.specs.Option.{option_map}
 use Rattle.std.specs.Prelude.{bytes_eq}
 use Rattle.std.proofs.lemmas.List.Quantifiers.{position-Some}
 use Rattle.std.proofs.lemmas.Map.Views.{lookup-from_Contains}
+use Rattle.std.proofs.lemmas.Bool.{false≢true}
+use Rattle.std.proofs.lemmas.Slice.Eq.{bytes_eq-Decides}
 use Rattle.std.proofs.lemmas.Option.{get_or_from_slice_get, slice_get-get_or, slice_get-map, slice_get_within}
 use Rattle.indexmap.specs.IndexMap.{IndexMap, IsUnique, keys, set_value_at}
 use Rattle.indexmap.proofs.CallerLemmas.{updates-with_value_at}
@@ -35,3 +37,12 @@ module _ {S : Type 0} (m : IndexMap (List ℕ) ℕ S) (i : ℕ) (name own : List
 
   pub lookup_set : (w : ℕ) (other : List ℕ) → lookup (bytes_eq other) (set_value_at m.entries i w) ≡ cond (bytes_eq name other) (Some w) (lookup (bytes_eq other) m.entries)
   lookup_set w other = (updates-with_value_at m i w nat_list_eq_equiv unique name n entry_is).0 other
+
+-- two names are compared alike in either order
+pub same_both_ways : (a b : List ℕ) (t : Bool) → bytes_eq a b ≡ t → bytes_eq b a ≡ t
+same_both_ways a b true h = (bytes_eq-Decides b a).1 (sym ((bytes_eq-Decides a b).0 h))
+same_both_ways a b false h = by (bytes_eq b a) refl
+  where
+    by : (t : Bool) → bytes_eq b a ≡ t → bytes_eq b a ≡ false
+    by false e = e
+    by true e = absurd (false≢true (sym h ∙ (bytes_eq-Decides a b).1 (sym ((bytes_eq-Decides b a).0 e))))

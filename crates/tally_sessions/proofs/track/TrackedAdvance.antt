@@ -16,6 +16,7 @@ use Rattle.tally_sessions.specs.declared.track.ending.TrackedStay.{TrackedStay}
 use Rattle.tally_sessions.specs.inside.Entries.{entry_at}
 use Rattle.tally_sessions.specs.Stays.{ends_event, ends_stay, starts_stay}
 use Rattle.tally_sessions.specs.inside.Track.{is_login_event, no_stay, stay_at, start_of, after, IsWithin, IsTracked, IsOnLine, AreTracked, started, LeadsTo}
+use Rattle.tally_sessions.proofs.track.Names.{same_both_ways}
 use Rattle.tally_sessions.proofs.track.TrackSteps.{after-ended, after-ends, after-pending, is_login_of_event, some_inj}
 
 pub IsWithin-more : (n : ℕ) (z : ℤ) → IsWithin n z → IsWithin (n + 1) z
@@ -24,20 +25,12 @@ IsWithin-more n z h = let a = h.low in let b = h.high in record { low = omega (a
 pub IsWithin-all : (n m : ℕ) (z : ℤ) → n ≤ m → IsWithin n z → IsWithin m z
 IsWithin-all n m z le h = let a = h.low in let b = h.high in record { low = omega (arith, ints); high = omega (arith, ints) }
 
--- a record's line leads to it, where it is a login
-same_line : (a b : List ℕ) → bytes_eq a b ≡ false → bytes_eq b a ≡ false
-same_line a b h = by (bytes_eq b a) refl
-  where
-    by : (t : Bool) → bytes_eq b a ≡ t → bytes_eq b a ≡ false
-    by false e = e
-    by true e = absurd (false≢true (sym h ∙ (bytes_eq-Decides a b).1 (sym ((bytes_eq-Decides b a).0 e))))
-
 -- a login that is pending after a record is not on the line of a login
 off_line : (r x : LoginRecord) → event_of r ≡ Login → ends_stay r x ≡ false → (is_login_event (event_of x) && bytes_eq x.line r.line) ≡ false
 off_line r x login none = by (event_of x) (ap (λ e. ends_event e (event_of x) (bytes_eq r.line x.line)) (sym login) ∙ none)
   where
     by : (e : Event) → ends_event Login e (bytes_eq r.line x.line) ≡ false → (is_login_event e && bytes_eq x.line r.line) ≡ false
-    by Login h = same_line r.line x.line h
+    by Login h = same_both_ways r.line x.line false h
     by Logout h = refl
     by Boot h = refl
     by Down h = refl

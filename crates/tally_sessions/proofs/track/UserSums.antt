@@ -1,6 +1,5 @@
 -- The seconds of one user among the sums of all, and among the pending sessions of all.
 use Rattle.std.proofs.Common.{◌≡◌, ℕ, ◌+◌, ◌<◌, ◌&&◌, Bool, true, false, cond, not, is_some, List, [], ◌∷◌, length, get_or, take, Some, None, unwrap_or, ℤ, ◌-ℤ◌, refl, sym, ap, subst, ◌∙◌, arith}
-use Rattle.std.proofs.lemmas.Bool.{false≢true}
 use Rattle.std.proofs.lemmas.List.Sums.{sum_by-cons, sum_by_more}
 use Rattle.std.proofs.lemmas.Map.Text.{is_eq-slice_cmp}
 use Rattle.std.proofs.lemmas.Slice.Eq.{bytes_eq-Decides}
@@ -13,19 +12,12 @@ use Rattle.tally_records.specs.Event.{event_of}
 use Rattle.tally_sessions.specs.declared.entry.Entry.{Entry}
 use Rattle.tally_sessions.specs.declared.track.ending.TrackedStay.{TrackedStay}
 use Rattle.tally_sessions.specs.inside.Track.{is_login_event, pending_length, start_of, stay_at, still_of}
+use Rattle.tally_sessions.proofs.track.Names.{same_both_ways}
 use Rattle.tally_sessions.proofs.track.PendingSums.{pending_at}
 
 -- the number of an entry, where its name is this one
 abbrev pub part_of : List ℕ → List ℕ × ℕ → ℕ
 part_of user e = cond (bytes_eq e.0 user) e.1 0
-
-same_both_ways : (a b : List ℕ) (t : Bool) → bytes_eq a b ≡ t → bytes_eq b a ≡ t
-same_both_ways a b true h = (bytes_eq-Decides b a).1 (sym ((bytes_eq-Decides a b).0 h))
-same_both_ways a b false h = by (bytes_eq b a) refl
-  where
-    by : (t : Bool) → bytes_eq b a ≡ t → bytes_eq b a ≡ false
-    by false e = e
-    by true e = absurd (false≢true (sym h ∙ (bytes_eq-Decides a b).1 (sym ((bytes_eq-Decides b a).0 e))))
 
 -- no entry has the name
 none_of : (user : List ℕ) (es : List (List ℕ × ℕ)) → AllByRecursion (λ k. bytes_eq user k ≡ false) (keys_of es) → sum_by (part_of user) es ≡ 0

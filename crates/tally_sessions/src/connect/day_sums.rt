@@ -88,7 +88,7 @@ impl Sessions {
     {
         let mut table = vec![in alloc; 0; DAY_COUNT]?;
         let entries = self.entries();
-        let mut at = Place { host: 0, stay: 0 };
+        let mut at = Place::first();
         while let Some(session) = self.next_session(entries, &mut at, until) {
             add_changes(&mut table, offset, &session);
         }

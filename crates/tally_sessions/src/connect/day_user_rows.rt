@@ -98,7 +98,7 @@ impl Sessions {
     {
         let mut changes = BTreeMap::new(alloc);
         let entries = self.entries();
-        let mut at = Place { host: 0, stay: 0 };
+        let mut at = Place::first();
         while let Some(session) = self.next_session(entries, &mut at, until) {
             add_changes(&mut changes, offset, &session)?;
         }

@@ -1,6 +1,8 @@
 //! Going over the sessions of all hosts.
-ghost use Rattle.std.specs.Prelude.{◌≡◌, [], ◌∷◌, IfNone, IfSome};
+ghost use Rattle.std.specs.Prelude.{◌≡◌, ℤ, List, [], ◌∷◌, IfNone, IfSome, Option};
+ghost use Rattle.tally_sessions.specs.declared.entry.Entry.{Entry as Stored};
 ghost use Rattle.tally_sessions.specs.Lent.{entries_in};
+ghost use Rattle.tally_sessions.specs.Sums.{sessions_of};
 ghost use Rattle.tally_sessions.specs.inside.Walk.{sessions_ahead};
 
 use crate::entries::Entries;
@@ -12,6 +14,16 @@ use crate::sums::Session;
 pub(crate) struct Place {
     pub(crate) host: u32,
     pub(crate) stay: usize,
+}
+
+impl Place {
+    /// The place before all stays.
+    #[tactic(auto, using(crate::proofs::connect::Ahead::all_ahead))]
+    pub(crate) fn first() -> Place
+        ensures { (entries : List Stored) (until : Option ℤ) → sessions_ahead result entries until ≡ sessions_of entries until }
+    {
+        Place { host: 0, stay: 0 }
+    }
 }
 
 impl Sessions {

@@ -4,7 +4,6 @@ use Rattle.std.proofs.lemmas.List.{get_or-replicate}
 use Rattle.tally_sessions.specs.inside.Changes.{change_at}
 use Rattle.tally_sessions.specs.inside.Walk.{sessions_ahead}
 use Rattle.tally_sessions.specs.Sums.{sessions_of}
-use Rattle.tally_sessions.proofs.connect.Ahead.{all_ahead}
 use Rattle.tally_sessions.proofs.connect.DayChanges.{whole_slice}
 use Rattle.tally_sessions.proofs.connect.DayTable.{day_table-more, day_table-start, day_table-within, HasAllBut}
 use Rattle.tally_sessions.proofs.sums.SessionLists.{few_sessions}
@@ -20,7 +19,7 @@ loop-session-init c =
     let table = c.in_ok-table.table.items in
     let zeros = c.in_ok-table.ensures.items_if_clones_equal (λ y h. h) in
     let few = few_sessions c.args.until c.entries-entries.ensures.value c.entries-entries.ensures.few in
-    subst (λ ss. HasAllBut (held c.args.offset) all ss table) (sym (all_ahead es c.args.until))
+    subst (λ ss. HasAllBut (held c.args.offset) all ss table) (sym (c.first-at.ensures es c.args.until))
     (day_table-start (held c.args.offset) all table (search rules) few (λ place lt. ap (λ xs. change_at xs place) zeros ∙ get_or-replicate 49715 place (pos 0) (pos 0) lt))
 
 pub add_changes-requires-clause-low : goal.add_changes-requires-clause-low

@@ -2,7 +2,6 @@ use Rattle.std.proofs.Common.{ℤ, [], sym, ap, subst, arith, rules, to_z, of_z,
 use Rattle.std.proofs.lemmas.Int.{ints, to_z-of_z}
 use Rattle.tally_sessions.specs.inside.Changes.{change_of}
 use Rattle.tally_sessions.specs.Sums.{sessions_of}
-use Rattle.tally_sessions.proofs.connect.Ahead.{all_ahead}
 use Rattle.tally_sessions.proofs.connect.UserTable.{user_table-more, user_table-start, user_table-within, HasUsersBut}
 use Rattle.tally_sessions.proofs.sums.SessionLists.{few_sessions}
 use Rattle.tally_sessions.proofs.sessions.Sessions.user_changes.Goals as goal
@@ -15,7 +14,7 @@ loop-session-init c =
     let es = c.args.self.now.entries in
     let all = sessions_of es c.args.until in
     let few = few_sessions c.args.until c.entries-entries.ensures.value c.entries-entries.ensures.few in
-    subst (λ ss. HasUsersBut (held c.args.offset) all ss c.new-changes.result.entries) (sym (all_ahead es c.args.until))
+    subst (λ ss. HasUsersBut (held c.args.offset) all ss c.new-changes.result.entries) (sym (c.first-at.ensures es c.args.until))
     (user_table-start (held c.args.offset) all c.new-changes.result.entries few (λ k. ap (λ es. change_of es k) c.new-changes.ensures.empty))
 
 pub add_changes-requires-clause-low : goal.add_changes-requires-clause-low
