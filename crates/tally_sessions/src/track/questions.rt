@@ -45,8 +45,8 @@ impl Track {
     /// A stay as it stands at a time.
     fn stay(&self, host: u32, entries: Entries<'_>, i: usize, time: i32) -> Stay
         requires i_in { i < vec_len self.now.stays }
-        requires placed { spec.ArePlaced (length (entries_in entries)) self.now.stays.items }
-        requires now { spec.IsWithin ENTRY_LIMIT self.now.clock }
+        requires few { length (entries_in entries) ≤ ENTRY_LIMIT }
+        requires track { spec.IsTrack host (entries_in entries) (length (entries_in entries)) self.now }
         ensures value { result ≡ spec.stay_now host (entries_in entries.entry) self.now.clock time (spec.stay_at self.now.stays.items i) }
         ensures fits { result.length < 2 ^ 32 }
     {
