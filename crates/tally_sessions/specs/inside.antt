@@ -8,3 +8,4 @@ pub mod Sums
 pub mod Totals
 pub mod Track
 pub mod Tracking
+pub mod Walk

@@ -10,8 +10,8 @@ ghost use Rattle.tally_sessions.specs.Totals.{connect_of};
 
 mod day_sums;
 mod day_user_rows;
-pub(crate) mod sums;
 mod user_sums;
+pub(crate) mod walk;
 
 use crate::sessions::{HOST_LIMIT, Sessions};
 use crate::times::{DayTime, DayUserTime, UserTime};

@@ -41,7 +41,7 @@ impl<'a> Entries<'a> {
     }
 
     /// The entry at a place, counted from 0.
-    #[tactic(auto, using(crate::proofs::Lending::get_after, crate::proofs::Lending::get_front))]
+    #[tactic(auto, using(crate::proofs::entries::Lending::get_after, crate::proofs::entries::Lending::get_front))]
     pub fn get(self, index: usize) -> Option<Entry>
         ensures { result ≡ slice_get (entries_in self.entry) index }
     {
@@ -52,7 +52,7 @@ impl<'a> Entries<'a> {
     }
 
     /// When the record at a place was written.
-    #[tactic(auto, using(crate::proofs::Lending::read_lent))]
+    #[tactic(auto, using(crate::proofs::entries::Lending::read_lent))]
     pub(crate) fn time(self, at: usize) -> i32
         requires { at < length (entries_in self) }
         ensures { result ≡ (entry_at (entries_in self.entry) at).item.time }
@@ -61,7 +61,7 @@ impl<'a> Entries<'a> {
     }
 
     /// The event of the record at a place.
-    #[tactic(auto, using(crate::proofs::Lending::read_lent))]
+    #[tactic(auto, using(crate::proofs::entries::Lending::read_lent))]
     pub(crate) fn event(self, at: usize) -> Event
         requires { at < length (entries_in self) }
         ensures { result ≡ event_of (entry_at (entries_in self.entry) at).item }
@@ -70,7 +70,7 @@ impl<'a> Entries<'a> {
     }
 
     /// The user of the record at a place.
-    #[tactic(auto, using(crate::proofs::Lending::read_lent))]
+    #[tactic(auto, using(crate::proofs::entries::Lending::read_lent))]
     pub(crate) fn user_key(self, at: usize) -> Key
         requires { at < length (entries_in self) }
         ensures { result ≡ (entry_at (entries_in self.entry) at).item.user }
@@ -79,7 +79,7 @@ impl<'a> Entries<'a> {
     }
 
     /// The record at a place.
-    #[tactic(auto, using(crate::proofs::Lending::read_lent))]
+    #[tactic(auto, using(crate::proofs::entries::Lending::read_lent))]
     pub(crate) fn record(self, at: usize) -> LoginRecord
         requires { at < length (entries_in self) }
         ensures { result ≡ (entry_at (entries_in self.entry) at).item }
@@ -88,7 +88,7 @@ impl<'a> Entries<'a> {
     }
 
     /// The name of the user of the record at a place.
-    #[tactic(auto, using(crate::proofs::Lending::read_lent))]
+    #[tactic(auto, using(crate::proofs::entries::Lending::read_lent))]
     pub(crate) fn user(self, at: usize) -> Name
         requires { at < length (entries_in self) }
         ensures { result ≡ (entry_at (entries_in self.entry) at).item.user }

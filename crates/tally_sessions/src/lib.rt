@@ -2,9 +2,10 @@
 //!
 //! `entries` keeps the records: `list` stores them, `iter` goes over them. `track` goes forward over those of one
 //! host: `rules` says what a record means, `ending` ends stays, `ended` sums those that have ended, `name_table`
-//! finds lines and users, `questions` answers. `connect` has the rows of connect time: `sums` and `user_sums` by
-//! user, `day_sums` by day, `day_user_rows` by both. `sessions` holds the tracks of all hosts, an `entry` and a
-//! stay are plain values, `times` are rows, `days` and `laws` state laws.
+//! finds lines and users, `questions` answers. `connect` has the rows of connect time: `walk` goes over all
+//! sessions, `user_sums` sums by user, `day_sums` by day, `day_user_rows` by both; `sums` is what rows and tracks
+//! add up. `sessions` holds the tracks of all hosts, an `entry` and a stay are plain values, `times` are rows,
+//! `days` and `laws` state laws.
 #![tactic(auto)]
 
 mod connect;
@@ -13,6 +14,7 @@ mod entries;
 mod entry;
 mod laws;
 mod sessions;
+mod sums;
 mod times;
 mod track;
 

@@ -7,7 +7,3 @@ use Rattle.tally_records.specs.declared.batch.Kind.TheVariants.{Login, Proc}
 pub record_count-is : (b : Records) → IsProcs b → record_count b ≡ length (procs_in b)
 record_count-is (Logins rs) e = absurd (let f : Login ≡ Proc = e in cc)
 record_count-is (Procs rs) e = refl
-
-pub proc_at-is : (b : Records) (i : ℕ) → IsProcs b → proc_at b i ≡ slice_get (procs_in b) i
-proc_at-is (Logins rs) i e = absurd (let f : Login ≡ Proc = e in cc)
-proc_at-is (Procs rs) i e = refl

@@ -52,9 +52,6 @@ plus_comm u v = λ i. record {
   mem_cpu = (let e : u.mem_cpu + v.mem_cpu ≡ v.mem_cpu + u.mem_cpu = omega arith in e) i;
 }
 
-none-plus : (u : Usage) → plus no_usage u ≡ u
-none-plus u = plus_comm no_usage u ∙ plus-none u
-
 usage_of-cons : (r : ProcRecord) (rs : List ProcRecord) → usage_of (r ∷ rs) ≡ plus (usage_of (r ∷ [])) (usage_of rs)
 usage_of-cons r rs = usage_of-append (r ∷ []) rs
 

@@ -62,11 +62,6 @@ keeps s t zs sound stored total items few bounded commands users waiting =
       waiting = subst (λ es. MatchOption t.ready (es ≡ []) (λ host. CanCount t host es)) (sym back) waiting;
     }
 
--- kept records of a host are its entries
-pub entries_kept-kept_of : (host : ℕ) (ps : List PackedProc) → entries_kept (kept_of host ps) ≡ entries_of host (unpacked ps)
-entries_kept-kept_of host [] = refl
-entries_kept-kept_of host (p ∷ ps) = λ i. record { host = host; item = record_of p } ∷ entries_kept-kept_of host ps i
-
 pub records_kept-kept_of : (host : ℕ) (ps : List PackedProc) → records_kept (kept_of host ps) ≡ unpacked ps
 records_kept-kept_of host [] = refl
 records_kept-kept_of host (p ∷ ps) = λ i. record_of p ∷ records_kept-kept_of host ps i

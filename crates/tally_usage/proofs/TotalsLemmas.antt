@@ -61,15 +61,6 @@ plus-none u = λ i. record {
   mem_cpu = (let e : u.mem_cpu + 0 ≡ u.mem_cpu = omega arith in e) i;
 }
 
-pub none-plus : (u : Usage) → plus no_usage u ≡ u
-none-plus u = λ i. record {
-  count = (let e : 0 + u.count ≡ u.count = omega arith in e) i;
-  real = (let e : 0 + u.real ≡ u.real = omega arith in e) i;
-  cpu = (let e : 0 + u.cpu ≡ u.cpu = omega arith in e) i;
-  io = (let e : 0 + u.io ≡ u.io = omega arith in e) i;
-  mem_cpu = (let e : 0 + u.mem_cpu ≡ u.mem_cpu = omega arith in e) i;
-}
-
 module _ {K : Type 0} {eq : K → K → Bool} (laws : IsEquivalence eq) (exact : (x y : K) → eq x y ≡ true → x ≡ y) (key_of : ProcRecord → K) where
   -- the usage of a group, once a record follows
   usage-push : (k : K) (rs : List ProcRecord) (r : ProcRecord) → usage_of (records_with eq key_of k (rs ++ r ∷ [])) ≡ plus (usage_of (records_with eq key_of k rs)) (usage_of (cond (eq k (key_of r)) (r ∷ []) []))

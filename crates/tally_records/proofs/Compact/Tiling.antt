@@ -82,9 +82,6 @@ few_words (h ∷ hs) from end t all =
 pub Covers-few : (hs : List Head) (words : List ℕ) → Covers hs words → length words ≤ 40 * length hs
 Covers-few hs words c = omega (arith, few_words hs 0 (length words) c.tiles c.heads)
 
-pub Covers-nil : Covers [] []
-Covers-nil = record { tiles = refl; heads = All-nil IsHead }
-
 -- the words of the head at a place
 pub Covers-get : (hs : List Head) (words : List ℕ) (k : ℕ) (h : Head) → Covers hs words → slice_get hs k ≡ Some h → h.start + size h ≤ length words
 Covers-get hs words k h c e =

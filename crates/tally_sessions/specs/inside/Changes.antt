@@ -6,7 +6,7 @@ use Rattle.std.specs.Map.{lookup}
 use Rattle.std.specs.Ordering.{is_eq}
 use Rattle.tally_records.specs.Sorted.{in_order}
 use Rattle.tally_sessions.specs.declared.connect.day_user_rows.DayUser.{DayUser}
-use Rattle.tally_sessions.specs.declared.connect.sums.Session.{Session}
+use Rattle.tally_sessions.specs.declared.sums.Session.{Session}
 use Rattle.tally_sessions.specs.declared.times.DayUserTime.{DayUserTime}
 use Rattle.tally_sessions.specs.Days.{seconds_on}
 use Rattle.tally_sessions.specs.Rows.{day_user_time_cmp, day_users_of}

@@ -17,7 +17,7 @@ use Rattle.tally_sessions.specs.declared.track.Track.{Track}
 use Rattle.tally_sessions.specs.Clock.{pending_old_time}
 use Rattle.tally_sessions.specs.Hosts.{of_host}
 use Rattle.tally_sessions.specs.inside.Entries.{entry_at}
-use Rattle.tally_sessions.specs.Stays.{clamped, seconds_between, end_at, ends_stay, is_boot_event, last_time, starts_stay}
+use Rattle.tally_sessions.specs.Stays.{clamped, seconds_between, end_at, ends_stay, last_time, starts_stay, stay_with}
 use Rattle.tally_sessions.specs.inside.Tracking.{Tracked, clock, tracked_from}
 
 -- what a read of a tracked stay gives past the end
@@ -71,23 +71,12 @@ ends_line_stay Logout = true
 ends_line_stay _ = false
 
 -- the stay of a record with this end
-abbrev pub stay_with : ℕ → LoginRecord → Ending → Stay
-stay_with host r e = record {
-  host = host;
-  is_boot = is_boot_event (event_of r);
-  user = r.user;
-  line = r.line;
-  remote = r.remote;
-  start = r.time;
-  begin = e.begin;
-  end = e.end;
-  end_time = e.end_time;
-  length = e.length;
-}
+abbrev pub ended_with : ℕ → LoginRecord → Ending → Stay
+ended_with host r e = stay_with host r e.begin e.end e.end_time e.length
 
 -- what is kept of a stay
 abbrev pub tracked_in : ℕ → List Entry → TrackedStay → Tracked
-tracked_in host es t = record { start = start_of es t; clock_at = t.clock_at; ended = option_map (stay_with host (start_of es t)) t.ended }
+tracked_in host es t = record { start = start_of es t; clock_at = t.clock_at; ended = option_map (ended_with host (start_of es t)) t.ended }
 
 -- by how much a clock can move in so many records
 pub record IsWithin (n : ℕ) (z : ℤ) : Type 0 where
@@ -210,12 +199,20 @@ ending_now es now time t = unwrap_or t.ended (still_of (start_of es t) (now -ℤ
 
 -- the stay that is tracked, as it stands now
 abbrev pub stay_now : ℕ → List Entry → ℤ → ℤ → TrackedStay → Stay
-stay_now host es now time t = stay_with host (start_of es t) (ending_now es now time t)
+stay_now host es now time t = ended_with host (start_of es t) (ending_now es now time t)
 
 -- the length so far of a stay whose start counts, while it is pending
 abbrev pub pending_length : Option (List ℕ) → List Entry → ℤ → ℤ → TrackedStay → ℕ
 pending_length who es now time t =
     if not (is_some t.ended) && counts who (start_of es t) then (still_of (start_of es t) (now -ℤ t.clock_at) time).length else 0
+
+-- what a read of a line gives past the end
+abbrev pub no_line : List ℕ × ℕ
+no_line = ([], 0)
+
+-- the name at a place of a table of lines, and the place of the stay that it leads to
+abbrev pub line_at : List (List ℕ × ℕ) → ℕ → List ℕ × ℕ
+line_at lines k = get_or lines k no_line
 
 -- the lengths of the sessions that are pending
 abbrev pub pending_sum : Option (List ℕ) → List Entry → ℤ → ℤ → List TrackedStay → ℕ

@@ -8,7 +8,7 @@ use Rattle.tally_sessions.specs.declared.entry.Stay.{Stay}
 use Rattle.tally_sessions.specs.declared.entry.End.{End}
 use Rattle.tally_sessions.specs.declared.entry.End.TheVariants as ends
 use Rattle.tally_sessions.specs.Clock.{moved}
-use Rattle.tally_sessions.specs.Stays.{ends_stay, first_end, end_of, clamped, seconds_between, is_boot_event, starts_stay, stay_of}
+use Rattle.tally_sessions.specs.Stays.{ends_stay, first_end, end_of, clamped, seconds_between, starts_stay, stay_of, stay_with}
 
 -- the old time that waits, after one event more
 abbrev pub pending_at : Event → ℤ → Option ℤ → Option ℤ
@@ -22,18 +22,7 @@ clock rs = moved [] rs
 
 -- the stay of a record over which the clock moved by this sum
 abbrev pub closed : ℕ → LoginRecord → ℤ → End → ℤ → Stay
-closed host r sum end end_time = record {
-  host = host;
-  is_boot = is_boot_event (event_of r);
-  user = r.user;
-  line = r.line;
-  remote = r.remote;
-  start = r.time;
-  begin = clamped (r.time +ℤ sum);
-  end = end;
-  end_time = end_time;
-  length = seconds_between (clamped (r.time +ℤ sum)) end_time;
-}
+closed host r sum end end_time = stay_with host r (clamped (r.time +ℤ sum)) end end_time (seconds_between (clamped (r.time +ℤ sum)) end_time)
 
 -- this element, where it passes
 abbrev pub this_if : {X : Type 0} → (X → Bool) → X → Option X

@@ -3,17 +3,13 @@ ghost use Rattle.std.specs.Prelude.{◌≡◌, ◌≤◌, ◌<◌, ◌+◌, ◌^
 ghost use Rattle.std.specs.Ordering.{int_cmp};
 ghost use Rattle.tally_sessions.specs.inside.Changes as changes;
 ghost use Rattle.tally_sessions.specs.Days as days;
-ghost use Rattle.tally_sessions.specs.Lent.{entries_in};
-ghost use Rattle.tally_sessions.specs.Sums.{seconds_of_day, sessions_among, sessions_of};
+ghost use Rattle.tally_sessions.specs.Sums.{seconds_of_day, sessions_of};
 ghost use Rattle.tally_sessions.specs.inside.Sums.{sum_at};
-ghost use Rattle.tally_sessions.specs.Totals.{stays_of};
-ghost use Rattle.tally_sessions.specs.inside.Track as spec;
 
-use crate::connect::sums::{Session, add};
+use crate::connect::walk::Place;
 use crate::days::{day_of, seconds_on};
-use crate::entries::Entries;
-use crate::sessions::{ENTRY_LIMIT, HOST_LIMIT, Sessions};
-use crate::track::Track;
+use crate::sessions::{ENTRY_LIMIT, Sessions};
+use crate::sums::{Session, add};
 use std::alloc::Global;
 use std::collections::BTreeMap;
 use tally_records::Memory;
@@ -75,35 +71,6 @@ fn add_changes(table: &mut [i64], offset: i32, session: &Session)
     }
 }
 
-impl Track {
-    /// Adds the changes of the seconds of the host's sessions from day to day.
-    fn add_day_changes(
-        &self,
-        host: u32,
-        entries: Entries<'_>,
-        offset: i32,
-        table: &mut [i64],
-        until: Option<i32>,
-    )
-        requires offset_in { days.IsOffset offset }
-        requires few { length (entries_in entries) ≤ ENTRY_LIMIT }
-        requires track { spec.IsTrack host (entries_in entries) (length (entries_in entries)) self.now }
-        requires all_days { length table.old ≡ DAY_COUNT }
-        requires low { (place : ℕ) → neg_ℤ (pos (2 ^ 61)) ≤ℤ changes.change_at table.old place }
-        requires high { (place : ℕ) → changes.change_at table.old place ≤ℤ pos (2 ^ 61) }
-        ensures value { (place : ℕ) → place < DAY_COUNT → changes.change_at table.new place
-            ≡ changes.change_at table.old place +ℤ changes.change_of_day offset (changes.day_at place) (sessions_among (stays_of host (entries_in entries.entry) until)) }
-        ensures days { (day : ℤ) → 0 < seconds_of_day offset day (sessions_among (stays_of host (entries_in entries.entry) until)) → days.IsDay day }
-    {
-        let time = self.time_now(until);
-        for i in 0..self.stays.len() {
-            if let Some(session) = self.session_at(host, entries, i, time) {
-                add_changes(table, offset, &session);
-            }
-        }
-    }
-}
-
 impl Sessions {
     /// The changes of the seconds of all sessions from day to day.
     fn day_changes(
@@ -119,10 +86,11 @@ impl Sessions {
             ≡ changes.change_of_day offset (changes.day_at place) (sessions_of self.now.entries until)) }
         ensures days { IfOk result (λ _. (day : ℤ) → 0 < seconds_of_day offset day (sessions_of self.now.entries until) → days.IsDay day) }
     {
-        let entries = self.entries();
         let mut table = vec![in alloc; 0; DAY_COUNT]?;
-        for host in 0..HOST_LIMIT {
-            self.tracks[host as usize].add_day_changes(host, entries, offset, &mut table, until);
+        let entries = self.entries();
+        let mut at = Place::first();
+        while let Some(session) = self.next_session(entries, &mut at, until) {
+            add_changes(&mut table, offset, &session);
         }
         Ok(table)
     }

@@ -5,20 +5,16 @@ ghost use Rattle.std.specs.Ordering.{is_eq};
 ghost use Rattle.tally_sessions.specs.inside.Changes as user;
 ghost use Rattle.tally_sessions.specs.inside.Changes.{change_of_day_user, days_ahead, days_from, session_rows};
 ghost use Rattle.tally_sessions.specs.Days as days;
-ghost use Rattle.tally_sessions.specs.Lent.{entries_in};
 ghost use Rattle.tally_sessions.specs.inside.Sums.{day_user_cmp};
-ghost use Rattle.tally_sessions.specs.Sums.{seconds_of_day_user, sessions_among, sessions_of};
-ghost use Rattle.tally_sessions.specs.Totals.{stays_of};
-ghost use Rattle.tally_sessions.specs.inside.Track as spec;
+ghost use Rattle.tally_sessions.specs.Sums.{seconds_of_day_user, sessions_of};
 ghost use Rattle.tally_sessions.specs.declared.connect.day_user_rows.DayUser.{DayUser as Key};
 
 use crate::connect::day_sums::change_on;
-use crate::connect::sums::Session;
+use crate::connect::walk::Place;
 use crate::days::day_of;
-use crate::entries::Entries;
-use crate::sessions::{ENTRY_LIMIT, HOST_LIMIT, Sessions};
+use crate::sessions::{ENTRY_LIMIT, Sessions};
+use crate::sums::Session;
 use crate::times::DayUserTime;
-use crate::track::Track;
 use std::alloc::Global;
 use std::collections::BTreeMap;
 use tally_records::{Memory, Name};
@@ -87,36 +83,6 @@ fn add_changes(
     Ok(())
 }
 
-impl Track {
-    /// Adds the changes of the seconds of the host's sessions from day to day, for each user.
-    fn add_user_changes(
-        &self,
-        host: u32,
-        entries: Entries<'_>,
-        offset: i32,
-        changes: &mut BTreeMap<DayUser, i64>,
-        until: Option<i32>,
-    ) -> Result<(), Memory>
-        requires offset_in { days.IsOffset offset }
-        requires few { length (entries_in entries) ≤ ENTRY_LIMIT }
-        requires track { spec.IsTrack host (entries_in entries) (length (entries_in entries)) self.now }
-        requires low { (k : Key) → neg_ℤ (pos (2 ^ 60)) ≤ℤ user.change_of changes.old.entries k }
-        requires high { (k : Key) → user.change_of changes.old.entries k ≤ℤ pos (2 ^ 60) }
-        ensures value { OnOk result ((k : Key) → user.change_of changes.new.entries k
-            ≡ user.change_of changes.old.entries k +ℤ change_of_day_user offset k (sessions_among (stays_of host (entries_in entries.entry) until))) }
-        ensures days { OnOk result ((k : Key) → 0 < seconds_of_day_user offset k.day k.user (sessions_among (stays_of host (entries_in entries.entry) until))
-            → days.IsDay k.day) }
-    {
-        let time = self.time_now(until);
-        for i in 0..self.stays.len() {
-            if let Some(session) = self.session_at(host, entries, i, time) {
-                add_changes(changes, offset, &session)?;
-            }
-        }
-        Ok(())
-    }
-}
-
 impl Sessions {
     /// The changes of the seconds of all sessions from day to day, for each user.
     fn user_changes(
@@ -130,11 +96,11 @@ impl Sessions {
         ensures value { IfOk result (λ changes. (k : Key) → user.change_of changes.entries k ≡ change_of_day_user offset k (sessions_of self.now.entries until)) }
         ensures days { IfOk result (λ _. (k : Key) → 0 < seconds_of_day_user offset k.day k.user (sessions_of self.now.entries until) → days.IsDay k.day) }
     {
-        let entries = self.entries();
         let mut changes = BTreeMap::new(alloc);
-        for host in 0..HOST_LIMIT {
-            let track = &self.tracks[host as usize];
-            track.add_user_changes(host, entries, offset, &mut changes, until)?;
+        let entries = self.entries();
+        let mut at = Place::first();
+        while let Some(session) = self.next_session(entries, &mut at, until) {
+            add_changes(&mut changes, offset, &session)?;
         }
         Ok(changes)
     }

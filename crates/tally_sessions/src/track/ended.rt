@@ -5,7 +5,7 @@ ghost use Rattle.std.specs.Ordering.{nat_cmp};
 ghost use Rattle.tally_sessions.specs.inside.Sums.{sum_at};
 ghost use Rattle.tally_sessions.specs.inside.Track.{covers, sum_of, IsEntered};
 
-use crate::connect::sums::add;
+use crate::sums::add;
 use crate::track::name_table::NameTable;
 use std::alloc::Global;
 use std::collections::BTreeMap;

@@ -7,10 +7,10 @@ ghost use Rattle.tally_sessions.specs.inside.Totals.{seconds_of};
 ghost use Rattle.tally_sessions.specs.Totals.{stays_of};
 ghost use Rattle.tally_sessions.specs.inside.Track as spec;
 
-use crate::connect::sums::Session;
 use crate::entries::Entries;
 use crate::entry::Stay;
 use crate::sessions::ENTRY_LIMIT;
+use crate::sums::Session;
 use crate::track::Track;
 use crate::track::ending::{Ending, TrackedStay, still};
 use crate::track::rules::{is_boot, is_counted, is_login};
@@ -45,8 +45,8 @@ impl Track {
     /// A stay as it stands at a time.
     fn stay(&self, host: u32, entries: Entries<'_>, i: usize, time: i32) -> Stay
         requires i_in { i < vec_len self.now.stays }
-        requires placed { spec.ArePlaced (length (entries_in entries)) self.now.stays.items }
-        requires now { spec.IsWithin ENTRY_LIMIT self.now.clock }
+        requires few { length (entries_in entries) ≤ ENTRY_LIMIT }
+        requires track { spec.IsTrack host (entries_in entries) (length (entries_in entries)) self.now }
         ensures value { result ≡ spec.stay_now host (entries_in entries.entry) self.now.clock time (spec.stay_at self.now.stays.items i) }
         ensures fits { result.length < 2 ^ 32 }
     {
@@ -97,26 +97,26 @@ impl Track {
         List::from_vec(alloc, found)
     }
 
-    /// The session at a time that the stay at a place is, unless it is a boot's.
+    /// The session that the stay at a place is, unless it is a boot's.
     pub(crate) fn session_at(
         &self,
         host: u32,
         entries: Entries<'_>,
         i: usize,
-        time: i32,
+        until: Option<i32>,
     ) -> Option<Session>
         requires i_in { i < vec_len self.now.stays }
         requires few { length (entries_in entries) ≤ ENTRY_LIMIT }
         requires track { spec.IsTrack host (entries_in entries) (length (entries_in entries)) self.now }
-        ensures session { IfSome result (λ s. sessions_among (spec.stay_now host (entries_in entries.entry) self.now.clock time (spec.stay_at self.now.stays.items i) ∷ []) ≡ s ∷ []) }
-        ensures none { IfNone result (sessions_among (spec.stay_now host (entries_in entries.entry) self.now.clock time (spec.stay_at self.now.stays.items i) ∷ []) ≡ []) }
+        ensures session { IfSome result (λ s. sessions_among (spec.stay_now host (entries_in entries.entry) self.now.clock (unwrap_or until self.now.last) (spec.stay_at self.now.stays.items i) ∷ []) ≡ s ∷ []) }
+        ensures none { IfNone result (sessions_among (spec.stay_now host (entries_in entries.entry) self.now.clock (unwrap_or until self.now.last) (spec.stay_at self.now.stays.items i) ∷ []) ≡ []) }
     {
         let stay = self.stays[i];
         let at = stay.entry as usize;
         if !is_login(entries.event(at)) {
             return None;
         }
-        let ending = self.ending(entries, stay, time);
+        let ending = self.ending(entries, stay, self.time_now(until));
         Some(Session {
             user: entries.user(at),
             begin: ending.begin,
@@ -124,9 +124,20 @@ impl Track {
         })
     }
 
+    /// The place of the stay that a line leads to, by the line's place.
+    pub(crate) fn on_line(&self, host: u32, entries: Entries<'_>, k: usize) -> usize
+        requires k_in { k < length self.now.lines.entries }
+        requires track { spec.IsTrack host (entries_in entries) (length (entries_in entries)) self.now }
+        ensures value { result ≡ (spec.line_at self.now.lines.entries k).1 }
+        ensures within { result < vec_len self.now.stays }
+    {
+        self.lines.number_at(k) as usize
+    }
+
     /// The length at a time of the stay at a place, where it is a pending session of those.
     pub(crate) fn pending_length(
         &self,
+        host: u32,
         entries: Entries<'_>,
         i: usize,
         time: i32,
@@ -134,42 +145,18 @@ impl Track {
     ) -> u64
         requires i_in { i < vec_len self.now.stays }
         requires few { length (entries_in entries) ≤ ENTRY_LIMIT }
-        requires placed { spec.ArePlaced (length (entries_in entries)) self.now.stays.items }
-        requires now { spec.IsWithin ENTRY_LIMIT self.now.clock }
+        requires track { spec.IsTrack host (entries_in entries) (length (entries_in entries)) self.now }
         ensures { result ≡ spec.pending_length who.now (entries_in entries.entry) self.now.clock time (spec.stay_at self.now.stays.items i) }
     {
         let stay = self.stays[i];
-        let at = stay.entry as usize;
-        if stay.ended.is_some() || !is_counted(entries, at, who) {
+        if stay.ended.is_some() || !is_counted(entries, stay.entry as usize, who) {
             return 0;
         }
-        let start = entries.time(at);
-        u64::from(still(start, self.clock - stay.clock_at, time).length)
+        u64::from(self.ending(entries, stay, time).length)
     }
 
-    /// The lengths of the host's pending sessions, each the latest login on its line.
-    fn pending_seconds(
-        &self,
-        host: u32,
-        entries: Entries<'_>,
-        who: &Option<Key>,
-        until: Option<i32>,
-    ) -> u64
-        requires few { length (entries_in entries) ≤ ENTRY_LIMIT }
-        requires track { spec.IsTrack host (entries_in entries) (length (entries_in entries)) self.now }
-        ensures value { result ≡ spec.pending_sum who.now (entries_in entries.entry) self.now.clock (unwrap_or until self.now.last) self.now.stays.items }
-        ensures fits { spec.ended_sum who.now (entries_in entries.entry) self.now.stays.items + result ≤ vec_len self.now.stays * 4294967295 }
-    {
-        let time = self.time_now(until);
-        let mut seconds = 0;
-        for k in 0..self.lines.len() {
-            let i = self.lines.number_at(k) as usize;
-            seconds += self.pending_length(entries, i, time, who);
-        }
-        seconds
-    }
-
-    /// The lengths of the host's sessions, of all users or of one.
+    /// The lengths of the host's sessions, of all users or of one. Each that is pending is the latest
+    /// login on its line.
     pub(crate) fn seconds(
         &self,
         host: u32,
@@ -182,6 +169,12 @@ impl Track {
         ensures value { result ≡ seconds_of who.now (stays_of host (entries_in entries.entry) until) }
         ensures fits { result ≤ 4294967295 * length (of_host host (entries_in entries.entry)) }
     {
-        self.sums.of(who) + self.pending_seconds(host, entries, who, until)
+        let time = self.time_now(until);
+        let mut seconds = self.sums.of(who);
+        for k in 0..self.lines.len() {
+            let i = self.on_line(host, entries, k);
+            seconds += self.pending_length(host, entries, i, time, who);
+        }
+        seconds
     }
 }

@@ -3,8 +3,8 @@ use Rattle.std.proofs.lemmas.Int.{ints}
 use Rattle.std.specs.Int.{w32, cast_signed, cast_unsigned, int_div_euclid}
 use Rattle.tally_sessions.specs.Days as days
 use Rattle.tally_sessions.specs.Days.{day_of}
-use Rattle.tally_sessions.proofs.DaysLemmas.{floor}
-use Rattle.tally_sessions.proofs.Lengths.{held}
+use Rattle.tally_sessions.proofs.days.DaysLemmas.{floor}
+use Rattle.tally_sessions.proofs.track.Lengths.{held}
 use Rattle.tally_sessions.proofs.days.day_of.Goals as goal
 
 divided : (c : goal.After-div_euclid) → c.div_euclid.result ≡ int_div_euclid (c.args.time +ℤ (pos 60 *ℤ c.args.offset)) (pos 86400)

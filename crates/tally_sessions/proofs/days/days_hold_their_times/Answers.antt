@@ -1,4 +1,4 @@
-use Rattle.tally_sessions.proofs.DaysLemmas as lemmas
+use Rattle.tally_sessions.proofs.days.DaysLemmas as lemmas
 use Rattle.tally_sessions.proofs.days.days_hold_their_times.Goals as goal
 
 pub returns : goal.returns

@@ -2,7 +2,7 @@ use Rattle.std.proofs.Common.{◌≡◌, ap, ◌∙◌, arith, rules, pos, ◌-�
 use Rattle.std.proofs.lemmas.Int.{ints, to_z-of_z}
 use Rattle.std.specs.Int.{w64, int_max}
 use Rattle.std.specs.Prelude.{FitsSigned, unsigned_abs}
-use Rattle.tally_sessions.proofs.Lengths.{held}
+use Rattle.tally_sessions.proofs.track.Lengths.{held}
 use Rattle.tally_sessions.proofs.days.span.Goals as goal
 
 pub returns : goal.returns

@@ -2,8 +2,8 @@ use Rattle.std.proofs.Common.{◌≡◌, ◌∙◌, ◌+◌, ◌<◌, ◌^◌, �
 use Rattle.std.proofs.lemmas.Int.{ints, to_z-of_z}
 use Rattle.tally_sessions.specs.inside.Changes.{change_at, change_on, day_at}
 use Rattle.tally_sessions.specs.Days.{day_of}
-use Rattle.tally_sessions.proofs.DayChanges.{IsChanged, change_on-high, change_on-low, changed_end, changed_jump, changed_start, changed_step, changes_of, none_after_place, none_before_place, none_within_places}
-use Rattle.tally_sessions.proofs.DayWalk.{day_with_time}
+use Rattle.tally_sessions.proofs.connect.DayChanges.{IsChanged, change_on-high, change_on-low, changed_end, changed_jump, changed_start, changed_step, changes_of, none_after_place, none_before_place, none_within_places}
+use Rattle.tally_sessions.proofs.connect.DayWalk.{day_with_time}
 use Rattle.tally_sessions.proofs.connect.day_sums.add_changes.Goals as goal
 
 abbrev held : ℤ → ℤ

@@ -1,6 +1,6 @@
 use Rattle.std.proofs.Common.{◌≡◌, ℕ, ◌-◌, length}
 use Rattle.tally_sessions.specs.inside.Changes.{change_on, day_at}
-use Rattle.tally_sessions.proofs.DayChanges.{IsChanged}
+use Rattle.tally_sessions.proofs.connect.DayChanges.{IsChanged}
 use Rattle.tally_sessions.proofs.connect.day_sums.add_changes.Given as goal
 
 abbrev pub invariant-loop-place : goal.invariant-loop-place

@@ -1,7 +1,7 @@
 use Rattle.std.proofs.Common.{◌≡◌, ◌≤◌, ℤ, pos, ◌-ℤ◌, sym, subst, ◌∙◌, rules, arith, w32, w64, to_z, of_z}
 use Rattle.std.proofs.lemmas.Int.{ints, to_z-of_z}
 use Rattle.tally_sessions.specs.Days.{seconds_on}
-use Rattle.tally_sessions.proofs.DaysLemmas.{seconds_on-le}
+use Rattle.tally_sessions.proofs.days.DaysLemmas.{seconds_on-le}
 use Rattle.tally_sessions.proofs.connect.day_sums.change_on.Goals as goal
 
 abbrev held : ℤ → ℤ

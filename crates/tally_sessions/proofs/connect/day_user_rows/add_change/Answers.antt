@@ -1,7 +1,7 @@
 use Rattle.std.proofs.Common.{◌≡◌, ◌≤◌, ◌+◌, ◌^◌, ◌∙◌, ℤ, pos, neg_ℤ, ◌+ℤ◌, ◌≤ℤ◌, FitsSigned, sym, ap, subst, arith, to_z, of_z, w64}
 use Rattle.std.proofs.lemmas.Int.{ints}
 use Rattle.tally_sessions.specs.inside.Changes.{days_ahead, days_from}
-use Rattle.tally_sessions.proofs.UserChanges.{ahead_put, change_put}
+use Rattle.tally_sessions.proofs.connect.UserChanges.{ahead_put, change_put}
 use Rattle.tally_sessions.proofs.connect.day_user_rows.add_change.Goals as goal
 
 abbrev kept : ℤ → ℤ

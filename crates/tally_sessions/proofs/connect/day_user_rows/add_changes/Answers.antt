@@ -7,11 +7,11 @@ use Rattle.tally_sessions.specs.declared.connect.day_user_rows.DayUser.{DayUser}
 use Rattle.tally_sessions.specs.inside.Changes.{change_of, change_on}
 use Rattle.tally_sessions.specs.Days.{day_of}
 use Rattle.tally_sessions.specs.inside.Sums.{day_user_cmp}
-use Rattle.tally_sessions.proofs.DayChanges.{change_on-high, change_on-low, no_change_after, no_change_before, no_change_within}
-use Rattle.tally_sessions.proofs.DayUsers.{one_day_of_user}
-use Rattle.tally_sessions.proofs.DayWalk.{day_with_time, not_over, over}
-use Rattle.tally_sessions.proofs.UserChanges.{no_more, none_if}
-use Rattle.tally_sessions.proofs.Walked.{IsWalked, walk_end, walk_jump, walk_start, walk_step}
+use Rattle.tally_sessions.proofs.connect.DayChanges.{change_on-high, change_on-low, no_change_after, no_change_before, no_change_within}
+use Rattle.tally_sessions.proofs.connect.DayUsers.{one_day_of_user}
+use Rattle.tally_sessions.proofs.connect.DayWalk.{day_with_time, not_over, over}
+use Rattle.tally_sessions.proofs.connect.UserChanges.{no_more, none_if}
+use Rattle.tally_sessions.proofs.connect.Walked.{IsWalked, walk_end, walk_jump, walk_start, walk_step}
 use Rattle.tally_sessions.proofs.connect.day_user_rows.add_changes.Goals as goal
 
 abbrev held : ℤ → ℤ

@@ -2,7 +2,7 @@ use Rattle.std.proofs.Common.{ℕ, ℤ, List, pos, ◌+ℤ◌, ◌-ℤ◌, ◌�
 use Rattle.std.specs.Int.{int_max}
 use Rattle.std.specs.Prelude.{bytes_eq, unsigned_abs}
 use Rattle.tally_sessions.specs.inside.Changes.{change_of, change_on}
-use Rattle.tally_sessions.proofs.Walked.{IsWalked}
+use Rattle.tally_sessions.proofs.connect.Walked.{IsWalked}
 use Rattle.tally_sessions.proofs.connect.day_user_rows.add_changes.Given as goal
 
 abbrev pub decreases-loop-day : goal.decreases-loop-day

@@ -1,4 +1,4 @@
-use Rattle.tally_sessions.proofs.Lending.{within_list}
+use Rattle.tally_sessions.proofs.entries.Lending.{within_list}
 use Rattle.tally_sessions.proofs.entries.Entries.event.Goals as goal
 
 pub event-requires : goal.event-requires

@@ -1,4 +1,4 @@
-use Rattle.tally_sessions.proofs.Lending.{within_list}
+use Rattle.tally_sessions.proofs.entries.Lending.{within_list}
 use Rattle.tally_sessions.proofs.entries.Entries.record.Goals as goal
 
 pub record-requires : goal.record-requires

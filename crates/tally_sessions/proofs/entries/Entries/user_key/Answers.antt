@@ -1,4 +1,4 @@
-use Rattle.tally_sessions.proofs.Lending.{within_list}
+use Rattle.tally_sessions.proofs.entries.Lending.{within_list}
 use Rattle.tally_sessions.proofs.entries.Entries.user_key.Goals as goal
 
 pub user_key-requires : goal.user_key-requires

@@ -5,7 +5,7 @@ use Rattle.tally_sessions.specs.declared.entry.Entry.{Entry}
 use Rattle.tally_sessions.specs.declared.times.DayTime.{DayTime}
 use Rattle.tally_sessions.specs.Days.{IsDay}
 use Rattle.tally_sessions.specs.Sums.{seconds_of_day, sessions_of}
-use Rattle.tally_sessions.proofs.DayRows.{day_rows_are, day_rows_days}
+use Rattle.tally_sessions.proofs.connect.DayRows.{day_rows_are, day_rows_days}
 use Rattle.tally_sessions.proofs.sessions.Sessions.connect_by_day.Goals as goal
 
 pub returns-clause-value : goal.returns-clause-value

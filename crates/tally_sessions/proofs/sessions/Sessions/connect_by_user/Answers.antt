@@ -1,7 +1,7 @@
 use Rattle.std.proofs.Common.{◌∙◌, List}
 use Rattle.std.proofs.lemmas.Result.{IfOk-weaker}
 use Rattle.tally_sessions.specs.declared.entry.Entry.{Entry}
-use Rattle.tally_sessions.proofs.UserRows.{user_rows_are}
+use Rattle.tally_sessions.proofs.connect.UserRows.{user_rows_are}
 use Rattle.tally_sessions.proofs.sessions.Sessions.connect_by_user.Goals as goal
 
 pub returns : goal.returns

@@ -1,90 +1,64 @@
-use Rattle.std.proofs.Common.{◌≡◌, ◌∙◌, ◌+◌, ◌<◌, ◌≤◌, ◌^◌, ◌++◌, ℕ, ℤ, List, pos, neg_ℤ, ◌+ℤ◌, ◌≤ℤ◌, length, drop, sym, ap, subst, arith, rules, to_z, of_z, w32, length-append}
-use Rattle.std.proofs.lemmas.Int.{to_z-of_z}
+use Rattle.std.proofs.Common.{◌∙◌, ◌^◌, ℕ, ℤ, [], pos, neg_ℤ, ◌≤ℤ◌, length, drop, sym, ap, subst, arith, rules, to_z, of_z, w32}
+use Rattle.std.proofs.lemmas.Int.{ints, to_z-of_z}
 use Rattle.std.proofs.lemmas.List.{get_or-replicate}
-use Rattle.std.specs.List.{flat_map, range_with_len}
-use Rattle.tally_sessions.specs.declared.entry.Entry.{Entry}
-use Rattle.tally_sessions.specs.declared.connect.sums.Session.{Session}
-use Rattle.tally_sessions.specs.inside.Changes.{change_at, change_of_day, day_at}
-use Rattle.tally_sessions.specs.Lent.{entries_in}
-use Rattle.tally_sessions.specs.State.{State}
-use Rattle.tally_sessions.specs.Sums.{seconds_of_day, sessions_among}
-use Rattle.tally_sessions.specs.Totals.{stays_of}
-use Rattle.tally_sessions.proofs.DayChanges.{ChangesTo, table_high, table_low, whole_slice}
-use Rattle.tally_sessions.proofs.DayHosts.{HaveDays, change_joined, days_joined}
-use Rattle.tally_sessions.proofs.HostCounts.{count_below-le, count_below-more}
-use Rattle.tally_sessions.proofs.SessionLists.{hosts_all, hosts_more, length-sessions}
-use Rattle.tally_sessions.proofs.Staging.{track_of}
+use Rattle.tally_sessions.specs.inside.Changes.{change_at}
+use Rattle.tally_sessions.specs.inside.Walk.{sessions_ahead}
+use Rattle.tally_sessions.specs.Sums.{sessions_of}
+use Rattle.tally_sessions.proofs.connect.DayChanges.{whole_slice}
+use Rattle.tally_sessions.proofs.connect.DayTable.{day_table-more, day_table-start, day_table-within, HasAllBut}
+use Rattle.tally_sessions.proofs.sums.SessionLists.{few_sessions}
 use Rattle.tally_sessions.proofs.sessions.Sessions.day_changes.Goals as goal
 
 abbrev held : ℤ → ℤ
 held z = to_z w32 (of_z w32 z)
 
-pub loop-host-init : goal.loop-host-init
-loop-host-init c =
-    let zeros = c.in_ok-table.ensures.items_if_clones_equal (λ y h. h) in record {
-      all_days = search rules;
-      few = omega arith;
-      value = λ place lt. ap (λ table. change_at table place) zeros ∙ get_or-replicate 49715 place (pos 0) (pos 0) lt;
-      days = λ day lt. absurd (omega (arith, lt));
-    }
+pub loop-session-init : goal.loop-session-init
+loop-session-init c =
+    let es = c.args.self.now.entries in
+    let all = sessions_of es c.args.until in
+    let table = c.in_ok-table.table.items in
+    let zeros = c.in_ok-table.ensures.items_if_clones_equal (λ y h. h) in
+    let few = few_sessions c.args.until c.entries-entries.ensures.value c.entries-entries.ensures.few in
+    subst (λ ss. HasAllBut (held c.args.offset) all ss table) (sym (c.first-at.ensures es c.args.until))
+    (day_table-start (held c.args.offset) all table (search rules) few (λ place lt. ap (λ xs. change_at xs place) zeros ∙ get_or-replicate 49715 place (pos 0) (pos 0) lt))
 
-pub add_day_changes-requires-clause-track : goal.add_day_changes-requires-clause-track
-add_day_changes-requires-clause-track c =
-    track_of c.self.inside c.loop-host.host c.index.result.now (entries_in c.entries-entries.result) c.self.invariant (omega arith) c.index.ensures
-    (c.entries-entries.ensures.value ∙ sym (ap (λ (s : State). s.entries) c.self.view_is))
+pub add_changes-requires-clause-low : goal.add_changes-requires-clause-low
+add_changes-requires-clause-low c =
+    let few = few_sessions c.args.until c.entries-entries.ensures.value c.entries-entries.ensures.few in
+    subst (λ table. (k : ℕ) → neg_ℤ (pos (2 ^ 62)) ≤ℤ change_at table k) (sym c.deref_mut.ensures.value)
+    (λ k. (day_table-within _ _ _ c.loop-session.table.items few c.loop-session.invariant k).0)
 
-pub add_day_changes-requires-clause-low : goal.add_day_changes-requires-clause-low
-add_day_changes-requires-clause-low c =
-    let es : List Entry = entries_in c.entries-entries.result in
-    let so_far : List Session = flat_map (λ host. sessions_among (stays_of host es c.args.until)) (range_with_len 0 c.loop-host.host) in
-    let few : length so_far ≤ 1048576 = omega (arith, c.loop-host.invariant.few, count_below-le c.loop-host.host es, c.entries-entries.ensures.few) in
-    subst (λ table. (k : ℕ) → neg_ℤ (pos (2 ^ 61)) ≤ℤ change_at table k) (sym c.deref_mut.ensures.value)
-    (table_low (held c.args.offset) so_far c.loop-host.table.items few c.loop-host.invariant.all_days c.loop-host.invariant.value)
+pub add_changes-requires-clause-high : goal.add_changes-requires-clause-high
+add_changes-requires-clause-high c =
+    let few = few_sessions c.args.until c.entries-entries.ensures.value c.entries-entries.ensures.few in
+    subst (λ table. (k : ℕ) → change_at table k ≤ℤ pos (2 ^ 62)) (sym c.deref_mut.ensures.value)
+    (λ k. (day_table-within _ _ _ c.loop-session.table.items few c.loop-session.invariant k).1)
 
-pub add_day_changes-requires-clause-high : goal.add_day_changes-requires-clause-high
-add_day_changes-requires-clause-high c =
-    let es : List Entry = entries_in c.entries-entries.result in
-    let so_far : List Session = flat_map (λ host. sessions_among (stays_of host es c.args.until)) (range_with_len 0 c.loop-host.host) in
-    let few : length so_far ≤ 1048576 = omega (arith, c.loop-host.invariant.few, count_below-le c.loop-host.host es, c.entries-entries.ensures.few) in
-    subst (λ table. (k : ℕ) → change_at table k ≤ℤ pos (2 ^ 61)) (sym c.deref_mut.ensures.value)
-    (table_high (held c.args.offset) so_far c.loop-host.table.items few c.loop-host.invariant.all_days c.loop-host.invariant.value)
-
-pub loop-host-preserved : goal.loop-host-preserved
-loop-host-preserved c =
-    let es : List Entry = entries_in c.entries-entries.result in
-    let host = c.loop-host.host in
-    let offset = held c.args.offset in
-    let of : ℕ → List Session = λ host. sessions_among (stays_of host es c.args.until) in
-    let so_far : List Session = flat_map of (range_with_len 0 host) in
-    let more : so_far ++ of host ≡ flat_map of (range_with_len 0 (host + 1)) = sym (hosts_more of host) in
-    let new = c.add_day_changes.new.table in
-    let long : length new ≡ c.loop-host.table.len = c.add_day_changes.auto.table ∙ c.deref_mut.ensures.len in
-    let whole = whole_slice c.loop-host.table.len new (drop (length new) c.loop-host.table.items) long in
-    let old_days : length c.deref_mut.result.now ≡ 49715 = ap length c.deref_mut.ensures.value ∙ c.loop-host.invariant.all_days in
-    let added : ChangesTo offset (so_far ++ of host) new =
-    λ place lt. c.add_day_changes.ensures.value place lt ∙ ap (λ table. change_at table place +ℤ change_of_day offset (day_at place) (of host)) c.deref_mut.ensures.value
-    ∙ ap (λ z. z +ℤ change_of_day offset (day_at place) (of host)) (c.loop-host.invariant.value place lt) ∙ change_joined offset (day_at place) so_far (of host) in record {
-      all_days = ap length whole ∙ c.add_day_changes.auto.table ∙ old_days;
-      few = omega (arith, ap length more, length-append so_far (of host), length-sessions host es c.args.until, count_below-more host es, c.loop-host.invariant.few);
-      value = λ place lt. ap (λ table. change_at table place) whole ∙ subst (λ ss. ChangesTo offset ss new) more added place lt;
-      days = subst (HaveDays offset) more (days_joined offset so_far (of host) c.loop-host.invariant.days c.add_day_changes.ensures.days);
-    }
+pub loop-session-preserved : goal.loop-session-preserved
+loop-session-preserved c =
+    let es = c.args.self.now.entries in
+    let table = c.loop-session.table.items in
+    let new = c.add_changes.new.table in
+    let before = subst (λ ss. HasAllBut (held c.args.offset) (sessions_of es c.args.until) ss table) c.in-Some.ensures.next c.loop-session.invariant in
+    subst (HasAllBut (held c.args.offset) (sessions_of es c.args.until) (sessions_ahead c.next_session.new.at es c.args.until))
+    (sym (whole_slice c.loop-session.table.len new (drop (length new) table) (c.add_changes.auto.table ∙ c.deref_mut.ensures.len)))
+    (day_table-more _ _ _ c.in-Some.session table _ new before c.deref_mut.ensures.value c.add_changes.auto.table c.add_changes.ensures.value c.add_changes.ensures.days)
 
 pub returns-clause-few : goal.returns-clause-few
-returns-clause-few c =
-    let es : List Entry = entries_in c.entries-entries.result in
-    let all = hosts_all c.loop-host.host es c.args.self.now.entries c.args.until (omega arith) c.entries-entries.ensures.value in
-    omega (arith, ap length all, c.loop-host.invariant.few, count_below-le c.loop-host.host es, c.entries-entries.ensures.few)
+returns-clause-few c = few_sessions c.args.until c.entries-entries.ensures.value c.entries-entries.ensures.few
 
 pub returns-clause-value : goal.returns-clause-value
 returns-clause-value c place lt =
-    let es : List Entry = entries_in c.entries-entries.result in
-    let all = hosts_all c.loop-host.host es c.args.self.now.entries c.args.until (omega arith) c.entries-entries.ensures.value in
-    c.loop-host.invariant.value place lt ∙ (λ j. change_of_day (to_z-of_z w32 c.args.offset (search rules) j) (day_at place) (all j))
+    let all = sessions_of c.args.self.now.entries c.args.until in
+    let table = c.loop-session.table.items in
+    let end = subst (λ ss. HasAllBut (held c.args.offset) all ss table) c.in_default.ensures.end c.loop-session.invariant in
+    let done = subst (λ z. HasAllBut z all [] table) (to_z-of_z w32 c.args.offset (search rules)) end in
+    omega (arith, ints, done.value place lt)
 
 pub returns-clause-days : goal.returns-clause-days
-returns-clause-days c day lt =
-    let es : List Entry = entries_in c.entries-entries.result in
-    let all = hosts_all c.loop-host.host es c.args.self.now.entries c.args.until (omega arith) c.entries-entries.ensures.value in
-    let offset : held c.args.offset ≡ c.args.offset = to_z-of_z w32 c.args.offset (search rules) in
-    c.loop-host.invariant.days day (subst (λ n. 0 < n) (λ j. seconds_of_day (sym offset j) day (sym all j)) lt)
+returns-clause-days c =
+    let all = sessions_of c.args.self.now.entries c.args.until in
+    let table = c.loop-session.table.items in
+    let end = subst (λ ss. HasAllBut (held c.args.offset) all ss table) c.in_default.ensures.end c.loop-session.invariant in
+    let done = subst (λ z. HasAllBut z all [] table) (to_z-of_z w32 c.args.offset (search rules)) end in
+    done.days

@@ -1,17 +1,11 @@
-use Rattle.std.proofs.Common.{◌≡◌, ◌≤◌, length}
-use Rattle.std.specs.List.{flat_map, range_with_len}
-use Rattle.tally_sessions.specs.Lent.{entries_in}
-use Rattle.tally_sessions.specs.Sums.{sessions_among}
-use Rattle.tally_sessions.specs.Totals.{stays_of}
-use Rattle.tally_sessions.proofs.DayChanges.{ChangesTo}
-use Rattle.tally_sessions.proofs.DayHosts.{HaveDays}
-use Rattle.tally_sessions.proofs.HostCounts.{count_below}
+use Rattle.std.proofs.Common.{length}
+use Rattle.tally_sessions.specs.inside.Walk.{sessions_ahead}
+use Rattle.tally_sessions.specs.Sums.{sessions_of}
+use Rattle.tally_sessions.proofs.connect.DayTable.{HasAllBut}
 use Rattle.tally_sessions.proofs.sessions.Sessions.day_changes.Given as goal
 
-abbrev pub invariant-loop-host : goal.invariant-loop-host
-invariant-loop-host l = record {
-  all_days : length l.table.items ≡ 49715;
-  few : length (flat_map (λ host. sessions_among (stays_of host (entries_in l.entries) l.until)) (range_with_len 0 l.host)) ≤ count_below l.host (entries_in l.entries);
-  value : ChangesTo l.offset (flat_map (λ host. sessions_among (stays_of host (entries_in l.entries) l.until)) (range_with_len 0 l.host)) l.table.items;
-  days : HaveDays l.offset (flat_map (λ host. sessions_among (stays_of host (entries_in l.entries) l.until)) (range_with_len 0 l.host));
-}
+abbrev pub invariant-loop-session : goal.invariant-loop-session
+invariant-loop-session l = HasAllBut l.offset (sessions_of l.self.entries l.until) (sessions_ahead l.at l.self.entries l.until) l.table.items
+
+abbrev pub decreases-loop-session : goal.decreases-loop-session
+decreases-loop-session l = length (sessions_ahead l.at l.self.entries l.until)

@@ -2,14 +2,14 @@ use Rattle.std.proofs.Common.{◌≡◌, ◌∙◌, ◌+◌, ◌≤◌, ◌<◌,
 use Rattle.std.proofs.lemmas.Int.{ints, to_z-of_z}
 use Rattle.std.specs.Ordering.{int_cmp, is_eq}
 use Rattle.std.specs.Prelude.{int_lt, unsigned_abs}
-use Rattle.tally_sessions.specs.declared.connect.sums.Session.{Session}
+use Rattle.tally_sessions.specs.declared.sums.Session.{Session}
 use Rattle.tally_sessions.specs.inside.Changes.{change_at, change_of_day, day_at}
 use Rattle.tally_sessions.specs.Days.{IsDay}
 use Rattle.tally_sessions.specs.Sums.{seconds_of_day, sessions_of}
 use Rattle.tally_sessions.specs.inside.Sums.{sum_at}
-use Rattle.tally_sessions.proofs.DayChanges.{none_earlier, none_later, seconds_of_day-le}
-use Rattle.tally_sessions.proofs.DaysLemmas.{above}
-use Rattle.tally_sessions.proofs.Walked.{IsWalked, walk_end, walk_start, walk_step}
+use Rattle.tally_sessions.proofs.connect.DayChanges.{none_earlier, none_later, seconds_of_day-le}
+use Rattle.tally_sessions.proofs.days.DaysLemmas.{above}
+use Rattle.tally_sessions.proofs.connect.Walked.{IsWalked, walk_end, walk_start, walk_step}
 use Rattle.tally_sessions.proofs.sessions.Sessions.day_sums.Goals as goal
 use Rattle.tally_sessions.proofs.sessions.Sessions.day_sums.Goals.{then-seconds-gt0+in_ok-add, else-seconds-gt0}
 

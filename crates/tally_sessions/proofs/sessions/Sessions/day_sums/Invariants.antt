@@ -3,7 +3,7 @@ use Rattle.std.specs.Ordering.{int_cmp}
 use Rattle.tally_sessions.specs.inside.Changes.{day_at}
 use Rattle.tally_sessions.specs.Sums.{seconds_of_day, sessions_of}
 use Rattle.tally_sessions.specs.inside.Sums.{sum_at}
-use Rattle.tally_sessions.proofs.Walked.{IsWalked}
+use Rattle.tally_sessions.proofs.connect.Walked.{IsWalked}
 use Rattle.tally_sessions.proofs.sessions.Sessions.day_sums.Given as goal
 
 abbrev pub invariant-loop-place : goal.invariant-loop-place

@@ -2,17 +2,17 @@ use Rattle.std.proofs.Common.{◌≡◌, ◌∙◌, ◌≤◌, ◌<◌, ◌^◌,
 use Rattle.std.proofs.lemmas.Int.{ints, to_z-of_z}
 use Rattle.std.specs.Prelude.{int_lt, unsigned_abs}
 use Rattle.tally_sessions.specs.declared.connect.day_user_rows.DayUser.{DayUser}
-use Rattle.tally_sessions.specs.declared.connect.sums.Session.{Session}
+use Rattle.tally_sessions.specs.declared.sums.Session.{Session}
 use Rattle.tally_sessions.specs.declared.times.DayUserTime.{DayUserTime}
 use Rattle.tally_sessions.specs.inside.Changes.{change_of, session_rows}
 use Rattle.tally_sessions.specs.Days.{IsDay}
 use Rattle.tally_sessions.specs.Sums.{seconds_of_day_user, sessions_of}
-use Rattle.tally_sessions.proofs.DaySpread.{spread_end}
-use Rattle.tally_sessions.proofs.DaysLemmas.{above}
-use Rattle.tally_sessions.proofs.DayUsers.{day_user_rows_are, day_user_rows_days}
-use Rattle.tally_sessions.proofs.RowOrder.{given_by, rows_of_sums, sums_of}
-use Rattle.tally_sessions.proofs.RowSteps.{ahead_less, change_is_all, IsPopped, IsWalk, popped_high, popped_low, walk_on, walk_past, walk_start}
-use Rattle.tally_sessions.proofs.UserChanges.{seconds_of_day_user-le}
+use Rattle.tally_sessions.proofs.connect.DaySpread.{spread_end}
+use Rattle.tally_sessions.proofs.days.DaysLemmas.{above}
+use Rattle.tally_sessions.proofs.connect.DayUsers.{day_user_rows_are, day_user_rows_days}
+use Rattle.tally_sessions.proofs.connect.RowOrder.{given_by, rows_of_sums, sums_of}
+use Rattle.tally_sessions.proofs.connect.RowSteps.{ahead_less, change_is_all, IsPopped, IsWalk, popped_high, popped_low, walk_on, walk_past, walk_start}
+use Rattle.tally_sessions.proofs.connect.UserChanges.{seconds_of_day_user-le}
 use Rattle.tally_sessions.proofs.sessions.Sessions.day_user_rows.Goals as goal
 
 abbrev held : ℤ → ℤ

@@ -1,7 +1,7 @@
 use Rattle.tally_sessions.specs.declared.connect.day_user_rows.DayUser.{DayUser}
 use Rattle.tally_sessions.specs.inside.Changes.{days_ahead}
 use Rattle.tally_sessions.specs.Sums.{seconds_of_day_user, sessions_of}
-use Rattle.tally_sessions.proofs.RowSteps.{IsWalk}
+use Rattle.tally_sessions.proofs.connect.RowSteps.{IsWalk}
 use Rattle.tally_sessions.proofs.sessions.Sessions.day_user_rows.Given as goal
 
 abbrev pub decreases-loop-at : goal.decreases-loop-at

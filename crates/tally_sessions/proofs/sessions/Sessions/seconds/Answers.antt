@@ -2,20 +2,18 @@ use Rattle.std.proofs.Common.{◌+◌, ◌∙◌, ℕ, sym, ap, arith, List, map
 use Rattle.std.proofs.lemmas.List.FromFn.{sum_by-map-range_with_len_more}
 use Rattle.std.specs.List.{range_with_len}
 use Rattle.tally_sessions.specs.Lent.{entries_in}
-use Rattle.tally_sessions.specs.State.{State}
 use Rattle.tally_sessions.specs.inside.Totals.{seconds_of, seconds_of_hosts}
 use Rattle.tally_sessions.specs.Totals.{stays_of}
 use Rattle.tally_sessions.specs.declared.entry.Entry.{Entry}
-use Rattle.tally_sessions.proofs.HostCounts.{count_below-more, count_below-le}
-use Rattle.tally_sessions.proofs.StayCounts.{length-of_host}
-use Rattle.tally_sessions.proofs.EveryHost.{every_host_is}
-use Rattle.tally_sessions.proofs.Staging.{track_of}
+use Rattle.tally_sessions.proofs.sessions.HostCounts.{count_below-more, count_below-le}
+use Rattle.tally_sessions.proofs.track.StayCounts.{length-of_host}
+use Rattle.tally_sessions.proofs.sessions.EveryHost.{every_host_is}
+use Rattle.tally_sessions.proofs.sessions.Staging.{track_of}
 use Rattle.tally_sessions.proofs.sessions.Sessions.seconds.Goals as goal
 
 pub seconds-total-requires-clause-track : goal.seconds-total-requires-clause-track
 seconds-total-requires-clause-track c =
-    track_of c.self.inside c.loop-host.host c.index.result.now (entries_in c.entries-entries.result) c.self.invariant (omega arith) c.index.ensures
-    (c.entries-entries.ensures.value ∙ sym (ap (λ (s : State). s.entries) c.self.view_is))
+    track_of c.self.inside c.args.self.now (entries_in c.entries-entries.result) c.loop-host.host c.index.result.now c.self.invariant c.self.view_is c.entries-entries.ensures.value (omega arith) c.index.ensures
 
 pub loop-host-preserved : goal.loop-host-preserved
 loop-host-preserved c =

@@ -4,21 +4,21 @@ use Rattle.tally_sessions.specs.declared.entry.Stay.{Stay}
 use Rattle.tally_sessions.specs.Lent.{entries_in}
 use Rattle.tally_sessions.specs.State.{State}
 use Rattle.tally_sessions.specs.Totals.{latest_stays, limited, stays_of}
-use Rattle.tally_sessions.proofs.StayCounts.{stays_of-all}
-use Rattle.tally_sessions.proofs.Staging.{track_of}
+use Rattle.tally_sessions.proofs.track.StayCounts.{stays_of-all}
+use Rattle.tally_sessions.proofs.sessions.Staging.{track_of}
 use Rattle.tally_sessions.proofs.sessions.Sessions.stays.Goals as goal
 
 pub latest-requires-clause-track : goal.latest-requires-clause-track
 latest-requires-clause-track c =
     let hosts = ap (λ (s : State). s.hosts) c.self.view_is in
-    track_of c.self.inside c.args.host c.index-track.result.now (entries_in c.entries-entries.result) c.self.invariant (omega (arith, hosts, c.requires, c.self.invariant.few_hosts)) c.index-track.ensures
-    (c.entries-entries.ensures.value ∙ sym (ap (λ (s : State). s.entries) c.self.view_is))
+    track_of c.self.inside c.args.self.now (entries_in c.entries-entries.result) c.args.host c.index-track.result.now c.self.invariant c.self.view_is c.entries-entries.ensures.value
+    (omega (arith, hosts, c.requires, c.self.invariant.few_hosts)) c.index-track.ensures
 
 pub latest-requires-in-None-clause-track : goal.latest-requires-in-None-clause-track
 latest-requires-in-None-clause-track c =
     let hosts = ap (λ (s : State). s.hosts) c.self.view_is in
-    track_of c.self.inside c.args.host c.index-track.result.now (entries_in c.entries-entries.result) c.self.invariant (omega (arith, hosts, c.requires, c.self.invariant.few_hosts)) c.index-track.ensures
-    (c.entries-entries.ensures.value ∙ sym (ap (λ (s : State). s.entries) c.self.view_is))
+    track_of c.self.inside c.args.self.now (entries_in c.entries-entries.result) c.args.host c.index-track.result.now c.self.invariant c.self.view_is c.entries-entries.ensures.value
+    (omega (arith, hosts, c.requires, c.self.invariant.few_hosts)) c.index-track.ensures
 
 pub returns-in-None-clause-value : goal.returns-in-None-clause-value
 returns-in-None-clause-value c =

@@ -4,13 +4,12 @@ use Rattle.std.specs.Cmp.Lexicographic.{slice_cmp}
 use Rattle.std.specs.Ordering.{nat_cmp}
 use Rattle.tally_sessions.specs.declared.entry.Entry.{Entry}
 use Rattle.tally_sessions.specs.Lent.{entries_in}
-use Rattle.tally_sessions.specs.State.{State}
 use Rattle.tally_sessions.specs.inside.Sums.{sum_at}
 use Rattle.tally_sessions.specs.Totals.{connect_of, stays_of}
 use Rattle.tally_sessions.specs.inside.Totals.{seconds_of}
-use Rattle.tally_sessions.proofs.EveryHost.{every_host_is}
-use Rattle.tally_sessions.proofs.HostCounts.{count_below-le, count_below-more}
-use Rattle.tally_sessions.proofs.Staging.{track_of}
+use Rattle.tally_sessions.proofs.sessions.EveryHost.{every_host_is}
+use Rattle.tally_sessions.proofs.sessions.HostCounts.{count_below-le, count_below-more}
+use Rattle.tally_sessions.proofs.sessions.Staging.{track_of}
 use Rattle.tally_sessions.proofs.sessions.Sessions.user_sums.Goals as goal
 
 pub loop-host-init : goal.loop-host-init
@@ -21,8 +20,7 @@ loop-host-init c = record {
 
 pub add_seconds-requires-clause-track : goal.add_seconds-requires-clause-track
 add_seconds-requires-clause-track c =
-    track_of c.self.inside c.loop-host.host c.index.result.now (entries_in c.entries-entries.result) c.self.invariant (omega arith) c.index.ensures
-    (c.entries-entries.ensures.value ∙ sym (ap (λ (s : State). s.entries) c.self.view_is))
+    track_of c.self.inside c.args.self.now (entries_in c.entries-entries.result) c.loop-host.host c.index.result.now c.self.invariant c.self.view_is c.entries-entries.ensures.value (omega arith) c.index.ensures
 
 pub add_seconds-requires-clause-room : goal.add_seconds-requires-clause-room
 add_seconds-requires-clause-room c user =

@@ -6,7 +6,7 @@ use Rattle.tally_sessions.specs.Lent.{entries_in}
 use Rattle.tally_sessions.specs.inside.Sums.{sum_at}
 use Rattle.tally_sessions.specs.inside.Totals.{seconds_of}
 use Rattle.tally_sessions.specs.Totals.{stays_of}
-use Rattle.tally_sessions.proofs.HostCounts.{count_below}
+use Rattle.tally_sessions.proofs.sessions.HostCounts.{count_below}
 use Rattle.tally_sessions.proofs.sessions.Sessions.user_sums.Given as goal
 
 abbrev pub invariant-loop-host : goal.invariant-loop-host

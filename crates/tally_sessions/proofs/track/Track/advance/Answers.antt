@@ -2,7 +2,7 @@ use Rattle.std.proofs.Common.{rules, to_z, of_z, Some, unwrap_or, ◌≡◌, inl
 use Rattle.std.proofs.lemmas.Int.{ints, to_z-of_z}
 use Rattle.std.specs.Int.{w32}
 use Rattle.std.specs.Prelude.{FitsSigned}
-use Rattle.tally_sessions.proofs.Lengths.{held}
+use Rattle.tally_sessions.proofs.track.Lengths.{held}
 use Rattle.tally_records.specs.declared.login.Event.{Event}
 use Rattle.tally_records.specs.declared.login.Event.TheVariants.{Login}
 use Rattle.tally_records.specs.Event.{event_of}
@@ -10,8 +10,8 @@ use Rattle.tally_sessions.specs.Clock.{shift_at}
 use Rattle.tally_sessions.specs.inside.Tracking.{pending_at}
 use Rattle.tally_sessions.specs.inside.Entries.{entry_at}
 use Rattle.tally_sessions.specs.inside.Track.{after, ends_every_stay, HasSums, IsEntered, IsWithin}
-use Rattle.tally_sessions.proofs.TrackAdvance.{IsTrack-step, HasRoom-step}
-use Rattle.tally_sessions.proofs.TrackedAdvance.{IsWithin-all}
+use Rattle.tally_sessions.proofs.track.TrackAdvance.{IsTrack-step, HasRoom-step}
+use Rattle.tally_sessions.proofs.track.TrackedAdvance.{IsWithin-all}
 use Rattle.tally_sessions.proofs.track.Track.advance.Goals as goal
 use Rattle.tally_sessions.proofs.track.Track.advance.Goals.{then-ends_every, else-ends_every}
 

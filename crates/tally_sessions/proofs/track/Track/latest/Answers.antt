@@ -8,16 +8,9 @@ use Rattle.tally_sessions.specs.declared.entry.Stay.{Stay}
 use Rattle.tally_sessions.specs.Lent.{entries_in}
 use Rattle.tally_sessions.specs.Totals.{stays_of}
 use Rattle.tally_sessions.specs.inside.Track.{no_stay, stay_at, stay_now}
-use Rattle.tally_sessions.proofs.TrackedAdvance.{IsWithin-all}
-use Rattle.tally_sessions.proofs.StaysNow.{stays_now, latest_more, latest_all, latest_limit}
+use Rattle.tally_sessions.proofs.track.StaysNow.{stays_now, latest_more, latest_all, latest_limit}
 use Rattle.tally_sessions.proofs.track.Track.latest.Goals as goal
 use Rattle.tally_sessions.proofs.track.Track.latest.Goals.{then-loop-i-test+else-len-limit, else-loop-i-test}
-
-pub stay-requires-clause-placed : goal.stay-requires-clause-placed
-stay-requires-clause-placed c = record {
-  at = λ k lt. (c.requires.track.tracked.at k lt).placed;
-  before = λ k lt. IsWithin-all (length (entries_in c.args.entries)) 1048576 _ c.requires.few (c.requires.track.tracked.at k lt).moved;
-}
 
 pub loop-i-preserved : goal.loop-i-preserved
 loop-i-preserved c =

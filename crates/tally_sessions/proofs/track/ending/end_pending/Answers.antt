@@ -7,8 +7,8 @@ use Rattle.tally_records.specs.declared.login.Event.TheVariants.{Login, Logout, 
 use Rattle.tally_sessions.specs.inside.Entries.{entry_at}
 use Rattle.tally_sessions.specs.inside.Track as spec
 use Rattle.tally_sessions.specs.inside.Track.{ends_every_stay, ends_line_stay}
-use Rattle.tally_sessions.proofs.Places.{map-at, map-same}
-use Rattle.tally_sessions.proofs.TrackSteps.{after-nothing, ends_on_line, line_event, not_by_test, some_inj, some≢none, after-line_event}
+use Rattle.tally_sessions.proofs.track.Places.{map-at, map-same}
+use Rattle.tally_sessions.proofs.track.TrackSteps.{after-nothing, ends_on_line, line_event, not_by_test, some_inj, some≢none, after-line_event}
 use Rattle.tally_sessions.proofs.track.ending.end_pending.Goals as goal
 
 pub end_stay-requires-clause-i_in : goal.end_stay-requires-clause-i_in

@@ -4,9 +4,9 @@ use Rattle.std.specs.Int.{w64}
 use Rattle.tally_sessions.specs.declared.track.ending.TrackedStay.{TrackedStay}
 use Rattle.tally_sessions.specs.inside.Track.{stay_at, after, ended_length, sum_of}
 use Rattle.tally_sessions.specs.inside.Entries.{entry_at}
-use Rattle.tally_sessions.proofs.EndedSteps.{HasSums-set, ended_sum-le}
-use Rattle.tally_sessions.proofs.Lengths.{held}
-use Rattle.tally_sessions.proofs.TrackSteps.{after-keeps}
+use Rattle.tally_sessions.proofs.track.EndedSteps.{HasSums-set, ended_sum-le}
+use Rattle.tally_sessions.proofs.track.Lengths.{held}
+use Rattle.tally_sessions.proofs.track.TrackSteps.{after-keeps}
 use Rattle.tally_sessions.proofs.track.ending.end_stay.Goals as goal
 
 pub count-requires-clause-entered : goal.count-requires-clause-entered

@@ -3,8 +3,8 @@ use Rattle.std.proofs.lemmas.Int.{ints, to_z-of_z}
 use Rattle.std.specs.Int.{w32, w64}
 use Rattle.std.specs.Prelude.{FitsSigned}
 use Rattle.tally_sessions.specs.inside.Entries.{entry_at}
-use Rattle.tally_sessions.proofs.Lengths.{held}
-use Rattle.tally_sessions.proofs.TrackSteps.{after-closes}
+use Rattle.tally_sessions.proofs.track.Lengths.{held}
+use Rattle.tally_sessions.proofs.track.TrackSteps.{after-closes}
 use Rattle.tally_sessions.specs.inside.Track as spec
 use Rattle.tally_sessions.proofs.track.ending.ended_by.Goals as goal
 

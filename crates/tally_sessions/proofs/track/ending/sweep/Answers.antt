@@ -5,8 +5,8 @@ use Rattle.tally_sessions.specs.Stays.{ends_stay}
 use Rattle.tally_sessions.specs.inside.Track as spec
 use Rattle.tally_sessions.specs.inside.Track.{stay_at, IsWithin}
 use Rattle.tally_sessions.specs.inside.Entries.{entry_at}
-use Rattle.tally_sessions.proofs.Lengths.{held}
-use Rattle.tally_sessions.proofs.Places.{MapsBelow, MapsBelow-more, MapsBelow-all}
+use Rattle.tally_sessions.proofs.track.Lengths.{held}
+use Rattle.tally_sessions.proofs.track.Places.{MapsBelow, MapsBelow-more, MapsBelow-all}
 use Rattle.tally_sessions.proofs.track.ending.sweep.Goals as goal
 
 pub loop-i-init : goal.loop-i-init

@@ -1,7 +1,7 @@
 use Rattle.std.proofs.Common.{◌≡◌}
 use Rattle.tally_sessions.specs.inside.Entries.{entry_at}
 use Rattle.tally_sessions.specs.inside.Track as spec
-use Rattle.tally_sessions.proofs.Places.{MapsBelow}
+use Rattle.tally_sessions.proofs.track.Places.{MapsBelow}
 use Rattle.tally_sessions.proofs.track.ending.sweep.Given as goal
 
 abbrev pub invariant-loop-i : goal.invariant-loop-i

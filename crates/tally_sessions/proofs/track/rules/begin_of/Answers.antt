@@ -2,7 +2,7 @@ use Rattle.std.proofs.Common.{◌≡◌, ◌∙◌, arith, pos, negsuc, ◌+ℤ�
 use Rattle.std.proofs.lemmas.Int.{ints}
 use Rattle.std.specs.Int.{w32, cast_signed, cast_unsigned}
 use Rattle.tally_sessions.specs.Stays.{clamped}
-use Rattle.tally_sessions.proofs.Lengths.{held}
+use Rattle.tally_sessions.proofs.track.Lengths.{held}
 use Rattle.tally_sessions.proofs.track.rules.begin_of.Goals as goal
 
 pub returns : goal.returns

@@ -2,7 +2,7 @@ use Rattle.std.proofs.Common.{◌≡◌, ◌<◌, ap, subst, sym, ◌∙◌, ari
 use Rattle.std.proofs.lemmas.Int.{ints, to_z-of_z}
 use Rattle.std.specs.Int.{w64, int_max}
 use Rattle.std.specs.Prelude.{FitsSigned, unsigned_abs}
-use Rattle.tally_sessions.proofs.Lengths.{held, seconds_fit}
+use Rattle.tally_sessions.proofs.track.Lengths.{held, seconds_fit}
 use Rattle.tally_sessions.proofs.track.rules.seconds_between.Goals as goal
 
 pub returns-clause-value : goal.returns-clause-value

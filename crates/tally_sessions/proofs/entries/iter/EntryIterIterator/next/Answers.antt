@@ -1,4 +1,4 @@
-use Rattle.tally_sessions.proofs.Lending.{all_left, less_left, none_left, one_left}
+use Rattle.tally_sessions.proofs.entries.Lending.{all_left, less_left, none_left, one_left}
 use Rattle.tally_sessions.proofs.entries.iter.EntryIterIterator.next.Goals as goal
 
 pub returns-then-self-len-clause-steps : goal.returns-then-self-len-clause-steps

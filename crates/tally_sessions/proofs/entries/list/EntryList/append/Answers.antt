@@ -2,7 +2,7 @@ use Rattle.std.proofs.Common.{◌≡◌, ◌∙◌, ◌++◌, List, length, repl
 use Rattle.tally_sessions.specs.declared.entry.Entry.{Entry}
 use Rattle.tally_sessions.specs.Hosts.{posted_by}
 use Rattle.tally_sessions.specs.inside.Joined.{joined}
-use Rattle.tally_sessions.proofs.Joined.{joined-append, length-view}
+use Rattle.tally_sessions.proofs.entries.Joined.{joined-append, length-view}
 use Rattle.tally_sessions.proofs.entries.list.EntryList.append.Goals as goal
 
 pub append-requires : goal.append-requires

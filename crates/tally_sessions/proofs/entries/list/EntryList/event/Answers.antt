@@ -1,5 +1,5 @@
 use Rattle.tally_records.specs.Event.{event_of}
-use Rattle.tally_sessions.proofs.Joined.{found_at, value_at}
+use Rattle.tally_sessions.proofs.entries.Joined.{found_at, value_at}
 use Rattle.tally_sessions.proofs.entries.list.EntryList.event.Goals as goal
 
 pub unwrap-requires : goal.unwrap-requires

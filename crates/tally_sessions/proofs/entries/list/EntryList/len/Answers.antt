@@ -1,5 +1,5 @@
 use Rattle.std.proofs.Common.{arith}
-use Rattle.tally_sessions.proofs.Joined.{length-view}
+use Rattle.tally_sessions.proofs.entries.Joined.{length-view}
 use Rattle.tally_sessions.proofs.entries.list.EntryList.len.Goals as goal
 
 pub returns : goal.returns

@@ -1,6 +1,6 @@
 use Rattle.std.proofs.Common.{List, ℕ, ap, ◌∙◌}
 use Rattle.tally_sessions.specs.inside.Joined.{joined}
-use Rattle.tally_sessions.proofs.Joined.{joined-nil}
+use Rattle.tally_sessions.proofs.entries.Joined.{joined-nil}
 use Rattle.tally_sessions.proofs.entries.list.EntryList.new.Goals as goal
 
 pub returns : goal.returns

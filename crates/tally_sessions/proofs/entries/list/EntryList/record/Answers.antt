@@ -1,4 +1,4 @@
-use Rattle.tally_sessions.proofs.Joined.{found_whole, whole_at}
+use Rattle.tally_sessions.proofs.entries.Joined.{found_whole, whole_at}
 use Rattle.tally_sessions.proofs.entries.list.EntryList.record.Goals as goal
 
 pub unwrap-requires : goal.unwrap-requires

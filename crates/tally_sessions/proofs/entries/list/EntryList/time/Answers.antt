@@ -2,7 +2,7 @@ use Rattle.std.proofs.Common.{rules, ◌∙◌}
 use Rattle.std.specs.Int.{w32}
 use Rattle.std.specs.Prelude.{FitsSigned}
 use Rattle.std.proofs.lemmas.Int.{to_z-of_z}
-use Rattle.tally_sessions.proofs.Joined.{found_at, value_at}
+use Rattle.tally_sessions.proofs.entries.Joined.{found_at, value_at}
 use Rattle.tally_sessions.proofs.entries.list.EntryList.time.Goals as goal
 
 pub unwrap-requires : goal.unwrap-requires

@@ -1,6 +1,6 @@
 use Rattle.std.proofs.Common.{take, ap, ◌∙◌}
 use Rattle.tally_sessions.specs.inside.Joined.{joined}
-use Rattle.tally_sessions.proofs.Joined.{joined-take}
+use Rattle.tally_sessions.proofs.entries.Joined.{joined-take}
 use Rattle.tally_sessions.proofs.entries.list.EntryList.truncate.Goals as goal
 
 pub returns : goal.returns

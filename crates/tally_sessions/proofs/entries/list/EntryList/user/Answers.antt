@@ -1,4 +1,4 @@
-use Rattle.tally_sessions.proofs.Joined.{found_at, value_at}
+use Rattle.tally_sessions.proofs.entries.Joined.{found_at, value_at}
 use Rattle.tally_sessions.proofs.entries.list.EntryList.user.Goals as goal
 
 pub unwrap-requires : goal.unwrap-requires

@@ -1,6 +1,6 @@
 use Rattle.std.proofs.Common.{◌≡◌, None, Some, unwrap_or, sym, ap, arith}
 use Rattle.tally_sessions.specs.inside.Track.{sum_of}
-use Rattle.tally_sessions.proofs.EndedTables.{kept_by}
+use Rattle.tally_sessions.proofs.track.EndedTables.{kept_by}
 use Rattle.tally_sessions.proofs.track.ended.EndedSums.add.Goals as goal
 
 pub overflow_add-self : goal.overflow_add-self

@@ -6,7 +6,7 @@ use Rattle.std.specs.Cmp.Lexicographic.{slice_cmp}
 use Rattle.std.specs.Ordering.{nat_cmp}
 use Rattle.std.specs.Prelude.{sum_by}
 use Rattle.tally_sessions.specs.inside.Sums.{sum_at}
-use Rattle.tally_sessions.proofs.UserSums.{own_part, part_added, part_of, parts_sum}
+use Rattle.tally_sessions.proofs.track.UserSums.{own_part, part_added, part_of, parts_sum}
 use Rattle.tally_sessions.proofs.track.ended.EndedSums.add_to.Goals as goal
 
 abbrev no_pair : List ℕ × ℕ

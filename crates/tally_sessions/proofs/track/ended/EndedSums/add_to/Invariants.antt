@@ -3,7 +3,7 @@ use Rattle.std.specs.Cmp.Lexicographic.{slice_cmp}
 use Rattle.std.specs.Ordering.{nat_cmp}
 use Rattle.std.specs.Prelude.{sum_by}
 use Rattle.tally_sessions.specs.inside.Sums.{sum_at}
-use Rattle.tally_sessions.proofs.UserSums.{part_of}
+use Rattle.tally_sessions.proofs.track.UserSums.{part_of}
 use Rattle.tally_sessions.proofs.track.ended.EndedSums.add_to.Given as goal
 
 abbrev pub invariant-loop-place : goal.invariant-loop-place

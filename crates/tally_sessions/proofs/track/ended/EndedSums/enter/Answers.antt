@@ -1,6 +1,6 @@
 use Rattle.std.proofs.Common.{◌≡◌, ℕ, false, Option, None, Some, is_some, refl, sym, ◌∙◌}
 use Rattle.std.proofs.lemmas.Bool.{false≢true}
-use Rattle.tally_sessions.proofs.EndedTables.{entered_by, kept_by}
+use Rattle.tally_sessions.proofs.track.EndedTables.{entered_by, kept_by}
 use Rattle.tally_sessions.proofs.track.ended.EndedSums.enter.Goals as goal
 
 none_from : (o : Option ℕ) → is_some o ≡ false → o ≡ None

@@ -1,7 +1,7 @@
 use Rattle.std.proofs.Common.{◌≡◌, Some, bytes_eq, slice_get, ap, subst, sym, ◌∙◌}
 use Rattle.std.specs.Map.{keys_of, lookup}
 use Rattle.tally_sessions.specs.inside.Numbers.{Numbers}
-use Rattle.tally_sessions.proofs.Names.{lookup_at}
+use Rattle.tally_sessions.proofs.track.Names.{lookup_at}
 use Rattle.tally_sessions.proofs.track.name_table.NameTable.get.Goals as goal
 
 pub returns : goal.returns

@@ -1,7 +1,7 @@
 use Rattle.std.proofs.Common.{◌≡◌, Some, IfSome, slice_get, ap, subst, sym}
 use Rattle.std.specs.Map.{keys_of}
 use Rattle.tally_sessions.specs.inside.Numbers.{Numbers}
-use Rattle.tally_sessions.proofs.Names.{found_key, own_key}
+use Rattle.tally_sessions.proofs.track.Names.{found_key, own_key}
 use Rattle.tally_sessions.proofs.track.name_table.NameTable.place_of.Goals as goal
 
 pub returns-in-Some-clause-found : goal.returns-in-Some-clause-found

@@ -1,7 +1,7 @@
 use Rattle.std.proofs.Common.{◌≡◌, ℕ, List, Some, bytes_eq, cond, slice_get, ap, subst, sym, ◌∙◌}
 use Rattle.std.specs.Map.{keys_of, lookup}
 use Rattle.tally_sessions.specs.inside.Numbers.{Numbers}
-use Rattle.tally_sessions.proofs.Names.{lookup_set}
+use Rattle.tally_sessions.proofs.track.Names.{lookup_set}
 use Rattle.tally_sessions.proofs.track.name_table.NameTable.put.Goals as goal
 
 pub returns-in-Some-clause-set : goal.returns-in-Some-clause-set

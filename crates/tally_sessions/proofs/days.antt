@@ -1,0 +1,3 @@
+-- The days of a stay.
+pub mod DaysLemmas
+pub mod StayDays

@@ -1,0 +1,3 @@
+-- Stored entries.
+pub mod Joined
+pub mod Lending

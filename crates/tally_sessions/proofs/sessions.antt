@@ -1,0 +1,8 @@
+-- The tracks of all hosts.
+pub mod EveryHost
+pub mod HostCounts
+pub mod HostSteps
+pub mod Posted
+pub mod Staging
+pub mod Tracks
+pub mod UserSeconds

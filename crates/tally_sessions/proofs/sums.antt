@@ -1,0 +1,4 @@
+-- Sessions, and sums over them.
+pub mod SessionLists
+pub mod SumLemmas
+pub mod SumSteps
