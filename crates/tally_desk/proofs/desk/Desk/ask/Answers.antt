@@ -20,29 +20,17 @@ invariant_of-pass g c =
     let b = c.ask.ensures.asked o.0 o.1 in
     let t = asked_pass c.pass.inside.seat.table_id o.0 o.3 b.0 b.1 c.args.question.now _ _ b.2 b.3 in (t.0, t.1, o.2 ∙ t.2, t.3)
 
-pub returns-clause-keeps : goal.returns-clause-keeps
-returns-clause-keeps g c = (tells g c).keeps
-
-pub returns-clause-legal : goal.returns-clause-legal
-returns-clause-legal g c = (tells g c).legal
-
-pub returns-clause-current : goal.returns-clause-current
-returns-clause-current g c = (tells g c).current
-
-pub returns-clause-answered : goal.returns-clause-answered
-returns-clause-answered g c = (tells g c).answered
-
-pub returns-clause-at : goal.returns-clause-at
-returns-clause-at g c = (tells g c).at
-
-pub returns-clause-value : goal.returns-clause-value
-returns-clause-value g c = (tells g c).value
-
-pub returns-clause-refused : goal.returns-clause-refused
-returns-clause-refused g c = (tells g c).refused
-
-pub returns-clause-cause : goal.returns-clause-cause
-returns-clause-cause g c = (tells g c).cause
-
-pub returns-clause-did : goal.returns-clause-did
-returns-clause-did g c = (tells g c).did
+pub returns : goal.returns
+returns g c =
+    let t = tells g c in record {
+      keeps = t.keeps;
+      legal = t.legal;
+      current = t.current;
+      answered = t.answered;
+      at = t.at;
+      value = t.value;
+      refused = t.refused;
+      cause = t.cause;
+      did = t.did;
+      days = c.ask.ensures.days;
+    }

@@ -20,29 +20,16 @@ invariant_of-pass g c =
     let b = c.post.ensures.posted o.0 o.1 in
     let t = posted_pass c.pass.inside.seat.table_id o.0 o.3 b.0 b.1 c.args.batch.now _ _ b.2 b.3 in (t.0, t.1, o.2 ∙ t.2, t.3)
 
-pub returns-clause-keeps : goal.returns-clause-keeps
-returns-clause-keeps g c = (tells g c).keeps
-
-pub returns-clause-legal : goal.returns-clause-legal
-returns-clause-legal g c = (tells g c).legal
-
-pub returns-clause-current : goal.returns-clause-current
-returns-clause-current g c = (tells g c).current
-
-pub returns-clause-answered : goal.returns-clause-answered
-returns-clause-answered g c = (tells g c).answered
-
-pub returns-clause-stored : goal.returns-clause-stored
-returns-clause-stored g c = (tells g c).stored
-
-pub returns-clause-after : goal.returns-clause-after
-returns-clause-after g c = (tells g c).after
-
-pub returns-clause-refused : goal.returns-clause-refused
-returns-clause-refused g c = (tells g c).refused
-
-pub returns-clause-cause : goal.returns-clause-cause
-returns-clause-cause g c = (tells g c).cause
-
-pub returns-clause-did : goal.returns-clause-did
-returns-clause-did g c = (tells g c).did
+pub returns : goal.returns
+returns g c =
+    let t = tells g c in record {
+      keeps = t.keeps;
+      legal = t.legal;
+      current = t.current;
+      answered = t.answered;
+      stored = t.stored;
+      after = t.after;
+      refused = t.refused;
+      cause = t.cause;
+      did = t.did;
+    }
