@@ -1,7 +1,7 @@
 use Rattle.std.proofs.Common.{◌∙◌, sym, ap}
 use Rattle.atomic_table.specs.Seated.{TableId}
 use Rattle.tally_desk.specs.Passes.{seen_as}
-use Rattle.tally_desk.proofs.Passes.{AskTells, both, asked_pass}
+use Rattle.tally_desk.proofs.Passes.{AskTells, asked_pass, both, ok_first, ok_second}
 use Rattle.tally_desk.proofs.desk.Desk.ask.Goals as goal
 use Rattle.tally_desk.proofs.desk.Desk.ask.Given as given
 
@@ -27,8 +27,8 @@ returns g c =
       legal = t.legal;
       current = t.current;
       answered = t.answered;
-      at = t.at;
-      value = t.value;
+      at = ok_first _ _ c.ask.result t.says;
+      value = ok_second _ _ c.ask.result t.says;
       refused = t.refused;
       cause = t.cause;
       did = t.did;

@@ -1,7 +1,7 @@
 use Rattle.std.proofs.Common.{◌∙◌, sym, ap}
 use Rattle.atomic_table.specs.Seated.{TableId}
 use Rattle.tally_desk.specs.Passes.{seen_as}
-use Rattle.tally_desk.proofs.Passes.{PostTells, both, posted_pass}
+use Rattle.tally_desk.proofs.Passes.{PostTells, both, ok_first, ok_second, posted_pass}
 use Rattle.tally_desk.proofs.desk.Desk.post.Goals as goal
 use Rattle.tally_desk.proofs.desk.Desk.post.Given as given
 
@@ -27,8 +27,8 @@ returns g c =
       legal = t.legal;
       current = t.current;
       answered = t.answered;
-      stored = t.stored;
-      after = t.after;
+      stored = ok_first _ _ c.post.result t.says;
+      after = ok_second _ _ c.post.result t.says;
       refused = t.refused;
       cause = t.cause;
       did = t.did;
