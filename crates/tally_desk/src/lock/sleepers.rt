@@ -1,4 +1,5 @@
 //! Where callers sleep until their turns are near.
+ghost use Rattle.std.specs.Prelude.{◌≡◌, IfOk, vec_len};
 
 use std::alloc::Global;
 use std::sync::Wait;
@@ -15,7 +16,9 @@ pub struct Sleepers {
 
 impl Sleepers {
     /// Places for so many callers, each with one ticket at most.
-    pub fn new(alloc: Global, callers: u32) -> Result<Sleepers, Memory> {
+    pub fn new(alloc: Global, callers: u32) -> Result<Sleepers, Memory>
+        ensures { IfOk result (λ sleepers. vec_len sleepers.places ≡ callers) }
+    {
         let mut places = Vec::with_capacity(alloc, callers as usize)?;
         for _ in 0..callers {
             places.push(Parker::new())?;
