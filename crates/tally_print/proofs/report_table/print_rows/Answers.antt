@@ -1,20 +1,16 @@
-use Rattle.std.proofs.Common.{◌+◌, ◌∙◌, [], ap, flat_map, rules, subst, w32, ℤ}
+use Rattle.std.proofs.Common.{ap, flat_map, refl, rules, subst, w32, ℤ}
 use Rattle.std.proofs.lemmas.Int.{to_z-of_z}
 use Rattle.tally_print.specs.Output.{Prints}
 use Rattle.tally_print.specs.ReportTable.{answer_rows}
 use Rattle.tally_print.specs.Tables.{csv_text}
-use Rattle.tally_print.proofs.PageLemmas.{flat_next, flat_rest, prints_stop, prints_then}
+use Rattle.tally_print.proofs.PageLemmas.{each_next, each_stop}
 use Rattle.tally_print.proofs.report_table.print_rows.Goals as goal
 
 pub loop-answer-preserved : goal.loop-answer-preserved
 loop-answer-preserved g c =
-    let next = flat_next [] (λ answer. csv_text (answer_rows _ _ answer)) c.args.answers.now c.loop-answer.answer-index c.answer-item.result c.loop-answer-test.true (search rules) in
-    subst (Prints _ _ _ _) next (prints_then c.loop-answer.invariant c.in_ok-print_answer_rows.ensures.writes)
+    each_next (λ answer. csv_text (answer_rows _ _ answer)) c.args.answers.now c.loop-answer.answer-index c.answer-item.result c.loop-answer-test.true (search rules) c.loop-answer.invariant c.in_ok-print_answer_rows.ensures.writes
 
 pub returns-in_err-print_answer_rows : goal.returns-in_err-print_answer_rows
 returns-in_err-print_answer_rows g c =
-    let i = c.loop-answer.answer-index in
-    let next = flat_next [] (λ answer. csv_text (answer_rows _ _ answer)) c.args.answers.now i c.answer-item.result c.loop-answer-test.true (search rules) in
-    let printed = subst (Prints _ _ _ _) next (prints_then c.loop-answer.invariant c.in_err-print_answer_rows.ensures.writes) in
     let same = ap (λ (x : ℤ). flat_map (λ answer. csv_text (answer_rows c.args.table x answer)) c.args.answers.now) (to_z-of_z w32 c.args.offset c.ranges.offset) in
-    record { writes = subst (Prints _ _ _ _) (flat_rest [] _ c.args.answers.now (i + 1) ∙ same) (prints_stop _ (search rules) _ printed) }
+    record { writes = subst (Prints _ _ _ _) same (each_stop (λ answer. csv_text (answer_rows _ _ answer)) c.args.answers.now c.loop-answer.answer-index c.answer-item.result c.loop-answer-test.true (search rules) c.loop-answer.invariant c.in_err-print_answer_rows.ensures.writes c.in_err-print_answer_rows.field-0.0 (search rules) refl) }
