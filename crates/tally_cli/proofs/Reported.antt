@@ -1,9 +1,15 @@
 -- The output of a run is that of its job and files.
-use Rattle.std.proofs.Common.{◌≡◌, ℕ, zero, suc, List, [], ◌∷◌, ◌++◌, Option, Result, Ok, Err, inl, map, refl, sym, subst, ap, ◌∙◌, append-nil, arith}
-use Rattle.std.specs.Prelude.{IfErr, OnOk}
-use Rattle.tally_book.specs.declared.question.Question.{Question}
+use Rattle.std.proofs.Common.{◌≡◌, ℕ, zero, suc, ◌+◌, Bool, true, IsTrue, List, [], ◌∷◌, ◌++◌, Option, Result, Ok, Err, inl, inr, length, map, refl, sym, subst, ap, ◌∙◌, append-nil, add-zero, arith}
+use Rattle.std.specs.Prelude.{IfErr, OnOk, slice_index_or}
+use Rattle.std.specs.List.{All}
+use Rattle.tally_book.specs.Contents.{Contents}
 use Rattle.tally_book.specs.Answers.{answer_of}
-use Rattle.tally_print.specs.Output.{AppendsPrefix}
+use Rattle.tally_book.specs.Deeds.{SameOfEachHost}
+use Rattle.tally_book.specs.declared.question.Question.{Question}
+use Rattle.tally_desk.specs.declared.fault.FeedFault.TheVariants as feed
+use Rattle.tally_print.specs.Output.{AppendsPrefix, OutputNow, Prints, failed_calls}
+use Rattle.tally_print.specs.declared.output.PrintFault.{PrintFault}
+use Rattle.tally_print.specs.declared.output.PrintFault.TheVariants as print
 use Rattle.tally_records.specs.declared.batch.Kind.{Kind}
 use Rattle.tally_sessions.specs.declared.entry.Entry.{Entry}
 use Rattle.tally_usage.specs.declared.entry.ProcEntry.{ProcEntry}
@@ -12,8 +18,8 @@ use Rattle.tally_cli.specs.declared.running.source.Source.{Source}
 use Rattle.tally_cli.specs.Output.{form_text, login_entries, proc_entries, questions_of, report_text}
 use Rattle.tally_cli.specs.declared.fault.RunFault.{RunFault}
 use Rattle.tally_cli.specs.declared.fault.RunFault.TheVariants.{Asker, Callers, File, Memory, Write}
-use Rattle.tally_cli.specs.Runs.{Around, IsCause, IsUnwritten, Tell, Told, output_told, records_told}
-use Rattle.tally_cli.specs.inside.RunSteps.{IsReadCause}
+use Rattle.tally_cli.specs.Runs.{IsAllowed, IsCause, IsFailedRun, IsFullList, IsGood, IsNamed, IsUnwrittenBefore, Tell, Told, failed_writes, fault_from, output_told, records_told}
+use Rattle.tally_cli.specs.inside.RunSteps.{AreRead, IsPrintFault, IsReadCause}
 
 -- the kinds that the sources tell
 pub kinds_told : {I : Type 0} (to_come : I → Option (List ℕ)) (sources : List (Source I)) (inputs : List Told) → Tell to_come sources inputs → map (λ (s : Source I). s.kind) sources ≡ map (λ (i : Told). i.kind) inputs
@@ -22,17 +28,62 @@ kinds_told to_come [] (i ∷ is) h = absurd (omega (arith, h.0))
 kinds_told to_come (s ∷ ss) [] h = absurd (omega (arith, h.0))
 kinds_told to_come (s ∷ ss) (i ∷ is) h = λ j. (h.1 zero s i (omega arith)).kind j ∷ kinds_told to_come ss is (omega (arith, h.0), λ k x y l. h.1 (suc k) x y (omega (arith, l))) j
 
--- the report of a book whose answers are those of the files
-pub report_same : (job : Job) (inputs : List Told) (kinds : List Kind) (logins : List Entry) (procs : List ProcEntry) → kinds ≡ map (λ (i : Told). i.kind) inputs
-    → ((q : Question) → answer_of q logins procs ≡ answer_of q (login_entries (map records_told inputs)) (proc_entries (map records_told inputs)))
-    → report_text job kinds logins procs ≡ output_told job inputs
-report_same job inputs kinds logins procs kinds_is same =
-    (λ j. form_text job.form job.report job.offset job.until (map (λ q. same q j) (questions_of job.report job.offset kinds job.until)))
-    ∙ ap (λ ks. report_text job ks (login_entries (map records_told inputs)) (proc_entries (map records_told inputs))) kinds_is
+-- the report of a book over the files' records is the output of what the sources tell
+pub output_is : {I : Type 0} (to_come : I → Option (List ℕ)) (job : Job) (sources : List (Source I)) (inputs : List Told) (b : Contents) {kinds shown : List Kind} {lent : List (Source I)}
+    → shown ≡ kinds → kinds ≡ map (λ (s : Source I). s.kind) lent → lent ≡ sources
+    → ((logins others : List Entry) (procs rest : List ProcEntry) → SameOfEachHost logins others procs rest → (q : Question) → answer_of q logins procs ≡ answer_of q others rest)
+    → Tell to_come sources inputs → AreRead inputs b
+    → report_text job shown b.logins b.procs ≡ output_told job inputs
+output_is {I} to_come job sources inputs b {shown = shown} e f h order tell read =
+    let same = order b.logins (login_entries (map records_told inputs)) b.procs (proc_entries (map records_told inputs)) read.same in
+    (λ j. form_text job.form job.report job.offset job.until (map (λ q. same q j) (questions_of job.report job.offset shown job.until)))
+    ∙ ap (λ ks. report_text job ks (login_entries (map records_told inputs)) (proc_entries (map records_told inputs)))
+    (e ∙ f ∙ ap (map (λ (s : Source I). s.kind)) h ∙ kinds_told to_come sources inputs tell)
+
+no_front : (front rest : List ℕ) → [] ≡ front ++ rest → front ≡ []
+no_front [] rest e = refl
+no_front (x ∷ front) rest e = cc
+
+-- the text stands as it was printed, where nothing was written after it
+pub printed_whole : {D E : Type 0} {old mid new : OutputNow} {done : Unit {0}} {r : Result (Unit {0}) E} {failed : ℕ} {text text' : List ℕ} → Prints {E = D} old mid (Ok done) 0 text → Prints mid new r failed [] → text ≡ text' → IsTrue old.tells → new.written ≡ old.written ++ text'
+printed_whole {old = old} {mid = mid} printed kept same told =
+    let last = kept.prefix (rw printed.tells told) in
+    last.appended ∙ ap (λ l. mid.written ++ l) (no_front last.front last.rest last.whole) ∙ append-nil mid.written ∙ printed.ok told ∙ ap (λ l. old.written ++ l) same
 
 -- a text that was written whole
 pub whole_prefix : (old new text : List ℕ) → new ≡ old ++ text → AppendsPrefix old new text
 whole_prefix old new text written = record { front = text; rest = []; appended = written; whole = sym (append-nil text) }
+
+-- nothing was printed where memory was refused
+pub prints_nothing : (now : OutputNow) (text : List ℕ) → Prints {E = PrintFault} now now (Err print.Memory) 0 text
+prints_nothing now text = record {
+  prefix = λ told. record { front = []; rest = text; appended = sym (append-nil now.written); whole = refl };
+  ok = tt;
+  counts = sym (add-zero now.failures);
+  tells = refl;
+}
+
+-- what a printer wrote whole, in a run
+pub prints_as : {D E : Type 0} {old new : OutputNow} {done done' : Unit {0}} {text text' : List ℕ} → text ≡ text' → Prints {E = D} old new (Ok done) 0 text → Prints {E = E} old new (Ok done') 0 text'
+prints_as {old = old} {new = new} same printed = record {
+  prefix = λ told. subst (AppendsPrefix old.written new.written) same (printed.prefix told);
+  ok = λ told. printed.ok told ∙ ap (λ l. old.written ++ l) same;
+  counts = printed.counts;
+  tells = printed.tells;
+}
+
+same_calls : (e : PrintFault) → failed_calls (Err e) ≡ failed_writes (Err (fault_from e))
+same_calls print.Memory = refl
+same_calls print.Write = refl
+
+-- what a printer wrote, by the fault that its failure is of a run
+pub prints_from : {old new : OutputNow} {text : List ℕ} (e : PrintFault) (r : Result (Unit {0}) RunFault) → r ≡ Err (fault_from e) → Prints old new (Err e) (failed_calls (Err e)) text → Prints old new r (failed_writes r) text
+prints_from {old} {new} {text} e r is printed = subst (λ (x : Result (Unit {0}) RunFault). Prints old new x (failed_writes x) text) (sym is) (record {
+  prefix = printed.prefix;
+  ok = tt;
+  counts = printed.counts ∙ ap (λ n. old.failures + n) (same_calls e);
+  tells = printed.tells;
+})
 
 -- what holds in any case holds at `Ok`
 pub on_ok_always : {T E P : Type 0} (r : Result T E) → P → OnOk r P
@@ -49,9 +100,57 @@ faults_are P (Ok value) fault is fact = tt
 faults_are P (Err found) fault is fact = subst P (sym is) fact
 
 -- what a fault of reading shows, where nothing was written
-pub read_cause : (inputs : List Told) (out : Around) (fault : RunFault) → IsUnwritten out → IsReadCause inputs fault → IsCause inputs out fault
-read_cause inputs out Memory unwritten cause = inl unwritten
-read_cause inputs out (Callers count) unwritten cause = tt
-read_cause inputs out (File host fault) unwritten cause = cause
-read_cause inputs out (Asker caller fault) unwritten cause = cause
-read_cause inputs out Write unwritten cause = absurd cause
+read_cause : (inputs : List Told) (now : OutputNow) (fault : RunFault) → IsReadCause inputs fault → IsCause inputs now now fault
+read_cause inputs now Memory cause = inl (λ told. refl)
+read_cause inputs now (Callers count) cause = tt
+read_cause inputs now (File host fault) cause = cause
+read_cause inputs now (Asker caller fault) cause = cause
+read_cause inputs now Write cause = absurd cause
+
+unwritten : (now : OutputNow) (fault : RunFault) → IsUnwrittenBefore now now fault
+unwritten now Memory = tt
+unwritten now (Callers count) = λ told. refl
+unwritten now (File host fault) = λ told. refl
+unwritten now (Asker caller fault) = λ told. refl
+unwritten now Write = tt
+
+-- a run that failed before it wrote
+pub failed_unwritten : {I : Type 0} {to_come : I → Option (List ℕ)} {can_fail : I → Bool} {job : Job} {sources : List (Source I)} {now : OutputNow} {fault : RunFault}
+    → IsAllowed (length sources + job.askers) fault → IsNamed (length sources) (length sources + job.askers) fault → IsFullList sources fault
+    → ((host : ℕ) → fault ≡ File host feed.Read → (s : Source I) → can_fail (slice_index_or sources host s).input ≡ true)
+    → ((inputs : List Told) → Tell to_come sources inputs → IsReadCause inputs fault) → IsFailedRun to_come can_fail job sources now now fault
+failed_unwritten {job = job} {now = now} {fault = fault} allowed named full read cause = record {
+  allowed = allowed;
+  named = named;
+  full = full;
+  read = read;
+  unwritten = unwritten now fault;
+  told = λ inputs tell. record {
+    cause = read_cause inputs now fault (cause inputs tell);
+    prefix = λ told. record { front = []; rest = output_told job inputs; appended = sym (append-nil now.written); whole = refl };
+  };
+}
+
+-- a run that failed in printing, of files that are good
+pub failed_printing : {I : Type 0} {to_come : I → Option (List ℕ)} {can_fail : I → Bool} {job : Job} {sources : List (Source I)} {old new : OutputNow} (fault : RunFault)
+    → IsPrintFault fault → ((inputs : List Told) → Tell to_come sources inputs → All IsGood inputs × (IsTrue old.tells → AppendsPrefix old.written new.written (output_told job inputs)))
+    → IsFailedRun to_come can_fail job sources old new fault
+failed_printing Memory printing told = record {
+  allowed = tt;
+  named = tt;
+  full = tt;
+  read = λ host e. cc;
+  unwritten = tt;
+  told = λ inputs tell. record { cause = inr (told inputs tell).0; prefix = (told inputs tell).1 };
+}
+failed_printing Write printing told = record {
+  allowed = tt;
+  named = tt;
+  full = tt;
+  read = λ host e. cc;
+  unwritten = tt;
+  told = λ inputs tell. record { cause = (told inputs tell).0; prefix = (told inputs tell).1 };
+}
+failed_printing (Callers count) printing told = absurd printing
+failed_printing (File host fault) printing told = absurd printing
+failed_printing (Asker caller fault) printing told = absurd printing

@@ -1,37 +1,15 @@
--- Sections that are asked and printed one by one.
-use Rattle.std.proofs.Common.{◌≡◌, ℕ, zero, suc, ◌+◌, ◌<◌, Bool, true, false, cond, List, [], ◌∷◌, ◌++◌, Option, length, map, filter, take, drop, get_or, refl, sym, ap, ◌∙◌, arith, ℤ}
-use Rattle.std.proofs.lemmas.List.{append_assoc, append-nil, map-append}
+-- Sections that are asked one by one.
+use Rattle.std.proofs.Common.{◌≡◌, ℕ, zero, suc, ◌+◌, ◌<◌, Bool, true, false, cond, List, [], ◌∷◌, ◌++◌, Option, length, map, filter, take, get_or, refl, ap, ◌∙◌, arith, ℤ}
+use Rattle.std.proofs.lemmas.List.{append-nil, map-append}
 use Rattle.std.proofs.lemmas.List.Elements.{filter-append}
-use Rattle.std.specs.List.{enumerate_from, flat_map}
+use Rattle.std.specs.List.{enumerate_from}
 use Rattle.tally_book.specs.declared.question.Question.{Question}
 use Rattle.tally_book.specs.declared.question.Question.TheVariants as questions
 use Rattle.tally_book.specs.Answers.{answer_of}
-use Rattle.tally_print.specs.Output.{AppendsPrefix}
 use Rattle.tally_sessions.specs.declared.entry.Entry.{Entry}
 use Rattle.tally_usage.specs.declared.entry.ProcEntry.{ProcEntry}
 use Rattle.tally_records.specs.declared.batch.Kind.{Kind}
-use Rattle.tally_cli.specs.Output.{is_wanted, sections, stays_asked}
-
--- a prefix of one text among others
-pub prefix_more : (old mid new done text rest all : List ℕ) → mid ≡ old ++ done → AppendsPrefix mid new text → all ≡ done ++ (text ++ rest) → AppendsPrefix old new all
-prefix_more old mid new done text rest all e p is = record {
-  front = done ++ p.front;
-  rest = p.rest ++ rest;
-  appended = p.appended ∙ ap (λ l. l ++ p.front) e ∙ append_assoc old done p.front;
-  whole = is
-      ∙ ap (λ l. done ++ (l ++ rest)) p.whole
-      ∙ ap (λ l. done ++ l) (append_assoc p.front p.rest rest)
-      ∙ sym (append_assoc done p.front (p.rest ++ rest));
-}
-
-flat_split : {X : Type 0} (f : X → List ℕ) (xs : List X) (i : ℕ) (d : X) → i < length xs → flat_map f xs ≡ flat_map f (take i xs) ++ (f (get_or xs i d) ++ flat_map f (drop (suc i) xs))
-flat_split f [] i d h = absurd (omega (arith, h))
-flat_split f (x ∷ xs) zero d h = refl
-flat_split f (x ∷ xs) (suc i) d h = ap (λ l. f x ++ l) (flat_split f xs i d (omega (arith, h))) ∙ sym (append_assoc (f x) (flat_map f (take i xs)) (f (get_or xs i d) ++ flat_map f (drop (suc i) xs)))
-
--- the pieces up to one, that one, and those after it
-pub flat_at : {X : Type 0} (f : X → List ℕ) (xs : List X) (i : ℕ) (x : X) → i < length xs → x ≡ get_or xs i x → flat_map f xs ≡ flat_map f (take i xs) ++ (f x ++ flat_map f (drop (suc i) xs))
-flat_at f xs i x h is = flat_split f xs i x h ∙ ap (λ y. flat_map f (take i xs) ++ (f y ++ flat_map f (drop (suc i) xs))) (sym is)
+use Rattle.tally_cli.specs.Output.{is_wanted, stays_asked}
 
 numbered_suc : {X : Type 0} (xs : List X) (n i : ℕ) (d : X) → i < length xs → enumerate_from n (take (suc i) xs) ≡ enumerate_from n (take i xs) ++ (n + i, get_or xs i d) ∷ []
 numbered_suc [] n i d h = absurd (omega (arith, h))
@@ -79,11 +57,3 @@ map_next f xs i x h = let e : i + 1 ≡ suc i = omega arith in ap (λ m. map f (
 
 pub answer_same : (q : Question) (logins others : List Entry) (procs rest : List ProcEntry) → logins ≡ others → procs ≡ rest → answer_of q logins procs ≡ answer_of q others rest
 answer_same q logins others procs rest e f = λ j. answer_of q (e j) (f j)
-
-flat_of_map : {X : Type 0} (f : X → List ℕ) (xs : List X) → flat_map (λ x. 10 ∷ f x) xs ≡ flat_map (λ t. 10 ∷ t) (map f xs)
-flat_of_map f [] = refl
-flat_of_map f (x ∷ xs) = ap (λ l. (10 ∷ f x) ++ l) (flat_of_map f xs)
-
--- the sections are the first text and then the others
-pub sections_first : {X : Type 0} (f : X → List ℕ) (all : List X) (x : X) (others : List X) → all ≡ x ∷ others → sections (map f all) ≡ f x ++ flat_map (λ y. 10 ∷ f y) others
-sections_first f all x others e = ap (λ l. sections (map f l)) e ∙ ap (λ l. f x ++ l) (sym (flat_of_map f others))

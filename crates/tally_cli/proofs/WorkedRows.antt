@@ -5,7 +5,7 @@ use Rattle.tally_book.specs.declared.question.Question.TheVariants as questions
 use Rattle.tally_records.specs.declared.batch.Kind.TheVariants.{Login, Proc}
 use Rattle.tally_usage.specs.declared.order.Order.TheVariants as order
 use Rattle.tally_cli.specs.FileWords.{word_of}
-use Rattle.tally_cli.specs.Output.{questions_of, sections}
+use Rattle.tally_cli.specs.Output.{questions_of}
 use Rattle.tally_cli.specs.Runs.{callers_fault}
 use Rattle.tally_cli.specs.inside.Tasks.{asker_questions}
 use Rattle.tally_cli.specs.declared.fault.RunFault.TheVariants.{Callers}
@@ -18,10 +18,6 @@ all_asked = refl
 -- `last` asks for each file, up to its limit
 last_asked : questions_of (report.Last (Some 3)) (pos 0) (Login ∷ Login ∷ []) None ≡ questions.Last 0 (Some 3) None ∷ questions.Last 1 (Some 3) None ∷ []
 last_asked = refl
-
--- an empty line stands between two sections, and around none
-gaps : sections (codes "a\n" ∷ codes "b\n" ∷ codes "c\n" ∷ []) ∷ sections (codes "a\n" ∷ []) ∷ sections [] ∷ [] ≡ codes "a\n\nb\n\nc\n" ∷ codes "a\n" ∷ [] ∷ []
-gaps = refl
 
 -- a file of `all` has the prefix of its kind, and no other file has one
 words : word_of report.All Login (codes "f") ∷ word_of report.All Proc (codes "f") ∷ word_of (report.Last None) Login (codes "f") ∷ [] ≡ codes "w:f" ∷ codes "p:f" ∷ codes "f" ∷ []

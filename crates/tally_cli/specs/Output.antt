@@ -5,8 +5,8 @@ use Rattle.tally_book.specs.declared.question.Question.{Question}
 use Rattle.tally_book.specs.declared.question.Question.TheVariants as questions
 use Rattle.tally_book.specs.Answers.{answer_of}
 use Rattle.tally_book.specs.declared.question.Answer.{Answer}
-use Rattle.tally_print.specs.AnswerText.{answer_text}
 use Rattle.tally_print.specs.ReportTable.{table_text}
+use Rattle.tally_print.specs.Sections.{sections_text}
 use Rattle.tally_print.specs.declared.report_table.Table.{Table}
 use Rattle.tally_print.specs.declared.report_table.Table.TheVariants as tables
 use Rattle.tally_records.specs.Records.{Records, logins_in, procs_in}
@@ -51,11 +51,6 @@ login_entries files = flat_map (λ numbered. posted_by numbered.0 (logins_in num
 abbrev pub proc_entries : List Records → List ProcEntry
 proc_entries files = flat_map (λ numbered. entries_of numbered.0 (procs_in numbered.1)) (enumerate_from 0 files)
 
--- texts with an empty line between each two
-abbrev pub sections : List (List ℕ) → List ℕ
-sections [] = []
-sections (text ∷ texts) = text ++ flat_map (λ t. 10 ∷ t) texts
-
 -- the table that a report is as CSV; a report of all is none
 abbrev pub table_of : Report → Option Table
 table_of (Last limit) = Some tables.Stays
@@ -71,7 +66,7 @@ csv_of None offset answers = []
 
 -- the text of a report's answers in a form
 abbrev pub form_text : Form → Report → ℤ → Option ℤ → List Answer → List ℕ
-form_text Text report offset until answers = sections (map (λ a. answer_text a offset until) answers)
+form_text Text report offset until answers = sections_text answers offset until
 form_text Csv report offset until answers = csv_of (table_of report) offset answers
 
 -- the answers to a report's questions over login and process entries, of which each file of these kinds is a host

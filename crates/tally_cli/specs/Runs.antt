@@ -5,7 +5,7 @@ use Rattle.tally_desk.specs.Batches.{records_in}
 use Rattle.tally_desk.specs.Blocks.{feed_fault}
 use Rattle.tally_desk.specs.Feeds.{good_batches}
 use Rattle.tally_desk.specs.declared.fault.FeedFault.{FeedFault}
-use Rattle.tally_print.specs.Output.{AppendsPrefix}
+use Rattle.tally_print.specs.Output.{AppendsPrefix, OutputNow}
 use Rattle.tally_print.specs.declared.output.PrintFault.{PrintFault}
 use Rattle.tally_records.specs.Records.{Records, logins_in, procs_in}
 use Rattle.tally_records.specs.declared.batch.TheConstants.{BATCH_LIMIT}
@@ -80,31 +80,25 @@ pub record IsFirstFault (inputs : List Told) (host : ℕ) (fault : FeedFault) : 
   pub earlier : (k : ℕ) (i : Told) → k < host → IsGood (slice_index_or inputs k i)
   pub own : (i : Told) → IsFileCause inputs (slice_index_or inputs host i) fault
 
--- an output beside a run: whether it tells its bytes, and these before and after the run
-pub record Around : Type 0 where
-  pub tells : Bool
-  pub before : List ℕ
-  pub after : List ℕ
-
--- nothing was written
-abbrev pub IsUnwritten : Around → Type 0
-IsUnwritten out = IsTrue out.tells → out.after ≡ out.before
+-- nothing was written, where the output tells
+abbrev pub IsUnwritten : OutputNow → OutputNow → Type 0
+IsUnwritten old new = IsTrue old.tells → new.written ≡ old.written
 
 -- a fault before the first report left the output unwritten
-abbrev pub IsUnwrittenBefore : Around → RunFault → Type 0
-IsUnwrittenBefore out Memory = ⊤
-IsUnwrittenBefore out (Callers count) = IsUnwritten out
-IsUnwrittenBefore out (File host fault) = IsUnwritten out
-IsUnwrittenBefore out (Asker caller fault) = IsUnwritten out
-IsUnwrittenBefore out Write = ⊤
+abbrev pub IsUnwrittenBefore : OutputNow → OutputNow → RunFault → Type 0
+IsUnwrittenBefore old new Memory = ⊤
+IsUnwrittenBefore old new (Callers count) = IsUnwritten old new
+IsUnwrittenBefore old new (File host fault) = IsUnwritten old new
+IsUnwrittenBefore old new (Asker caller fault) = IsUnwritten old new
+IsUnwrittenBefore old new Write = ⊤
 
 -- what a fault shows of the sources
-abbrev pub IsCause : List Told → Around → RunFault → Type 0
-IsCause inputs out Memory = IsUnwritten out ⊎ All IsGood inputs
-IsCause inputs out (Callers count) = ⊤
-IsCause inputs out (File host fault) = IsFirstFault inputs host fault
-IsCause inputs out (Asker caller fault) = All IsGood inputs
-IsCause inputs out Write = All IsGood inputs
+abbrev pub IsCause : List Told → OutputNow → OutputNow → RunFault → Type 0
+IsCause inputs old new Memory = IsUnwritten old new ⊎ All IsGood inputs
+IsCause inputs old new (Callers count) = ⊤
+IsCause inputs old new (File host fault) = IsFirstFault inputs host fault
+IsCause inputs old new (Asker caller fault) = All IsGood inputs
+IsCause inputs old new Write = All IsGood inputs
 
 -- so many callers are refused: there are none, or more than a desk has passes
 abbrev pub IsWrongNumber : ℕ → Type 0
@@ -149,26 +143,26 @@ failed_writes (Err Write) = 1
 failed_writes (Err fault) = 0
 
 -- a whole run over sources that tell their bytes
-pub record IsReported (job : Job) (out : Around) (inputs : List Told) : Type 0 where
+pub record IsReported (job : Job) (old new : OutputNow) (inputs : List Told) : Type 0 where
   pub good : All IsGood inputs
-  pub written : IsTrue out.tells → out.after ≡ out.before ++ output_told job inputs
+  pub written : IsTrue old.tells → new.written ≡ old.written ++ output_told job inputs
 
--- what is so of a run that answers `Ok`
-pub record IsWholeRun {I : Type 0} (to_come : I → Option (List ℕ)) (job : Job) (sources : List (Source I)) (out : Around) : Type 0 where
+-- what is so of a run that answers `Ok`, by the output before and after it
+pub record IsWholeRun {I : Type 0} (to_come : I → Option (List ℕ)) (job : Job) (sources : List (Source I)) (old new : OutputNow) : Type 0 where
   pub some : 0 < length sources + job.askers
   pub few : length sources + job.askers ≤ sessions.HOST_LIMIT
-  pub told : (inputs : List Told) → Tell to_come sources inputs → IsReported job out inputs
+  pub told : (inputs : List Told) → Tell to_come sources inputs → IsReported job old new inputs
 
 -- a failed run over sources that tell their bytes
-pub record IsCutShort (job : Job) (out : Around) (fault : RunFault) (inputs : List Told) : Type 0 where
-  pub cause : IsCause inputs out fault
-  pub prefix : IsTrue out.tells → AppendsPrefix out.before out.after (output_told job inputs)
+pub record IsCutShort (job : Job) (old new : OutputNow) (fault : RunFault) (inputs : List Told) : Type 0 where
+  pub cause : IsCause inputs old new fault
+  pub prefix : IsTrue old.tells → AppendsPrefix old.written new.written (output_told job inputs)
 
 -- what is so of a run that answers a fault: a read failed only where the input can fail
-pub record IsFailedRun {I : Type 0} (to_come : I → Option (List ℕ)) (can_fail : I → Bool) (job : Job) (sources : List (Source I)) (out : Around) (fault : RunFault) : Type 0 where
+pub record IsFailedRun {I : Type 0} (to_come : I → Option (List ℕ)) (can_fail : I → Bool) (job : Job) (sources : List (Source I)) (old new : OutputNow) (fault : RunFault) : Type 0 where
   pub allowed : IsAllowed (length sources + job.askers) fault
   pub named : IsNamed (length sources) (length sources + job.askers) fault
   pub full : IsFullList sources fault
   pub read : (host : ℕ) → fault ≡ File host feed.Read → (s : Source _) → can_fail (slice_index_or sources host s).input ≡ true
-  pub unwritten : IsUnwrittenBefore out fault
-  pub told : (inputs : List Told) → Tell to_come sources inputs → IsCutShort job out fault inputs
+  pub unwritten : IsUnwrittenBefore old new fault
+  pub told : (inputs : List Told) → Tell to_come sources inputs → IsCutShort job old new fault inputs

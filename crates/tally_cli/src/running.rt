@@ -1,10 +1,10 @@
 //! A run: files are read by several threads into one book, and its reports are printed.
-ghost use Rattle.std.specs.Prelude.{◌≡◌, ◌+◌, ◌-◌, ◌^◌, ◌<◌, ◌≤◌, ◌++◌, IfErr, IfOk, IsTrue, List, OnErr, OnOk, Err, ℕ, true, length, map, slice_index_or};
+ghost use Rattle.std.specs.Prelude.{◌≡◌, ◌+◌, ◌<◌, ◌≤◌, [], IfErr, IfOk, List, OnErr, OnOk, Err, ℕ, true, length, map, slice_index_or};
 ghost use Rattle.std.specs.List.{All};
 ghost use Rattle.tally_book.specs.Books.{IsLegal};
 ghost use Rattle.tally_desk.specs.Passes.{HasDone, Stands, first_passes};
 ghost use Rattle.tally_desk.specs.declared.fault.FeedFault.TheVariants as feed_fault_of;
-ghost use Rattle.tally_print.specs.Output.{AppendsPrefix};
+ghost use Rattle.tally_print.specs.Output.{IsWritable, Prints};
 ghost use Rattle.tally_cli.specs.Runs.{IsReadable, IsAllowed, IsFailedRun, IsFullList, IsNamed, IsWholeRun, IsWrongNumber, Tell, Told, callers_fault, failed_writes};
 ghost use Rattle.tally_cli.specs.Output.{report_text};
 ghost use Rattle.tally_cli.specs.Jobs.{IsRunnable};
@@ -186,27 +186,22 @@ fn report<O: Output>(
     requires few { book.callers ≤ HOST_LIMIT }
     requires some { 0 < book.callers }
     requires calls { length book.calls ≤ 4224 }
-    requires failures { O.failures out.old < 2 ^ 64 - 1 }
-    ensures prefix { IsTrue (O.tells out.old) → AppendsPrefix (O.written out.old) (O.written out.new)
+    requires writable { IsWritable (O.state out.old) }
+    ensures writes { Prints (O.state out.old) (O.state out.new) result (failed_writes result)
         (report_text job.now kinds.now book.logins book.procs) }
-    ensures ok { OnOk result (IsTrue (O.tells out.old) → O.written out.new
-        ≡ O.written out.old ++ report_text job.now kinds.now book.logins book.procs) }
     ensures cause { IfErr result IsPrintFault }
-    ensures counts { O.failures out.new ≡ O.failures out.old + failed_writes result }
-    ensures tells { O.tells out.new ≡ O.tells out.old }
 {
     let questions = questions_of(alloc, job, kinds)?;
     let answers = answers_to(alloc, book, questions.as_slice())?;
-    print_answers(alloc, job, answers.as_slice(), out)
+    print_answers(alloc, job, answers.as_slice(), out)?;
+    Ok(())
 }
 
 /// Sees that what was written arrives.
 fn finish<O: Output>(out: &mut O) -> Result<(), RunFault>
-    requires { O.failures out.old < 2 ^ 64 - 1 }
-    ensures written { IsTrue (O.tells out.old) → O.written out.new ≡ O.written out.old }
+    requires { IsWritable (O.state out.old) }
+    ensures writes { Prints (O.state out.old) (O.state out.new) result (failed_writes result) [] }
     ensures cause { IfErr result (λ f. f ≡ RunFault.Write) }
-    ensures counts { O.failures out.new ≡ O.failures out.old + failed_writes result }
-    ensures tells { O.tells out.new ≡ O.tells out.old }
 {
     match out.finish() {
         Ok(()) => Ok(()),
@@ -228,15 +223,13 @@ pub fn run<R: Threads + Wait + Sync, I: Input + Send, G: Gate + Sync, O: Output>
 ) -> Result<(), RunFault>
     requires runnable { IsRunnable job.now }
     requires readable { All (IsReadable I.failures) sources.items }
-    requires writable { O.failures out.old < 2 ^ 64 - 1 }
-    ensures whole { OnOk result (IsWholeRun I.to_come job.now sources.items
-        (record { tells = O.tells out.old; before = O.written out.old; after = O.written out.new })) }
-    ensures failed { IfErr result (IsFailedRun I.to_come I.can_fail job.now sources.items
-        (record { tells = O.tells out.old; before = O.written out.old; after = O.written out.new })) }
+    requires writable { IsWritable (O.state out.old) }
+    ensures whole { OnOk result (IsWholeRun I.to_come job.now sources.items (O.state out.old) (O.state out.new)) }
+    ensures failed { IfErr result (IsFailedRun I.to_come I.can_fail job.now sources.items (O.state out.old) (O.state out.new)) }
     ensures callers { IsWrongNumber (length sources.items + job.now.askers)
         → result ≡ Err (callers_fault (length sources.items + job.now.askers)) }
-    ensures counts { O.failures out.new ≡ O.failures out.old + failed_writes result }
-    ensures tells { O.tells out.new ≡ O.tells out.old }
+    ensures counts { (O.state out.new).failures ≡ (O.state out.old).failures + failed_writes result }
+    ensures tells { (O.state out.new).tells ≡ (O.state out.old).tells }
 {
     let callers = callers_of(sources.len(), job.askers)?;
     let kinds = kinds_of(alloc, sources.as_slice())?;

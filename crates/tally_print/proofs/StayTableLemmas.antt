@@ -1,5 +1,5 @@
 -- The text of a row of a stay.
-use Rattle.std.proofs.Common.{◌≡◌, ℕ, ℤ, ◌+◌, ◌∷◌, ◌++◌, List, [], refl, ◌∙◌, ap, map, pos, ◌+ℤ◌, ◌*ℤ◌, ◌/◌, ◌%◌, arith, inl, inr, subst}
+use Rattle.std.proofs.Common.{◌≡◌, ℕ, ℤ, ◌+◌, ◌∷◌, ◌++◌, List, [], refl, ◌∙◌, ap, pos, ◌+ℤ◌, ◌*ℤ◌, ◌/◌, ◌%◌, arith, inl, inr}
 use Rattle.std.specs.Prelude.{decimal, int_le, unsigned_abs, codes}
 use Rattle.std.specs.Fmt.{signed_decimal}
 use Rattle.std.specs.Int.{int_div_euclid, int_rem_euclid}
@@ -9,8 +9,7 @@ use Rattle.std.proofs.lemmas.Grind.{flat_map-append}
 use Rattle.csv.specs.Writing.{default_writer, field_text, row_text}
 use Rattle.tally_sessions.specs.declared.entry.Stay.{Stay}
 use Rattle.tally_print.specs.StayTable.{end_fields, end_word, iso_moment, line_field, start_fields, stay_fields, user_field, who_fields, zone}
-use Rattle.tally_print.specs.Output.{AppendsPrefix}
-use Rattle.tally_print.specs.Tables.{Row, csv_text}
+use Rattle.tally_print.specs.Tables.{Row}
 use Rattle.tally_print.specs.inside.Tables.{before_last}
 use Rattle.tally_print.specs.Text.{clock, shown, two}
 use Rattle.tally_print.proofs.PlainLemmas.{IsPlain, number_as_field, number_shows, plain_cons, plain_date_before, plain_field, plain_two, signed_as_field}
@@ -79,10 +78,3 @@ pub stay_row_text : (line : List ℕ) (offset : ℤ) (stay : Stay)
     ++ (decimal stay.length ++ 10 ∷ []) ≡ line ++ row_text default_writer (stay_fields offset stay)
 stay_row_text line offset stay =
     rw (joined offset stay, who_text stay, start_text offset stay, ending_text offset stay) (five_parts line _ _ _ _)
-
--- equal offsets give one text
-pub prefix_at : (a b : ℤ) → a ≡ b → (stays : List Stay) (old new : List ℕ) → AppendsPrefix old new (csv_text (map (stay_fields a) stays)) → AppendsPrefix old new (csv_text (map (stay_fields b) stays))
-prefix_at a b e stays old new p = subst (λ (x : ℤ). AppendsPrefix old new (csv_text (map (stay_fields x) stays))) e p
-
-pub written_at : (a b : ℤ) → a ≡ b → (stays : List Stay) (old new : List ℕ) → new ≡ old ++ csv_text (map (stay_fields a) stays) → new ≡ old ++ csv_text (map (stay_fields b) stays)
-written_at a b e stays old new p = subst (λ (x : ℤ). new ≡ old ++ csv_text (map (stay_fields x) stays)) e p

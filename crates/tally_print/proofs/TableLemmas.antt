@@ -1,6 +1,5 @@
 -- What a table's text reads back as.
-use Rattle.std.proofs.Common.{◌≡◌, ℕ, Bool, zero, suc, List, [], ◌∷◌, ◌++◌, ◌∙◌, ◌+◌, ◌≤◌, refl, sym, ap, map, length, flat_map, arith, length-append, drop}
-use Rattle.std.proofs.lemmas.List.{append-nil, append_assoc, at_drop_all}
+use Rattle.std.proofs.Common.{◌≡◌, ℕ, zero, suc, List, [], ◌∷◌, ◌++◌, ◌∙◌, ◌+◌, ◌≤◌, refl, ap, map, length, flat_map, arith, length-append}
 use Rattle.std.proofs.lemmas.Grind.{flat_map-append}
 use Rattle.csv.specs.Machine.{next_record}
 use Rattle.csv.specs.Reading.{default_config, records, records_from}
@@ -8,8 +7,6 @@ use Rattle.csv.specs.Writing.{default_writer, read_back, row_text}
 use Rattle.csv.specs.declared.parser.State.TheVariants as st
 use Rattle.csv.proofs.RoundTrip.{read-write}
 use Rattle.tally_print.specs.Tables.{Row, csv_text}
-use Rattle.tally_print.specs.Output.{AppendsPrefix}
-use Rattle.tally_print.proofs.PageLemmas.{IsBefore, IsPrinting, first_row}
 
 -- no text has no record, however many are looked for
 records_of_nothing : (n : ℕ) → records_from default_config n st.StartRecord [] ≡ []
@@ -40,37 +37,12 @@ pub reads_back : (rows : List Row) → records default_config (csv_text rows) �
 reads_back rows = reads_rows rows (length (csv_text rows) + 1) (omega (arith, no_fewer_bytes rows))
 
 -- a table's text is a line for the header and one for each row
-lines_of : {X : Type 0} (fields : X → Row) (rows : List X) → csv_text (map fields rows) ≡ flat_map (λ x. row_text default_writer (fields x)) rows
+pub lines_of : {X : Type 0} (fields : X → Row) (rows : List X) → csv_text (map fields rows) ≡ flat_map (λ x. row_text default_writer (fields x)) rows
 lines_of fields [] = refl
 lines_of fields (x ∷ xs) = ap (λ (t : List ℕ). row_text default_writer (fields x) ++ t) (lines_of fields xs)
-
--- an empty page, and then the lines of the rows
-pub rows_on_page : {X : Type 0} (fields : X → Row) (rows : List X) (page : List ℕ) → page ≡ [] → page ++ flat_map (λ x. row_text default_writer (fields x)) rows ≡ csv_text (map fields rows)
-rows_on_page fields rows page e =
-    ap (λ (t : List ℕ). t ++ flat_map (λ x. row_text default_writer (fields x)) rows) e ∙ sym (lines_of fields rows)
-
--- a table before its first row
-pub rows_start : {X : Type 0} (fields : X → Row) (rows : List X) (tells : Bool) (old : List ℕ) (failures : ℕ) (page : List ℕ) → page ≡ [] → IsBefore (λ x. row_text default_writer (fields x)) rows [] (csv_text (map fields rows)) tells old failures tells old failures page 0
-rows_start fields rows tells old failures page e =
-    first_row (λ x. row_text default_writer (fields x)) rows [] (csv_text (map fields rows)) tells old failures page e (lines_of fields rows ∙ sym (append-nil (flat_map (λ x. row_text default_writer (fields x)) rows)))
 
 -- the rows of several lists, list by list
 pub rows_of_all : {X : Type 0} (rows_of : X → List Row) (xs : List X) → csv_text (flat_map rows_of xs) ≡ flat_map (λ x. csv_text (rows_of x)) xs
 rows_of_all rows_of [] = refl
 rows_of_all rows_of (x ∷ xs) =
     flat_map-append (row_text default_writer) (rows_of x) (flat_map rows_of xs) ∙ ap (λ (t : List ℕ). csv_text (rows_of x) ++ t) (rows_of_all rows_of xs)
-
--- a first part of a text's second part, after the whole first
-pub prefix_second : (old mid new a b : List ℕ) → mid ≡ old ++ a → AppendsPrefix mid new b → AppendsPrefix old new (a ++ b)
-prefix_second old mid new a b e p = record {
-  front = a ++ p.front;
-  rest = p.rest;
-  appended = p.appended ∙ rw e (append_assoc old a p.front);
-  whole = rw p.whole (sym (append_assoc a p.front p.rest));
-}
-
--- the last row is on the page
-pub table_end : {X : Type 0} (line : X → List ℕ) (rows : List X) (i : ℕ) (old now page text : List ℕ) → length rows ≤ i → IsPrinting old now page (flat_map line (drop i rows) ++ []) text → IsPrinting old now page [] text
-table_end line rows i old now page text done p =
-    let none : flat_map line (drop i rows) ≡ [] = at_drop_all (flat_map line) rows i done in
-    record { front = p.front; appended = p.appended; whole = p.whole ∙ rw none refl }

@@ -6,6 +6,7 @@ use Rattle.tally_print.specs.ConnectText.{connect_line}
 use Rattle.tally_print.specs.Text.{shown, shown_byte, left, right, hours, minutes, clock, span}
 use Rattle.tally_print.specs.UsageText.{columns}
 use Rattle.csv.specs.Writing.{escaped, fields_text, is_blank}
+use Rattle.tally_print.specs.Sections.{sections}
 use Rattle.tally_print.specs.StayTable.{zone}
 use Rattle.tally_print.specs.Tables.{csv_text}
 
@@ -60,3 +61,7 @@ zones = refl
 quoted_row : csv_text ((codes "a,b" ∷ (34 ∷ []) ∷ [] ∷ codes "x y" ∷ []) ∷ []) ≡ 34 ∷ (codes "a,b" ++ 34 ∷ 44 ∷ 34 ∷ 34 ∷ 34 ∷ 34 ∷ 44 ∷ 44 ∷ (codes "x y" ++ 10 ∷ []))
 unfolding escaped fields_text is_blank
 quoted_row = refl
+
+-- an empty line stands between two sections, and around none
+gaps : sections (codes "a\n" ∷ codes "b\n" ∷ codes "c\n" ∷ []) ∷ sections (codes "a\n" ∷ []) ∷ sections [] ∷ [] ≡ codes "a\n\nb\n\nc\n" ∷ codes "a\n" ∷ [] ∷ []
+gaps = refl

@@ -1,8 +1,7 @@
-ghost use Rattle.std.specs.Prelude.{◌≡◌, ◌+◌, ◌-◌, ◌^◌, ◌<◌, ◌++◌, IsTrue, OnOk};
 ghost use Rattle.tally_book.specs.Answers.{HasDays};
 ghost use Rattle.tally_print.specs.AnswerText.{answer_text};
 ghost use Rattle.tally_sessions.specs.Days.{IsOffset};
-ghost use Rattle.tally_print.specs.Output.{AppendsPrefix, failed_calls};
+ghost use Rattle.tally_print.specs.Output.{IsWritable, Prints, failed_calls};
 
 use crate::{Output, PrintFault, print_commands, print_connect, print_last, print_users};
 use std::alloc::Global;
@@ -18,15 +17,11 @@ pub fn print_answer<O: Output>(
     out: &mut O,
     until: Option<i32>,
 ) -> Result<(), PrintFault>
-    requires failures { O.failures out.old < 2 ^ 64 - 1 }
+    requires writable { IsWritable (O.state out.old) }
     requires offset { IsOffset offset }
     requires days { HasDays answer.now }
-    ensures prefix { IsTrue (O.tells out.old)
-        → AppendsPrefix (O.written out.old) (O.written out.new) (answer_text answer.now offset until) }
-    ensures ok { OnOk result (IsTrue (O.tells out.old)
-        → O.written out.new ≡ O.written out.old ++ answer_text answer.now offset until) }
-    ensures counts { O.failures out.new ≡ O.failures out.old + failed_calls result }
-    ensures tells { O.tells out.new ≡ O.tells out.old }
+    ensures writes { Prints (O.state out.old) (O.state out.new) result (failed_calls result)
+        (answer_text answer.now offset until) }
 {
     match answer {
         Answer::Last { rows, first } => {

@@ -1,7 +1,7 @@
-ghost use Rattle.std.specs.Prelude.{◌≡◌, ◌+◌, ◌-◌, ◌^◌, ◌<◌, ◌++◌, All, IfSome, IsTrue, None, OnOk};
+ghost use Rattle.std.specs.Prelude.{◌≡◌, ◌++◌, All, IfSome, None, OnOk};
 ghost use Rattle.tally_book.specs.Answers.{HasDay};
 ghost use Rattle.tally_sessions.specs.Days.{IsDay};
-ghost use Rattle.tally_print.specs.Output.{AppendsPrefix, failed_calls};
+ghost use Rattle.tally_print.specs.Output.{IsWritable, Prints, failed_calls};
 ghost use Rattle.tally_print.specs.Text.{left};
 ghost use Rattle.tally_print.specs.ConnectText.{day_column, user_column, connect_line, connect_text};
 
@@ -81,14 +81,10 @@ pub fn print_connect<O: Output>(
     total: u64,
     out: &mut O,
 ) -> Result<(), PrintFault>
-    requires failures { O.failures out.old < 2 ^ 64 - 1 }
+    requires writable { IsWritable (O.state out.old) }
     requires days { All HasDay rows.now }
-    ensures prefix { IsTrue (O.tells out.old)
-        → AppendsPrefix (O.written out.old) (O.written out.new) (connect_text rows.now total) }
-    ensures ok { OnOk result (IsTrue (O.tells out.old)
-        → O.written out.new ≡ O.written out.old ++ connect_text rows.now total) }
-    ensures counts { O.failures out.new ≡ O.failures out.old + failed_calls result }
-    ensures tells { O.tells out.new ≡ O.tells out.old }
+    ensures writes { Prints (O.state out.old) (O.state out.new) result (failed_calls result)
+        (connect_text rows.now total) }
 {
     let mut page = new_page(alloc)?;
     put_lines(&mut page, &ConnectLine, rows, out)?;

@@ -1,18 +1,15 @@
 //! Connect times as CSV.
-ghost use Rattle.std.specs.Prelude.{◌≡◌, ◌+◌, ◌-◌, ◌^◌, ◌<◌, ◌++◌, ◌∷◌, [], All, IfSome, IsTrue, OnOk, decimal, map};
+ghost use Rattle.std.specs.Prelude.{◌≡◌, ◌++◌, ◌∷◌, [], IfSome, OnOk, decimal, refl};
 ghost use Rattle.csv.specs.Writing.{default_writer, row_text};
 ghost use Rattle.tally_book.specs.Answers.{HasDay};
 ghost use Rattle.tally_sessions.specs.Days.{IsDay};
 ghost use Rattle.tally_print.specs.ConnectTable.{connect_fields, connect_header, day_field, user_field};
-ghost use Rattle.tally_print.specs.Output.{AppendsPrefix, failed_calls};
-ghost use Rattle.tally_print.specs.Tables.{asked, csv_text};
+ghost use Rattle.tally_print.specs.Tables.{asked};
 ghost use Rattle.tally_print.specs.inside.Tables.{before_last};
 
 use crate::fields::{push_date_field, push_number, push_shown_field};
-use crate::lines::{Line, print_lines};
-use crate::put::new_page;
-use crate::{Output, PrintFault};
-use std::alloc::{AllocError, Global};
+use crate::lines::{Fields, Line};
+use std::alloc::AllocError;
 use tally_book::ConnectRow;
 use tally_records::Name;
 
@@ -67,9 +64,9 @@ fn push_row(
 
 /// The fields of a connect time that are asked for.
 #[derive(Drop)]
-struct ConnectFields {
-    by_day: bool,
-    by_user: bool,
+pub(crate) struct ConnectFields {
+    pub(crate) by_day: bool,
+    pub(crate) by_user: bool,
 }
 
 impl Line<ConnectRow> for ConnectFields {
@@ -80,6 +77,12 @@ impl Line<ConnectRow> for ConnectFields {
     fn push(&self, page: &mut Vec<u8>, row: &ConnectRow) -> Result<(), AllocError> {
         push_row(page, self.by_day, self.by_user, row)
     }
+}
+
+impl Fields<ConnectRow> for ConnectFields {
+    ghost fields = { λ asked row. connect_fields asked.by_day asked.by_user row };
+
+    ghost line_is = { λ _ _. refl };
 }
 
 /// The names of the columns that are asked for.
@@ -93,26 +96,4 @@ pub(crate) fn connect_header(by_day: bool, by_user: bool) -> &'static [u8]
         (false, true) => b"user,seconds\n",
         (false, false) => b"seconds\n",
     }
-}
-
-/// Prints a row for each connect time, with the columns that are asked for. `Write` is a failure
-/// of the output in this call; a first part of the text was written then.
-pub(crate) fn print_connect_rows<O: Output>(
-    alloc: Global,
-    by_day: bool,
-    by_user: bool,
-    rows: &[ConnectRow],
-    out: &mut O,
-) -> Result<(), PrintFault>
-    requires failures { O.failures out.old < 2 ^ 64 - 1 }
-    requires days { All HasDay rows.now }
-    ensures prefix { IsTrue (O.tells out.old) → AppendsPrefix (O.written out.old) (O.written out.new)
-        (csv_text (map (connect_fields by_day by_user) rows.now)) }
-    ensures ok { OnOk result (IsTrue (O.tells out.old) → O.written out.new
-        ≡ O.written out.old ++ csv_text (map (connect_fields by_day by_user) rows.now)) }
-    ensures counts { O.failures out.new ≡ O.failures out.old + failed_calls result }
-    ensures tells { O.tells out.new ≡ O.tells out.old }
-{
-    let fields = ConnectFields { by_day, by_user };
-    print_lines(new_page(alloc)?, &fields, rows, out)
 }

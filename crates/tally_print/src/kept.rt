@@ -40,11 +40,7 @@ impl Kept {
 }
 
 impl Output for Kept {
-    ghost written = { λ kept. kept.written };
-
-    ghost tells = { λ _. true };
-
-    ghost failures = { λ kept. kept.failures };
+    ghost state = { λ kept. record { tells = true; written = kept.written; failures = kept.failures } };
 
     fn put(&mut self, bytes: &[u8]) -> Result<usize, OutputFault> {
         match self.bytes.extend_from_slice(bytes) {

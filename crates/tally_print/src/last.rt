@@ -1,11 +1,12 @@
-ghost use Rattle.std.specs.Prelude.{◌≡◌, ◌+◌, ◌-◌, ◌^◌, ◌<◌, ◌++◌, IsTrue, OnOk, codes, if◌then◌else◌};
+ghost use Rattle.std.specs.Prelude.{◌≡◌, ◌++◌, OnOk, codes, if◌then◌else◌, ⊤};
 ghost use Rattle.tally_sessions.specs.Days.{IsOffset};
-ghost use Rattle.tally_print.specs.Output.{AppendsPrefix, failed_calls};
+ghost use Rattle.tally_print.specs.Output.{IsWritable, Prints, failed_calls};
 ghost use Rattle.tally_print.specs.Text.{left, moment, span};
 ghost use Rattle.tally_print.specs.LastText.{user_column, line_column, ending, still_ending, still_words, beginning, stay_line, last_text};
 
 use crate::date::push_moment;
-use crate::put::{new_page, put_all, turn_page};
+use crate::lines::{Line, put_lines};
+use crate::put::{new_page, put_all};
 use crate::text::{push_left, push_left_shown, push_span};
 use crate::{Output, PrintFault};
 use std::alloc::{AllocError, Global};
@@ -146,6 +147,24 @@ fn push_beginning(line: &mut Vec<u8>, first: Option<i32>, offset: i32) -> Result
     }
 }
 
+/// The line of a stay.
+#[derive(Drop)]
+struct StayLine {
+    offset: i32,
+    until: Option<i32>,
+    ghost in_range: { IsOffset offset },
+}
+
+impl Line<Stay> for StayLine {
+    ghost prints = { λ _. ⊤ };
+
+    ghost text = { λ line stay. stay_line line.offset line.until stay };
+
+    fn push(&self, page: &mut Vec<u8>, stay: &Stay) -> Result<(), AllocError> {
+        push_stay(page, stay, self.offset, self.until)
+    }
+}
+
 /// Prints stays as last(1) does: a line for each, then the time of the host's first record, all
 /// at an offset in minutes east of UTC. Where stays that nothing has ended were counted up to a
 /// moment, their lines have their span. `Write` is a failure of the output in this call; a first
@@ -158,20 +177,13 @@ pub fn print_last<O: Output>(
     out: &mut O,
     until: Option<i32>,
 ) -> Result<(), PrintFault>
-    requires failures { O.failures out.old < 2 ^ 64 - 1 }
+    requires writable { IsWritable (O.state out.old) }
     requires offset_in_range { IsOffset offset }
-    ensures prefix { IsTrue (O.tells out.old)
-        → AppendsPrefix (O.written out.old) (O.written out.new) (last_text rows.now first offset until) }
-    ensures ok { OnOk result (IsTrue (O.tells out.old)
-        → O.written out.new ≡ O.written out.old ++ last_text rows.now first offset until) }
-    ensures counts { O.failures out.new ≡ O.failures out.old + failed_calls result }
-    ensures tells { O.tells out.new ≡ O.tells out.old }
+    ensures writes { Prints (O.state out.old) (O.state out.new) result (failed_calls result)
+        (last_text rows.now first offset until) }
 {
     let mut page = new_page(alloc)?;
-    for row in rows {
-        push_stay(&mut page, row, offset, until)?;
-        turn_page(&mut page, out)?;
-    }
+    put_lines(&mut page, &StayLine { offset, until }, rows, out)?;
     push_beginning(&mut page, first, offset)?;
     put_all(page.as_slice(), out)
 }

@@ -1,10 +1,13 @@
 //! A line for each row, page by page.
-ghost use Rattle.std.specs.Prelude.{◌≡◌, ◌+◌, ◌-◌, ◌^◌, ◌<◌, ◌++◌, All, IsTrue, List, OnOk, flat_map, ℕ};
-ghost use Rattle.tally_print.specs.Output.{AppendsPrefix, failed_calls};
+ghost use Rattle.std.specs.Prelude.{◌≡◌, ◌++◌, All, List, OnOk, flat_map, map, ℕ};
+ghost use Rattle.csv.specs.Writing.{default_writer, row_text};
+ghost use Rattle.tally_print.specs.Output.{IsWritable, Prints, failed_calls};
+ghost use Rattle.tally_print.specs.Tables.{Row, csv_text};
+ghost use Rattle.tally_print.specs.inside.Pages.{Fills};
 
-use crate::put::{put_all, turn_page};
+use crate::put::{new_page, put_all, turn_page};
 use crate::{Output, PrintFault};
-use std::alloc::AllocError;
+use std::alloc::{AllocError, Global};
 
 /// How a row is printed.
 pub(crate) trait Line<X> {
@@ -20,6 +23,15 @@ pub(crate) trait Line<X> {
         ensures { OnOk result (page.new.items ≡ page.old.items ++ text self.now row.now) };
 }
 
+/// A line that is a row of a table.
+pub(crate) trait Fields<X>: Line<X> {
+    // The fields of a row.
+    ghost fields: { Self → X → Row };
+
+    // They are what its line says.
+    ghost line_is: { (self : Self) (row : X) → Self.text self row ≡ row_text default_writer (fields self row) };
+}
+
 /// Appends a line for each row to the page, which is written out each time that it is full.
 pub(crate) fn put_lines<X, L: Line<X>, O: Output>(
     page: &mut Vec<u8>,
@@ -27,14 +39,10 @@ pub(crate) fn put_lines<X, L: Line<X>, O: Output>(
     rows: &[X],
     out: &mut O,
 ) -> Result<(), PrintFault>
-    requires failures { O.failures out.old < 2 ^ 64 - 1 }
+    requires writable { IsWritable (O.state out.old) }
     requires printed { All L.prints rows.now }
-    ensures prefix { IsTrue (O.tells out.old) → AppendsPrefix (O.written out.old) (O.written out.new)
+    ensures fills { Fills (O.state out.old) (O.state out.new) result (failed_calls result) page.new.items
         (page.old.items ++ flat_map (L.text line.now) rows.now) }
-    ensures ok { OnOk result (IsTrue (O.tells out.old) → O.written out.new ++ page.new.items
-        ≡ O.written out.old ++ (page.old.items ++ flat_map (L.text line.now) rows.now)) }
-    ensures counts { O.failures out.new ≡ O.failures out.old + failed_calls result }
-    ensures tells { O.tells out.new ≡ O.tells out.old }
 {
     for row in rows {
         line.push(page, row)?;
@@ -50,15 +58,26 @@ pub(crate) fn print_lines<X, L: Line<X>, O: Output>(
     rows: &[X],
     out: &mut O,
 ) -> Result<(), PrintFault>
-    requires failures { O.failures out.old < 2 ^ 64 - 1 }
+    requires writable { IsWritable (O.state out.old) }
     requires printed { All L.prints rows.now }
-    ensures prefix { IsTrue (O.tells out.old) → AppendsPrefix (O.written out.old) (O.written out.new)
+    ensures writes { Prints (O.state out.old) (O.state out.new) result (failed_calls result)
         (page.items ++ flat_map (L.text line.now) rows.now) }
-    ensures ok { OnOk result (IsTrue (O.tells out.old) → O.written out.new
-        ≡ O.written out.old ++ (page.items ++ flat_map (L.text line.now) rows.now)) }
-    ensures counts { O.failures out.new ≡ O.failures out.old + failed_calls result }
-    ensures tells { O.tells out.new ≡ O.tells out.old }
 {
     put_lines(&mut page, line, rows, out)?;
     put_all(page.as_slice(), out)
+}
+
+/// Prints a row of a table for each row.
+pub(crate) fn print_fields<X, F: Fields<X>, O: Output>(
+    alloc: Global,
+    fields: &F,
+    rows: &[X],
+    out: &mut O,
+) -> Result<(), PrintFault>
+    requires writable { IsWritable (O.state out.old) }
+    requires printed { All F.Line.prints rows.now }
+    ensures writes { Prints (O.state out.old) (O.state out.new) result (failed_calls result)
+        (csv_text (map (F.fields fields.now) rows.now)) }
+{
+    print_lines(new_page(alloc)?, fields, rows, out)
 }

@@ -1,17 +1,18 @@
 //! A report as one table.
-ghost use Rattle.std.specs.Prelude.{◌≡◌, ◌+◌, ◌-◌, ◌^◌, ◌<◌, ◌++◌, All, IsTrue, OnOk, flat_map, map};
+ghost use Rattle.std.specs.Prelude.{◌≡◌, All, flat_map, map};
 ghost use Rattle.csv.specs.Writing.{default_writer, row_text};
 ghost use Rattle.tally_book.specs.Answers.{HasDay, HasDays};
 ghost use Rattle.tally_sessions.specs.Days.{IsOffset};
-ghost use Rattle.tally_print.specs.Output.{AppendsPrefix, failed_calls};
+ghost use Rattle.tally_print.specs.Output.{IsWritable, Prints, failed_calls};
 ghost use Rattle.tally_print.specs.ReportTable.{answer_rows, connect_rows, header, table_text};
 ghost use Rattle.tally_print.specs.ConnectTable.{connect_fields};
 ghost use Rattle.tally_print.specs.Tables.{csv_text};
 
-use crate::connect_table::{connect_header, print_connect_rows};
+use crate::connect_table::{ConnectFields, connect_header};
+use crate::lines::print_fields;
 use crate::put::put_all;
-use crate::stay_table::{print_stay_rows, stay_header};
-use crate::usage_table::{command_header, print_command_rows, print_user_rows, user_header};
+use crate::stay_table::{StayFields, stay_header};
+use crate::usage_table::{CommandFields, UserFields, command_header, user_header};
 use crate::{Output, PrintFault};
 use std::alloc::Global;
 use tally_book::{Answer, ConnectRow};
@@ -49,24 +50,21 @@ fn print_connect<O: Output>(
     total: u64,
     out: &mut O,
 ) -> Result<(), PrintFault>
-    requires failures { O.failures out.old < 2 ^ 64 - 1 }
+    requires writable { IsWritable (O.state out.old) }
     requires days { All HasDay rows.now }
-    ensures prefix { IsTrue (O.tells out.old) → AppendsPrefix (O.written out.old) (O.written out.new)
+    ensures writes { Prints (O.state out.old) (O.state out.new) result (failed_calls result)
         (csv_text (map (connect_fields by_day by_user) (connect_rows by_day by_user rows.now total))) }
-    ensures ok { OnOk result (IsTrue (O.tells out.old) → O.written out.new
-        ≡ O.written out.old ++ csv_text (map (connect_fields by_day by_user) (connect_rows by_day by_user rows.now total))) }
-    ensures counts { O.failures out.new ≡ O.failures out.old + failed_calls result }
-    ensures tells { O.tells out.new ≡ O.tells out.old }
 {
+    let fields = ConnectFields { by_day, by_user };
     if by_day || by_user {
-        return print_connect_rows(alloc, by_day, by_user, rows, out);
+        return print_fields(alloc, &fields, rows, out);
     }
     let total = ConnectRow {
         day: None,
         user: None,
         seconds: total,
     };
-    print_connect_rows(alloc, false, false, &[total], out)
+    print_fields(alloc, &fields, &[total], out)
 }
 
 /// Prints the rows of an answer.
@@ -77,27 +75,25 @@ fn print_answer_rows<O: Output>(
     offset: i32,
     out: &mut O,
 ) -> Result<(), PrintFault>
-    requires failures { O.failures out.old < 2 ^ 64 - 1 }
+    requires writable { IsWritable (O.state out.old) }
     requires offset { IsOffset offset }
     requires days { HasDays answer.now }
-    ensures prefix { IsTrue (O.tells out.old) → AppendsPrefix (O.written out.old) (O.written out.new)
+    ensures writes { Prints (O.state out.old) (O.state out.new) result (failed_calls result)
         (csv_text (answer_rows table offset answer.now)) }
-    ensures ok { OnOk result (IsTrue (O.tells out.old) → O.written out.new
-        ≡ O.written out.old ++ csv_text (answer_rows table offset answer.now)) }
-    ensures counts { O.failures out.new ≡ O.failures out.old + failed_calls result }
-    ensures tells { O.tells out.new ≡ O.tells out.old }
 {
     match (table, answer) {
         (Table::Stays, Answer::Last { rows, .. }) => {
-            print_stay_rows(alloc, rows.as_slice(), offset, out)
+            print_fields(alloc, &StayFields { offset }, rows.as_slice(), out)
         }
         (Table::Connect { by_day, by_user }, Answer::Connect { rows, total }) => {
             print_connect(alloc, by_day, by_user, rows.as_slice(), *total, out)
         }
         (Table::Commands, Answer::Commands { rows, .. }) => {
-            print_command_rows(alloc, rows.as_slice(), out)
+            print_fields(alloc, &CommandFields, rows.as_slice(), out)
         }
-        (Table::Users, Answer::Users { rows, .. }) => print_user_rows(alloc, rows.as_slice(), out),
+        (Table::Users, Answer::Users { rows, .. }) => {
+            print_fields(alloc, &UserFields, rows.as_slice(), out)
+        }
         _ => Ok(()),
     }
 }
@@ -110,15 +106,11 @@ fn print_rows<O: Output>(
     offset: i32,
     out: &mut O,
 ) -> Result<(), PrintFault>
-    requires failures { O.failures out.old < 2 ^ 64 - 1 }
+    requires writable { IsWritable (O.state out.old) }
     requires offset { IsOffset offset }
     requires days { All HasDays answers.now }
-    ensures prefix { IsTrue (O.tells out.old) → AppendsPrefix (O.written out.old) (O.written out.new)
+    ensures writes { Prints (O.state out.old) (O.state out.new) result (failed_calls result)
         (flat_map (λ answer. csv_text (answer_rows table offset answer)) answers.now) }
-    ensures ok { OnOk result (IsTrue (O.tells out.old) → O.written out.new
-        ≡ O.written out.old ++ flat_map (λ answer. csv_text (answer_rows table offset answer)) answers.now) }
-    ensures counts { O.failures out.new ≡ O.failures out.old + failed_calls result }
-    ensures tells { O.tells out.new ≡ O.tells out.old }
 {
     for answer in answers {
         print_answer_rows(alloc, table, answer, offset, out)?;
@@ -136,15 +128,11 @@ pub fn print_table<O: Output>(
     offset: i32,
     out: &mut O,
 ) -> Result<(), PrintFault>
-    requires failures { O.failures out.old < 2 ^ 64 - 1 }
+    requires writable { IsWritable (O.state out.old) }
     requires offset { IsOffset offset }
     requires days { All HasDays answers.now }
-    ensures prefix { IsTrue (O.tells out.old) → AppendsPrefix (O.written out.old) (O.written out.new)
+    ensures writes { Prints (O.state out.old) (O.state out.new) result (failed_calls result)
         (table_text table offset answers.now) }
-    ensures ok { OnOk result (IsTrue (O.tells out.old) → O.written out.new
-        ≡ O.written out.old ++ table_text table offset answers.now) }
-    ensures counts { O.failures out.new ≡ O.failures out.old + failed_calls result }
-    ensures tells { O.tells out.new ≡ O.tells out.old }
 {
     put_all(header(table), out)?;
     print_rows(alloc, table, answers, offset, out)

@@ -1,19 +1,16 @@
 //! Stays as CSV.
-ghost use Rattle.std.specs.Prelude.{◌≡◌, ◌+◌, ◌-◌, ◌^◌, ◌<◌, ◌++◌, ◌∷◌, [], IsTrue, OnOk, decimal, map};
+ghost use Rattle.std.specs.Prelude.{◌≡◌, ◌+◌, ◌++◌, ◌∷◌, [], OnOk, decimal, ⊤, refl};
 ghost use Rattle.std.specs.Fmt.{signed_decimal};
 ghost use Rattle.csv.specs.Writing.{default_writer, field_text, row_text};
 ghost use Rattle.tally_sessions.specs.Days.{IsOffset};
-ghost use Rattle.tally_print.specs.Output.{AppendsPrefix, failed_calls};
 ghost use Rattle.tally_print.specs.StayTable.{end_word, iso_moment, line_field, stay_fields, stay_header, user_field, zone};
 ghost use Rattle.tally_print.specs.Text.{shown};
-ghost use Rattle.tally_print.specs.Tables.{csv_text};
 
 use crate::date::{day_time, push_date};
 use crate::fields::{push_number, push_shown_field};
-use crate::put::{new_page, put_all, turn_page};
+use crate::lines::{Fields, Line};
 use crate::text::{push_clock, push_two};
-use crate::{Output, PrintFault};
-use std::alloc::{AllocError, Global};
+use std::alloc::AllocError;
 use tally_sessions::{End, Stay};
 
 #[tactic(auto, unfolding(crate::specs::StayTable::zone))]
@@ -173,35 +170,33 @@ fn push_row(line: &mut Vec<u8>, stay: &Stay, offset: i32) -> Result<(), AllocErr
     push_seconds(line, stay)
 }
 
+/// The fields of a stay.
+#[derive(Drop)]
+pub(crate) struct StayFields {
+    pub(crate) offset: i32,
+    ghost in_range: { IsOffset offset },
+}
+
+impl Line<Stay> for StayFields {
+    ghost prints = { λ _. ⊤ };
+
+    ghost text = { λ fields stay. row_text default_writer (stay_fields fields.offset stay) };
+
+    fn push(&self, page: &mut Vec<u8>, stay: &Stay) -> Result<(), AllocError> {
+        push_row(page, stay, self.offset)
+    }
+}
+
+impl Fields<Stay> for StayFields {
+    ghost fields = { λ fields stay. stay_fields fields.offset stay };
+
+    ghost line_is = { λ _ _. refl };
+}
+
 /// The names of the columns.
 #[tactic(auto, unfolding(crate::specs::StayTable::stay_header, csv::specs::Writing::fields_text, csv::specs::Writing::is_blank))]
 pub(crate) fn stay_header() -> &'static [u8]
     ensures { result.now ≡ row_text default_writer stay_header }
 {
     b"file,user,line,remote,start,start_at,begin,end,end_time,end_at,seconds\n"
-}
-
-/// Prints a row for each stay, with moments at an offset in minutes east of UTC. `Write` is a
-/// failure of the output in this call; a first part of the text was written then.
-pub(crate) fn print_stay_rows<O: Output>(
-    alloc: Global,
-    rows: &[Stay],
-    offset: i32,
-    out: &mut O,
-) -> Result<(), PrintFault>
-    requires failures { O.failures out.old < 2 ^ 64 - 1 }
-    requires offset_in_range { IsOffset offset }
-    ensures prefix { IsTrue (O.tells out.old)
-        → AppendsPrefix (O.written out.old) (O.written out.new) (csv_text (map (stay_fields offset) rows.now)) }
-    ensures ok { OnOk result (IsTrue (O.tells out.old)
-        → O.written out.new ≡ O.written out.old ++ csv_text (map (stay_fields offset) rows.now)) }
-    ensures counts { O.failures out.new ≡ O.failures out.old + failed_calls result }
-    ensures tells { O.tells out.new ≡ O.tells out.old }
-{
-    let mut page = new_page(alloc)?;
-    for row in rows {
-        push_row(&mut page, row, offset)?;
-        turn_page(&mut page, out)?;
-    }
-    put_all(page.as_slice(), out)
 }

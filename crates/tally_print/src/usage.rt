@@ -1,5 +1,5 @@
-ghost use Rattle.std.specs.Prelude.{◌≡◌, ◌+◌, ◌-◌, ◌^◌, ◌<◌, ◌++◌, IsTrue, OnOk, codes, if◌then◌else◌, ⊤};
-ghost use Rattle.tally_print.specs.Output.{AppendsPrefix, failed_calls};
+ghost use Rattle.std.specs.Prelude.{◌≡◌, ◌++◌, OnOk, codes, if◌then◌else◌, ⊤};
+ghost use Rattle.tally_print.specs.Output.{IsWritable, Prints, failed_calls};
 ghost use Rattle.tally_print.specs.UsageText.{average, columns, total_line, command_line, commands_text, named_total_line, user_line, users_text};
 
 use crate::lines::{Line, print_lines};
@@ -123,13 +123,9 @@ pub fn print_commands<O: Output>(
     total: &Usage,
     out: &mut O,
 ) -> Result<(), PrintFault>
-    requires failures { O.failures out.old < 2 ^ 64 - 1 }
-    ensures prefix { IsTrue (O.tells out.old)
-        → AppendsPrefix (O.written out.old) (O.written out.new) (commands_text rows.now total.now) }
-    ensures ok { OnOk result (IsTrue (O.tells out.old)
-        → O.written out.new ≡ O.written out.old ++ commands_text rows.now total.now) }
-    ensures counts { O.failures out.new ≡ O.failures out.old + failed_calls result }
-    ensures tells { O.tells out.new ≡ O.tells out.old }
+    requires writable { IsWritable (O.state out.old) }
+    ensures writes { Prints (O.state out.old) (O.state out.new) result (failed_calls result)
+        (commands_text rows.now total.now) }
 {
     let mut page = new_page(alloc)?;
     push_total(&mut page, total)?;
@@ -144,13 +140,9 @@ pub fn print_users<O: Output>(
     total: &Usage,
     out: &mut O,
 ) -> Result<(), PrintFault>
-    requires failures { O.failures out.old < 2 ^ 64 - 1 }
-    ensures prefix { IsTrue (O.tells out.old)
-        → AppendsPrefix (O.written out.old) (O.written out.new) (users_text rows.now total.now) }
-    ensures ok { OnOk result (IsTrue (O.tells out.old)
-        → O.written out.new ≡ O.written out.old ++ users_text rows.now total.now) }
-    ensures counts { O.failures out.new ≡ O.failures out.old + failed_calls result }
-    ensures tells { O.tells out.new ≡ O.tells out.old }
+    requires writable { IsWritable (O.state out.old) }
+    ensures writes { Prints (O.state out.old) (O.state out.new) result (failed_calls result)
+        (users_text rows.now total.now) }
 {
     let mut page = new_page(alloc)?;
     push_named_total(&mut page, total)?;

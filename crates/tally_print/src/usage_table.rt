@@ -1,16 +1,12 @@
 //! Usage as CSV.
-ghost use Rattle.std.specs.Prelude.{◌≡◌, ◌+◌, ◌-◌, ◌^◌, ◌<◌, ◌++◌, ◌∷◌, [], IsTrue, OnOk, decimal, map, ⊤};
+ghost use Rattle.std.specs.Prelude.{◌≡◌, ◌++◌, ◌∷◌, [], OnOk, decimal, ⊤, refl};
 ghost use Rattle.csv.specs.Writing.{default_writer, field_text, row_text};
-ghost use Rattle.tally_print.specs.Output.{AppendsPrefix, failed_calls};
-ghost use Rattle.tally_print.specs.Tables.{csv_text};
 ghost use Rattle.tally_print.specs.Text.{shown};
 ghost use Rattle.tally_print.specs.UsageTable.{command_fields, command_header, mark_field, user_fields, user_header};
 
 use crate::fields::{push_number, push_shown_field};
-use crate::lines::{Line, print_lines};
-use crate::put::new_page;
-use crate::{Output, PrintFault};
-use std::alloc::{AllocError, Global};
+use crate::lines::{Fields, Line};
+use std::alloc::AllocError;
 use tally_usage::{CommandRow, UidRow, Usage};
 
 fn push_mark(line: &mut Vec<u8>, mark: bool) -> Result<(), AllocError>
@@ -95,7 +91,7 @@ pub(crate) fn user_header() -> &'static [u8]
 }
 
 /// The fields of a command.
-struct CommandFields;
+pub(crate) struct CommandFields;
 
 impl Line<CommandRow> for CommandFields {
     ghost prints = { λ _. ⊤ };
@@ -107,8 +103,14 @@ impl Line<CommandRow> for CommandFields {
     }
 }
 
+impl Fields<CommandRow> for CommandFields {
+    ghost fields = { λ _ row. command_fields row };
+
+    ghost line_is = { λ _ _. refl };
+}
+
 /// The fields of a user.
-struct UserFields;
+pub(crate) struct UserFields;
 
 impl Line<UidRow> for UserFields {
     ghost prints = { λ _. ⊤ };
@@ -120,36 +122,8 @@ impl Line<UidRow> for UserFields {
     }
 }
 
-/// Prints a row for each command.
-pub(crate) fn print_command_rows<O: Output>(
-    alloc: Global,
-    rows: &[CommandRow],
-    out: &mut O,
-) -> Result<(), PrintFault>
-    requires failures { O.failures out.old < 2 ^ 64 - 1 }
-    ensures prefix { IsTrue (O.tells out.old)
-        → AppendsPrefix (O.written out.old) (O.written out.new) (csv_text (map command_fields rows.now)) }
-    ensures ok { OnOk result (IsTrue (O.tells out.old)
-        → O.written out.new ≡ O.written out.old ++ csv_text (map command_fields rows.now)) }
-    ensures counts { O.failures out.new ≡ O.failures out.old + failed_calls result }
-    ensures tells { O.tells out.new ≡ O.tells out.old }
-{
-    print_lines(new_page(alloc)?, &CommandFields, rows, out)
-}
+impl Fields<UidRow> for UserFields {
+    ghost fields = { λ _ row. user_fields row };
 
-/// Prints a row for each user.
-pub(crate) fn print_user_rows<O: Output>(
-    alloc: Global,
-    rows: &[UidRow],
-    out: &mut O,
-) -> Result<(), PrintFault>
-    requires failures { O.failures out.old < 2 ^ 64 - 1 }
-    ensures prefix { IsTrue (O.tells out.old)
-        → AppendsPrefix (O.written out.old) (O.written out.new) (csv_text (map user_fields rows.now)) }
-    ensures ok { OnOk result (IsTrue (O.tells out.old)
-        → O.written out.new ≡ O.written out.old ++ csv_text (map user_fields rows.now)) }
-    ensures counts { O.failures out.new ≡ O.failures out.old + failed_calls result }
-    ensures tells { O.tells out.new ≡ O.tells out.old }
-{
-    print_lines(new_page(alloc)?, &UserFields, rows, out)
+    ghost line_is = { λ _ _. refl };
 }

@@ -65,11 +65,7 @@ impl<W: Write> Writing<W> {
 }
 
 impl<W: Write> Output for Writing<W> {
-    ghost written = { λ _. [] };
-
-    ghost tells = { λ _. false };
-
-    ghost failures = { λ writing. writing.failures };
+    ghost state = { λ writing. record { tells = false; written = []; failures = writing.failures } };
 
     fn put(&mut self, bytes: &[u8]) -> Result<usize, OutputFault>
         requires { self.old.failures < 2 ^ 64 - 1 }

@@ -1,19 +1,15 @@
 //! The two forms of a report: text in sections, and one table in CSV.
-ghost use Rattle.std.specs.Prelude.{◌≡◌, ◌+◌, ◌-◌, ◌^◌, ◌<◌, ◌++◌, IfErr, IsTrue, OnOk};
+ghost use Rattle.std.specs.Prelude.{◌≡◌};
 ghost use Rattle.std.specs.List.{All};
 ghost use Rattle.tally_book.specs.Answers.{HasDays};
-ghost use Rattle.tally_print.specs.Output.{AppendsPrefix};
+ghost use Rattle.tally_print.specs.Output.{IsWritable, Prints, failed_calls};
 ghost use Rattle.tally_sessions.specs.Days.{IsOffset};
 ghost use Rattle.tally_cli.specs.Output.{csv_of, form_text, table_of};
-ghost use Rattle.tally_cli.specs.Runs.{failed_writes};
-ghost use Rattle.tally_cli.specs.inside.RunSteps.{IsPrintFault};
 
-use crate::fault::RunFault;
 use crate::job::{Form, Job, Report};
-use crate::running::sections::print_sections;
 use std::alloc::Global;
 use tally_book::Answer;
-use tally_print::{Output, Table, print_table};
+use tally_print::{Output, PrintFault, Table, print_sections, print_table};
 
 /// The table that a report is as CSV.
 fn table_of(report: Report) -> Option<Table>
@@ -35,22 +31,17 @@ fn print_csv<O: Output>(
     answers: &[Answer],
     offset: i32,
     out: &mut O,
-) -> Result<(), RunFault>
-    requires failures { O.failures out.old < 2 ^ 64 - 1 }
+) -> Result<(), PrintFault>
+    requires writable { IsWritable (O.state out.old) }
     requires offset { IsOffset offset }
     requires days { All HasDays answers.now }
-    ensures prefix { IsTrue (O.tells out.old) → AppendsPrefix (O.written out.old) (O.written out.new)
+    ensures writes { Prints (O.state out.old) (O.state out.new) result (failed_calls result)
         (csv_of table offset answers.now) }
-    ensures ok { OnOk result (IsTrue (O.tells out.old) → O.written out.new
-        ≡ O.written out.old ++ csv_of table offset answers.now) }
-    ensures cause { IfErr result IsPrintFault }
-    ensures counts { O.failures out.new ≡ O.failures out.old + failed_writes result }
-    ensures tells { O.tells out.new ≡ O.tells out.old }
 {
-    if let Some(table) = table {
-        print_table(alloc, table, answers, offset, out)?;
+    match table {
+        Some(table) => print_table(alloc, table, answers, offset, out),
+        None => Ok(()),
     }
-    Ok(())
 }
 
 /// Prints the answers to a job's questions in its form.
@@ -59,20 +50,15 @@ pub(crate) fn print_answers<O: Output>(
     job: &Job,
     answers: &[Answer],
     out: &mut O,
-) -> Result<(), RunFault>
-    requires failures { O.failures out.old < 2 ^ 64 - 1 }
+) -> Result<(), PrintFault>
+    requires writable { IsWritable (O.state out.old) }
     requires offset { IsOffset job.now.offset }
     requires days { All HasDays answers.now }
-    ensures prefix { IsTrue (O.tells out.old) → AppendsPrefix (O.written out.old) (O.written out.new)
+    ensures writes { Prints (O.state out.old) (O.state out.new) result (failed_calls result)
         (form_text job.now.form job.now.report job.now.offset job.now.until answers.now) }
-    ensures ok { OnOk result (IsTrue (O.tells out.old) → O.written out.new ≡ O.written out.old
-        ++ form_text job.now.form job.now.report job.now.offset job.now.until answers.now) }
-    ensures cause { IfErr result IsPrintFault }
-    ensures counts { O.failures out.new ≡ O.failures out.old + failed_writes result }
-    ensures tells { O.tells out.new ≡ O.tells out.old }
 {
     match job.form {
-        Form::Text => print_sections(alloc, answers, job.offset, job.until, out),
+        Form::Text => print_sections(alloc, answers, job.offset, out, job.until),
         Form::Csv => print_csv(alloc, table_of(job.report), answers, job.offset, out),
     }
 }

@@ -1,19 +1,12 @@
-//! The sections of an output: their questions, answers and text.
-ghost use Rattle.std.specs.Prelude.{◌≡◌, ◌+◌, ◌-◌, ◌^◌, ◌<◌, ◌≤◌, ◌++◌, ◌∷◌, [], IfErr, IfOk, IsTrue, OnOk, if◌then◌else◌, is_ok, length, map};
-ghost use Rattle.std.specs.List.{All, flat_map};
+//! The sections of an output: their questions and answers.
+ghost use Rattle.std.specs.Prelude.{◌≡◌, ◌+◌, ◌<◌, ◌≤◌, ◌∷◌, [], IfOk, length, map};
+ghost use Rattle.std.specs.List.{All};
 ghost use Rattle.tally_book.specs.Answers.{HasDays, IsAskable, NamesHostBelow, answer_of};
-ghost use Rattle.tally_print.specs.AnswerText.{answer_text};
-ghost use Rattle.tally_sessions.specs.Days.{IsOffset};
-ghost use Rattle.tally_print.specs.Output.{AppendsPrefix};
-ghost use Rattle.tally_cli.specs.Output.{is_wanted, questions_of, sections, stays_asked};
-ghost use Rattle.tally_cli.specs.Runs.{failed_writes};
-ghost use Rattle.tally_cli.specs.inside.RunSteps.{IsPrintFault};
+ghost use Rattle.tally_cli.specs.Output.{is_wanted, questions_of, stays_asked};
 
-use crate::fault::RunFault;
 use crate::job::{Job, Report};
 use std::alloc::{AllocError, Global};
 use tally_book::{Answer, AskFault, Book, CALL_LIMIT, Question};
-use tally_print::{Output, print_answer};
 use tally_records::{Kind, Memory};
 use tally_sessions::HOST_LIMIT;
 use tally_usage::Order;
@@ -145,94 +138,4 @@ pub(crate) fn answers_to(
         }
     }
     Ok(answers)
-}
-
-/// Writes the end of an empty line.
-fn print_gap<O: Output>(out: &mut O) -> Result<(), RunFault>
-    requires failures { O.failures out.old < 2 ^ 64 - 1 }
-    ensures written { IsTrue (O.tells out.old) → O.written out.new
-        ≡ O.written out.old ++ (if is_ok result then 10 ∷ [] else []) }
-    ensures cause { IfErr result (λ f. f ≡ RunFault.Write) }
-    ensures counts { O.failures out.new ≡ O.failures out.old + failed_writes result }
-    ensures tells { O.tells out.new ≡ O.tells out.old }
-{
-    match out.put(b"\n") {
-        Ok(_) => Ok(()),
-        Err(_) => Err(RunFault::Write),
-    }
-}
-
-/// Prints an answer after an empty line.
-fn print_next<O: Output>(
-    alloc: Global,
-    answer: &Answer,
-    offset: i32,
-    until: Option<i32>,
-    out: &mut O,
-) -> Result<(), RunFault>
-    requires failures { O.failures out.old < 2 ^ 64 - 1 }
-    requires offset { IsOffset offset }
-    requires days { HasDays answer.now }
-    ensures prefix { IsTrue (O.tells out.old) → AppendsPrefix (O.written out.old) (O.written out.new)
-        (10 ∷ answer_text answer.now offset until) }
-    ensures ok { OnOk result (IsTrue (O.tells out.old) → O.written out.new
-        ≡ O.written out.old ++ 10 ∷ answer_text answer.now offset until) }
-    ensures cause { IfErr result IsPrintFault }
-    ensures counts { O.failures out.new ≡ O.failures out.old + failed_writes result }
-    ensures tells { O.tells out.new ≡ O.tells out.old }
-{
-    print_gap(out)?;
-    print_answer(alloc, answer, offset, out, until)?;
-    Ok(())
-}
-
-/// Prints the answers, each after an empty line.
-fn print_others<O: Output>(
-    alloc: Global,
-    answers: &[Answer],
-    offset: i32,
-    until: Option<i32>,
-    out: &mut O,
-) -> Result<(), RunFault>
-    requires failures { O.failures out.old < 2 ^ 64 - 1 }
-    requires offset { IsOffset offset }
-    requires days { All HasDays answers.now }
-    ensures prefix { IsTrue (O.tells out.old) → AppendsPrefix (O.written out.old) (O.written out.new)
-        (flat_map (λ a. 10 ∷ answer_text a offset until) answers.now) }
-    ensures ok { OnOk result (IsTrue (O.tells out.old) → O.written out.new
-        ≡ O.written out.old ++ flat_map (λ a. 10 ∷ answer_text a offset until) answers.now) }
-    ensures cause { IfErr result IsPrintFault }
-    ensures counts { O.failures out.new ≡ O.failures out.old + failed_writes result }
-    ensures tells { O.tells out.new ≡ O.tells out.old }
-{
-    for index in 0..answers.len() {
-        print_next(alloc, &answers[index], offset, until, out)?;
-    }
-    Ok(())
-}
-
-/// Prints the answers, with an empty line between each two.
-pub(crate) fn print_sections<O: Output>(
-    alloc: Global,
-    answers: &[Answer],
-    offset: i32,
-    until: Option<i32>,
-    out: &mut O,
-) -> Result<(), RunFault>
-    requires failures { O.failures out.old < 2 ^ 64 - 1 }
-    requires offset { IsOffset offset }
-    requires days { All HasDays answers.now }
-    ensures prefix { IsTrue (O.tells out.old) → AppendsPrefix (O.written out.old) (O.written out.new)
-        (sections (map (λ a. answer_text a offset until) answers.now)) }
-    ensures ok { OnOk result (IsTrue (O.tells out.old) → O.written out.new
-        ≡ O.written out.old ++ sections (map (λ a. answer_text a offset until) answers.now)) }
-    ensures cause { IfErr result IsPrintFault }
-    ensures counts { O.failures out.new ≡ O.failures out.old + failed_writes result }
-    ensures tells { O.tells out.new ≡ O.tells out.old }
-{
-    let Some((first, others)) = answers.split_first() else {
-        return Ok(());
-    };
-    print_answer(alloc, first, offset, out, until)?;
-    print_others(alloc, others, offset, until, out)
 }

@@ -61,11 +61,7 @@ impl Closing {
 }
 
 impl Output for Closing {
-    ghost written = { λ _. [] };
-
-    ghost tells = { λ _. false };
-
-    ghost failures = { λ out. out.failures };
+    ghost state = { λ out. record { tells = false; written = []; failures = out.failures } };
 
     fn put(&mut self, bytes: &[u8]) -> Result<usize, OutputFault> {
         self.bytes = self.bytes.saturating_add(bytes.len());

@@ -225,11 +225,7 @@ struct Narrow {
 impl Output for Narrow {
     ghost use Rattle.std.specs.Prelude.{[], false};
 
-    ghost written = { λ _. [] };
-
-    ghost tells = { λ _. false };
-
-    ghost failures = { λ out. out.failures };
+    ghost state = { λ out. record { tells = false; written = []; failures = out.failures } };
 
     fn put(&mut self, bytes: &[u8]) -> Result<usize, OutputFault> {
         if self.room == 0 {

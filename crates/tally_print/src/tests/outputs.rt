@@ -19,11 +19,7 @@ struct Narrow {
 }
 
 impl Output for Narrow {
-    ghost written = { λ narrow. narrow.bytes.items };
-
-    ghost tells = { λ _. true };
-
-    ghost failures = { λ narrow. narrow.failures };
+    ghost state = { λ narrow. record { tells = true; written = narrow.bytes.items; failures = narrow.failures } };
 
     fn put(&mut self, bytes: &[u8]) -> Result<usize, OutputFault> {
         let count = self.room.min(self.step).min(bytes.len());

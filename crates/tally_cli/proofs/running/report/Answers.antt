@@ -1,10 +1,10 @@
-use Rattle.std.proofs.Common.{◌∙◌, ◌++◌, ap, arith, length, subst, sym}
-use Rattle.std.proofs.lemmas.Result.{on_ok_weaker}
+use Rattle.std.proofs.Common.{◌∙◌, ap, arith, length, rules, subst, sym}
 use Rattle.std.specs.List.{All}
 use Rattle.tally_book.specs.Answers.{IsAskable, NamesHostBelow}
-use Rattle.tally_print.specs.Output.{AppendsPrefix}
-use Rattle.tally_cli.specs.Output.{form_text}
+use Rattle.tally_print.specs.Output.{Prints}
+use Rattle.tally_print.specs.declared.output.PrintFault.TheVariants as print
 use Rattle.tally_cli.proofs.Asked.{all_questions, question_count, report_is}
+use Rattle.tally_cli.proofs.Reported.{prints_as, prints_from, prints_nothing}
 use Rattle.tally_cli.proofs.running.report.Goals as goal
 
 pub answers_to-requires-clause-askable : goal.answers_to-requires-clause-askable
@@ -26,16 +26,17 @@ answers_to-requires-clause-room g c =
     let job = c.args.job.now in
     omega (arith, ap length (c.as_slice.ensures.value ∙ c.in_ok-questions.ensures), question_count job.report job.offset job.until c.args.kinds.now, c.requires.calls, c.requires.hosts, c.requires.few)
 
-pub returns-clause-prefix : goal.returns-clause-prefix
-returns-clause-prefix g c = λ tells.
-    let job = c.args.job.now in
-    let is = ap (form_text job.form job.report job.offset job.until) c.as_slice-2.ensures.value
-    ∙ report_is job c.args.kinds.now c.as_slice.result.now c.in_ok-answers.answers.items c.args.book.logins c.args.book.procs (c.as_slice.ensures.value ∙ c.in_ok-questions.ensures) c.in_ok-answers.ensures.value in
-    subst (AppendsPrefix (g.O.Output.written c.args.out.now) (g.O.Output.written c.print_answers.new.out)) is (c.print_answers.ensures.prefix tells)
+pub returns-in_err-questions-clause-writes : goal.returns-in_err-questions-clause-writes
+returns-in_err-questions-clause-writes g c = prints_from print.Memory _ (search rules) (prints_nothing _ _)
 
-pub returns-clause-ok : goal.returns-clause-ok
-returns-clause-ok g c =
-    let job = c.args.job.now in
-    let is = ap (form_text job.form job.report job.offset job.until) c.as_slice-2.ensures.value
-    ∙ report_is job c.args.kinds.now c.as_slice.result.now c.in_ok-answers.answers.items c.args.book.logins c.args.book.procs (c.as_slice.ensures.value ∙ c.in_ok-questions.ensures) c.in_ok-answers.ensures.value in
-    on_ok_weaker c.print_answers.result (λ written tells. written tells ∙ ap (λ l. g.O.Output.written c.args.out.now ++ l) is) c.print_answers.ensures.ok
+pub returns-in_err-answers-clause-writes : goal.returns-in_err-answers-clause-writes
+returns-in_err-answers-clause-writes g c = prints_from print.Memory _ (search rules) (prints_nothing _ _)
+
+pub returns-in_err-print_answers-clause-writes : goal.returns-in_err-print_answers-clause-writes
+returns-in_err-print_answers-clause-writes g c =
+    let is = report_is c.args.job.now c.args.kinds.now c.as_slice.result.now c.as_slice-2.result.now c.args.book.logins c.args.book.procs (c.as_slice.ensures.value ∙ c.in_ok-questions.ensures) (c.as_slice-2.ensures.value ∙ c.in_ok-answers.ensures.value) in
+    prints_from c.in_err-print_answers.field-0.0 _ (search rules) (subst (Prints _ _ _ _) is c.in_err-print_answers.ensures.writes)
+
+pub returns-clause-writes : goal.returns-clause-writes
+returns-clause-writes g c =
+    prints_as (report_is c.args.job.now c.args.kinds.now c.as_slice.result.now c.as_slice-2.result.now c.args.book.logins c.args.book.procs (c.as_slice.ensures.value ∙ c.in_ok-questions.ensures) (c.as_slice-2.ensures.value ∙ c.in_ok-answers.ensures.value)) c.in_ok-print_answers.ensures.writes

@@ -1,0 +1,13 @@
+-- The text of several answers: a section for each.
+use Rattle.std.specs.Prelude.{ℕ, ℤ, List, [], ◌∷◌, ◌++◌, Option, flat_map, map}
+use Rattle.tally_book.specs.declared.question.Answer.{Answer}
+use Rattle.tally_print.specs.AnswerText.{answer_text}
+
+-- texts with an empty line between each two
+abbrev pub sections : List (List ℕ) → List ℕ
+sections [] = []
+sections (text ∷ texts) = text ++ flat_map (λ t. 10 ∷ t) texts
+
+-- the sections of answers, at an offset in minutes east of UTC, with the moment that their questions gave
+abbrev pub sections_text : List Answer → ℤ → Option ℤ → List ℕ
+sections_text answers offset until = sections (map (λ answer. answer_text answer offset until) answers)
