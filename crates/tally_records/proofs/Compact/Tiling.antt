@@ -1,7 +1,7 @@
 -- What heads that tile the words say.
 use Rattle.std.proofs.Common.{◌≡◌, ℕ, ◌+◌, ◌*◌, ◌<◌, ◌≤◌, zero, suc, List, [], ◌∷◌, ◌++◌, length, map, take, drop, get_or, slice_get, All, Option, Some, option_map, length-append, refl, sym, ap, subst, ◌∙◌, arith}
 use Rattle.std.proofs.lemmas.List.{length-drop, length-map, drop-append-le, take-append-le, take-append-drop, length-take-le, map-append, take-map}
-use Rattle.std.proofs.lemmas.List.Elements.{All-append, All-map, All-nil, All-take}
+use Rattle.std.proofs.lemmas.List.Elements.{All-append, All-map, All-take}
 use Rattle.std.proofs.lemmas.Option.{get_or_from_slice_get, slice_get-map, slice_get_within}
 use Rattle.std.proofs.Math.Seq.{drop-append-add}
 use Rattle.tally_records.specs.declared.login.LoginRecord.{LoginRecord}
