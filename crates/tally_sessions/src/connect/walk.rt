@@ -27,7 +27,7 @@ impl Place {
 }
 
 impl Sessions {
-    /// Goes on from a place to behind the next session, if there is one more.
+    /// Goes on from a place to the one after the next session, if there is one more.
     pub(crate) fn next_session(
         &self,
         entries: Entries<'_>,
