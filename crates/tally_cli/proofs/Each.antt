@@ -49,14 +49,6 @@ done_set us at u near before done = λ k d l. ⊎_elim
     (λ (apart : k ≢ at). subst (λ (t : Task _). IsDone t.outcome) (sym (get_or-set_other us at k u d apart)) (before k d (omega (arith, l, apart))))
     (cases_eq k at)
 
--- where all were done, there is nothing to explain
-pub explained_all : {I : Type 0} (us : List (Task I)) (at : ℕ) → length us ≤ at → AreDone us at → All (IsExplained us) us
-explained_all us at all before = λ k d l e. absurd (done_tried _ (before k d (omega (arith, l, all))) e)
-
--- nor has one failed
-pub stop_all : {I : Type 0} (us : List (Task I)) (at : ℕ) → length us ≤ at → AreDone us at → StopAtFailure us
-stop_all us at all before = λ j k d l m failed. absurd (done_failed _ (before j d (omega (arith, l, m, all))) failed)
-
 -- the task at a place has failed, and those after it are as they were
 module _ {I : Type 0} (ts us : List (Task I)) (at : ℕ) (u : Task I) (near : at < length ts) (count : length us ≡ length ts)
     (left : (k : ℕ) (d : Task I) → at ≤ k → get_or us k d ≡ get_or ts k d) (before : AreDone us at) (failed : HasFailed u.outcome) where

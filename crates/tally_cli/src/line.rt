@@ -1,21 +1,21 @@
 //! The command line's words read as a job.
-ghost use Rattle.std.specs.Prelude.{◌≡◌, ◌≢◌, ◌⊎◌, ◌≤◌, ◌≤ℤ◌, [], Some, pos, IfOk, IfErr, IfSome, IfNone, IsErr, codes, map, slice_index_or, string_bytes};
-ghost use Rattle.clap.specs.Words.{found_of, kind_of, rows_of, subcommand_rows_of};
-ghost use Rattle.tally_cli.specs.Lines.{Answers, AsksForm, HasNoWord, IsFormOf, Refuses, file_words, met_in, name_of, words_in};
-ghost use Rattle.tally_cli.specs.inside.LineSteps.{IsComplete, IsFaultFor, IsFaultOf, IsHelpFor, IsLineOf, IsMemoryOrUsage};
-ghost use Rattle.tally_cli.specs.declared.job.Report.{Report};
-ghost use Rattle.tally_cli.specs.Jobs.{IsRunnable, TakesForm, TakesUntil};
+ghost use Rattle.std.specs.Prelude.{◌≡◌, [], Some, IfOk, IfErr, map, slice_index_or, string_bytes};
+ghost use Rattle.clap.specs.Words.{found_of, rows_of, subcommand_rows_of};
+ghost use Rattle.tally_cli.specs.Lines.{Answers, HasNoWord, Refuses, file_words, met_in, words_in};
+ghost use Rattle.tally_cli.specs.inside.LineSteps.{IsComplete, IsFaultOf, IsLineOf};
 ghost use Rattle.tally_cli.specs.declared.line.LineFault.TheVariants.{Memory};
 
 mod command;
 pub(crate) mod files;
+mod options;
+mod refused;
 
-use crate::job::{Form, Job, Report};
+use crate::job::Job;
 use crate::line::files::{FileArg, files_of};
-use clap::error::ErrorKind;
-use clap::{ArgMatches, Error};
+use crate::line::options::{job_from, report_of};
+use crate::line::refused::{fault_of, refused};
+use clap::ArgMatches;
 use std::alloc::{AllocError, AllocFailed, Global};
-use tally_usage::Order;
 use thiserror::Error as ErrorText;
 
 /// What a command line asks for.
@@ -132,162 +132,4 @@ fn run_under(alloc: Global, name: &str, matches: &ArgMatches<'_>) -> Result<Line
     let files = files_of(alloc, report, words)?;
     let job = job_from(report, matches);
     Ok(Line::Run { job, files })
-}
-
-/// The answer where `clap` gives no matches.
-#[inline(never)]
-fn refused(alloc: Global, error: &Error) -> Result<Line, LineFault>
-    ensures memory { kind_of error.now ≡ ErrorKind.OutOfMemory → result ≡ Err LineFault.Memory }
-    ensures ok { IfOk result (IsHelpFor (kind_of error.now)) }
-    ensures err { IfErr result (IsFaultFor (kind_of error.now)) }
-{
-    let kind = error.kind();
-    if kind == ErrorKind::DisplayHelp || kind == ErrorKind::DisplayVersion {
-        let text = error.to_string(alloc)?;
-        return Ok(Line::Help { text });
-    }
-    Err(fault_of(alloc, error))
-}
-
-/// The fault where `clap` gives no matches and no help is asked for.
-fn fault_of(alloc: Global, error: &Error) -> LineFault
-    ensures memory { kind_of error.now ≡ ErrorKind.OutOfMemory → result ≡ LineFault.Memory }
-    ensures kind { IsMemoryOrUsage result }
-{
-    if error.kind() == ErrorKind::OutOfMemory {
-        return LineFault::Memory;
-    }
-    match refusal(alloc, error) {
-        Ok(text) => LineFault::Usage { text },
-        Err(_) => LineFault::Memory,
-    }
-}
-
-/// What to write in place of a negative number, which no option takes.
-const NEGATIVE: &str =
-    "\nNo option takes a negative number: the latest 5 stays are -n 5, five hours west --west 300.\n";
-
-/// The text of a refusal, and a line more where a negative number is the reason.
-fn refusal(alloc: Global, error: &Error) -> Result<String, AllocError> {
-    let mut text = error.to_string(alloc)?;
-    if is_negative_refused(text.as_str()) {
-        text.push_str(NEGATIVE)?;
-    }
-    Ok(text)
-}
-
-fn is_negative_refused(text: &str) -> bool {
-    match text
-        .as_bytes()
-        .strip_prefix(b"error: unexpected argument '-")
-    {
-        Some([digit, ..]) => digit.is_ascii_digit(),
-        _ => false,
-    }
-}
-
-fn report_of(name: &str, matches: &ArgMatches<'_>) -> Option<Report>
-    ensures named { IfSome result (λ r. name.now ≡ name_of r) }
-    ensures none { IfNone result ((r : Report) → name.now ≢ name_of r) }
-{
-    match name {
-        "last" => Some(Report::Last {
-            limit: matches.get_one::<u32>("limit"),
-        }),
-        "ac" => Some(Report::Connect {
-            by_day: matches.get_flag("by_day"),
-            by_user: matches.get_flag("by_user"),
-        }),
-        "sa" => Some(usage_report(matches)),
-        "all" => Some(Report::All),
-        _ => None,
-    }
-}
-
-fn usage_report(matches: &ArgMatches<'_>) -> Report
-    ensures { name_of result ≡ codes "sa" }
-{
-    let order = if matches.get_flag("by_calls") {
-        Order::Calls
-    } else {
-        Order::Cpu
-    };
-    let reverse = matches.get_flag("reverse");
-    if matches.get_flag("by_user") {
-        return Report::Users { order, reverse };
-    }
-    Report::Commands {
-        order,
-        reverse,
-        all: matches.get_flag("keep_all"),
-    }
-}
-
-fn job_from(report: Report, matches: &ArgMatches<'_>) -> Job
-    ensures report { result.report ≡ report }
-    ensures runnable { IsRunnable result }
-    ensures few { result.askers ≤ 64 }
-    ensures asked { (result.askers ≡ 0) ⊎ (report ≡ Report.All) }
-    ensures form { AsksForm report (rows_of (found_of matches.now)) result.form }
-{
-    let askers = match report {
-        Report::All => number(matches, "askers", 0).min(64),
-        _ => 0,
-    };
-    Job {
-        report,
-        form: form_of(report, matches),
-        feeders: number(matches, "feeders", 4).clamp(1, 64),
-        askers,
-        offset: minutes(matches, "east") - minutes(matches, "west"),
-        until: until_of(report, matches),
-    }
-}
-
-/// The form of a report: a report of all is text.
-fn form_of(report: Report, matches: &ArgMatches<'_>) -> Form
-    ensures asked { AsksForm report (rows_of (found_of matches.now)) result }
-    ensures takes { TakesForm report result }
-{
-    match report {
-        Report::All => Form::Text,
-        _ => form_by(matches),
-    }
-}
-
-/// The form that the flag asks for.
-#[tactic(auto, using(crate::proofs::LineLemmas::flag_in_rows))]
-fn form_by(matches: &ArgMatches<'_>) -> Form
-    ensures { IsFormOf (rows_of (found_of matches.now)) result }
-{
-    if matches.get_flag("csv") {
-        Form::Csv
-    } else {
-        Form::Text
-    }
-}
-
-/// The moment up to which a report counts stays that nothing has ended.
-fn until_of(report: Report, matches: &ArgMatches<'_>) -> Option<i32>
-    ensures { TakesUntil report result }
-{
-    match report {
-        Report::Commands { .. } | Report::Users { .. } => None,
-        Report::Last { .. } | Report::Connect { .. } | Report::All => {
-            matches.get_one::<i32>("until")
-        }
-    }
-}
-
-/// The number of an option. `clap` has refused what lies outside of its range.
-fn number(matches: &ArgMatches<'_>, id: &str, default: u32) -> u32 {
-    matches.get_one::<u32>(id).unwrap_or(default)
-}
-
-fn minutes(matches: &ArgMatches<'_>, id: &str) -> i32
-    ensures low { pos 0 ≤ℤ result }
-    ensures high { result ≤ℤ pos 1439 }
-{
-    // `clap` has refused what lies outside this range.
-    matches.get_one::<i32>(id).unwrap_or(0).clamp(0, 1439)
 }

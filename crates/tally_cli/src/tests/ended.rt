@@ -1,7 +1,7 @@
 //! How a run ends: which call of its output is the last, and what is not touched after a failure.
 ghost use Rattle.std.specs.Prelude.{◌≡◌, None, [], false};
 
-use crate::tests::runs::text_job;
+use crate::tests::runs::{TOTAL, one_hour, source_of, text_job};
 use crate::{Report, RunFault, Source, run};
 use std::alloc::{AllocError, Global};
 use std::hash::RandomState;
@@ -137,5 +137,50 @@ fn a_feeder_stops_at_its_first_file_that_fails(rt: HostRuntime) -> Result<(), Fa
     };
     assert!(rt; ended.outcome == Err(RunFault::File { host: 0, fault }));
     assert!(rt; ended.takes[0] > 0 && ended.takes[1] == 0 && ended.out.bytes == 0);
+    Ok(())
+}
+
+/// An output that takes so many bytes, one by one, and then fails.
+#[derive(Drop)]
+struct Narrow {
+    room: usize,
+    failures: u64,
+}
+
+impl Output for Narrow {
+    ghost state = { λ out. record { tells = false; written = []; failures = out.failures } };
+
+    fn put(&mut self, bytes: &[u8]) -> Result<usize, OutputFault> {
+        if self.room == 0 {
+            self.failures += 1;
+            return Err(OutputFault);
+        }
+        self.room -= 1;
+        Ok(bytes.len().min(1))
+    }
+
+    fn finish(&mut self) -> Result<(), OutputFault> {
+        Ok(())
+    }
+}
+
+#[test]
+fn an_output_that_fails_ends_the_run(rt: HostRuntime) -> Result<(), Fail> {
+    let bytes = one_hour(rt.alloc(), 768)?;
+    let sources = source_of(rt.alloc(), Kind::Login, bytes)?;
+    let mut out = Narrow {
+        room: 5,
+        failures: 0,
+    };
+    let outcome = run(
+        &rt,
+        rt.alloc(),
+        RandomState::new(&rt)?,
+        &text_job(TOTAL, 4, 0),
+        sources,
+        &OpenGate,
+        &mut out,
+    );
+    assert!(rt; outcome == Err(RunFault::Write) && out.room == 0);
     Ok(())
 }

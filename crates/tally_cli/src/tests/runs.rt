@@ -9,11 +9,11 @@ use std::sync::Wait;
 use std::test::Fail;
 use std::thread::Threads;
 use tally_desk::{Bytes, FeedFault, OpenGate};
-use tally_print::{Kept, Output, OutputFault};
+use tally_print::Kept;
 use tally_records::Kind;
 use tally_usage::Order;
 
-const TOTAL: Report = Report::Connect {
+pub(crate) const TOTAL: Report = Report::Connect {
     by_day: false,
     by_user: false,
 };
@@ -43,7 +43,7 @@ pub(crate) fn put_at(bytes: &mut [u8], at: usize, text: &[u8]) {
 }
 
 // The file of one hour: a login of ann on tty1 at 1000000, a logout at 1003600.
-fn one_hour(alloc: Global, rest: usize) -> Result<Vec<u8>, AllocError> {
+pub(crate) fn one_hour(alloc: Global, rest: usize) -> Result<Vec<u8>, AllocError> {
     let mut bytes = vec![in alloc; 0u8; 768]?;
     put_at(bytes.as_mut_slice(), 0, &[7]);
     put_at(bytes.as_mut_slice(), 8, b"tty1");
@@ -57,7 +57,11 @@ fn one_hour(alloc: Global, rest: usize) -> Result<Vec<u8>, AllocError> {
 }
 
 // The one source of these bytes.
-fn source_of(alloc: Global, kind: Kind, bytes: Vec<u8>) -> Result<Vec<Source<Bytes>>, AllocError> {
+pub(crate) fn source_of(
+    alloc: Global,
+    kind: Kind,
+    bytes: Vec<u8>,
+) -> Result<Vec<Source<Bytes>>, AllocError> {
     let mut sources = Vec::new(alloc);
     let input = Bytes::new(bytes);
     sources.push(Source { kind, input })?;
@@ -132,6 +136,17 @@ fn one_call(alloc: Global) -> Result<Vec<u8>, AllocError> {
     Ok(bytes)
 }
 
+// Whether a report on a file of that call ends well and is this text.
+fn call_writes<R: Threads + Wait + Sync>(
+    rt: &R,
+    alloc: Global,
+    keys: RandomState,
+    report: Report,
+    text: &[u8],
+) -> Result<bool, AllocError> {
+    writes(rt, alloc, keys, report, Kind::Proc, one_call(alloc)?, text)
+}
+
 #[test]
 fn a_call_is_a_row_of_its_own(rt: HostRuntime) -> Result<(), Fail> {
     let report = Report::Commands {
@@ -139,11 +154,9 @@ fn a_call_is_a_row_of_its_own(rt: HostRuntime) -> Result<(), Fail> {
         reverse: false,
         all: true,
     };
-    let keys = RandomState::new(&rt)?;
-    let bytes = one_call(rt.alloc())?;
     let text =
         b"       1         0.03re         0.02cp          0avio          0k\n       1         0.03re         0.02cp          0avio          0k make\n".as_slice();
-    assert!(rt; writes(&rt, rt.alloc(), keys, report, Kind::Proc, bytes, text)?);
+    assert!(rt; call_writes(&rt, rt.alloc(), RandomState::new(&rt)?, report, text)?);
     Ok(())
 }
 
@@ -153,11 +166,9 @@ fn a_call_is_counted_for_its_user(rt: HostRuntime) -> Result<(), Fail> {
         order: Order::Cpu,
         reverse: false,
     };
-    let keys = RandomState::new(&rt)?;
-    let bytes = one_call(rt.alloc())?;
     let text =
         b"total             1         0.03re         0.02cp          0avio          0k\n0                 1         0.03re         0.02cp          0avio          0k\n".as_slice();
-    assert!(rt; writes(&rt, rt.alloc(), keys, report, Kind::Proc, bytes, text)?);
+    assert!(rt; call_writes(&rt, rt.alloc(), RandomState::new(&rt)?, report, text)?);
     Ok(())
 }
 
@@ -212,52 +223,5 @@ fn a_torn_second_file_is_named(rt: HostRuntime) -> Result<(), Fail> {
     };
     assert!(rt; outcome == Err(RunFault::File { host: 1, fault }));
     assert!(rt; out.bytes().is_empty());
-    Ok(())
-}
-
-// An output that takes so many bytes, one by one, and then fails.
-#[derive(Drop)]
-struct Narrow {
-    room: usize,
-    failures: u64,
-}
-
-impl Output for Narrow {
-    ghost use Rattle.std.specs.Prelude.{[], false};
-
-    ghost state = { λ out. record { tells = false; written = []; failures = out.failures } };
-
-    fn put(&mut self, bytes: &[u8]) -> Result<usize, OutputFault> {
-        if self.room == 0 {
-            self.failures += 1;
-            return Err(OutputFault);
-        }
-        self.room -= 1;
-        Ok(bytes.len().min(1))
-    }
-
-    fn finish(&mut self) -> Result<(), OutputFault> {
-        Ok(())
-    }
-}
-
-#[test]
-fn an_output_that_fails_ends_the_run(rt: HostRuntime) -> Result<(), Fail> {
-    let bytes = one_hour(rt.alloc(), 768)?;
-    let sources = source_of(rt.alloc(), Kind::Login, bytes)?;
-    let mut out = Narrow {
-        room: 5,
-        failures: 0,
-    };
-    let outcome = run(
-        &rt,
-        rt.alloc(),
-        RandomState::new(&rt)?,
-        &text_job(TOTAL, 4, 0),
-        sources,
-        &OpenGate,
-        &mut out,
-    );
-    assert!(rt; outcome == Err(RunFault::Write) && out.room == 0);
     Ok(())
 }
