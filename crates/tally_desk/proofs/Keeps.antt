@@ -22,11 +22,8 @@ use Rattle.tally_desk.specs.inside.Steps.{Draws, Looks, Counts, Leaves, Tells}
 use Rattle.tally_desk.specs.Passes.{Sat}
 use Rattle.tally_desk.specs.inside.Seats.{idle, waiting, turn, IsNext}
 use Rattle.tally_desk.proofs.Totals.{total-set, below_more, only, only-same}
-use Rattle.tally_desk.proofs.Tickets.{no_turn, none_serves, still_placed, held_range, held_once, few_wait, alone, not_theirs}
+use Rattle.tally_desk.proofs.Tickets.{St, no_turn, none_serves, still_placed, held_range, held_once, few_wait, alone, not_theirs}
 use Rattle.tally_desk.proofs.Histories.{follows_self, follows_trans, follows_next, calls_of_own, calls_of_other}
-
-abbrev St : Type 0
-St = State Contents View
 
 within : {A : Type 0} (l : List A) (i : ℕ) (a : A) → get_elem? l i ≡ some a → i < length l
 within [] i a e = absurd (some-ne-none a (sym e))

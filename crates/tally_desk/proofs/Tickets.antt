@@ -14,7 +14,8 @@ use Rattle.tally_desk.specs.inside.Views.{ticket_weight, number_weight}
 use Rattle.tally_desk.specs.inside.Rule.{Orderly, HasTurn, Placed}
 use Rattle.tally_desk.proofs.Totals.{term_le, terms_le, total_le, below-one, only, only-same, below-only}
 
-abbrev St : Type 0
+-- a table of the lock
+abbrev pub St : Type 0
 St = State Contents View
 
 -- a seat that does not serve has nothing to show of the turn

@@ -25,11 +25,7 @@ impl Watched {
 impl Output for Watched {
     ghost use Rattle.std.specs.Prelude.{true};
 
-    ghost written = { λ watched. watched.kept.written };
-
-    ghost tells = { λ _. true };
-
-    ghost failures = { λ watched. watched.kept.failures };
+    ghost state = { λ watched. record { tells = true; written = watched.kept.written; failures = watched.kept.failures } };
 
     fn put(&mut self, bytes: &[u8]) -> Result<usize, OutputFault> {
         let put = self.kept.put(bytes);

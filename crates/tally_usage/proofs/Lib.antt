@@ -1,5 +1,6 @@
 pub mod BatchLemmas
 pub mod CommandLemmas
+pub mod CommandSteps
 pub mod GroupLemmas
 pub mod PermutationLemmas
 pub mod SummaryLemmas
