@@ -56,10 +56,10 @@ all_fit_after : (before after : Contents) (call : Call) (number : ℕ) → calle
     → (ks : List Known) → sum_by (λ k. only number k.number) ks ≡ 0 → AllFit before ks → AllFit after ks
 all_fit_after before after call number by made more [] weightless fit = tt
 all_fit_after before after call number by made more (k ∷ ks) weightless fit =
-  let weight = sum_by-cons (λ (x : Known). only number x.number) k ks in (
-  fits_after before after call number by made more k (λ e. let one = only-same number k.number e in absurd (omega (arith, weight))) fit.0,
-  all_fit_after before after call number by made more ks (omega (arith, weight)) fit.1,
-)
+    let weight = sum_by-cons (λ (x : Known). only number x.number) k ks in (
+      fits_after before after call number by made more k (λ e. let one = only-same number k.number e in absurd (omega (arith, weight))) fit.0,
+      all_fit_after before after call number by made more ks (omega (arith, weight)) fit.1,
+    )
 
 module _ (callers : ℕ) where
   abbrev Rule : St → Type 0

@@ -91,8 +91,8 @@ grown id k book after fit more longer' legal = record {
 
 module _ (id : TableId) (k : Known) (sound : IsSound k) (book : Contents) (fit : Fits book k) where
   module _ {T E : Type 0} (call : T → Call) (place : T → ℕ) (done : Deed) (Says : T → Contents → Type 0) (Why : E → Contents → Type 0) (after : Contents) (Answer : T → Type 0)
-    (next : IsLegal after → IsNext k.number book after)
-    (shown : (r : T) → Answer r → (after.calls ≡ book.calls ++ call r ∷ []) × (caller_of (call r) ≡ k.number) × (place r ≡ length after.calls) × Says r after × (deed after.logins after.procs (call r) ≡ done)) where
+      (next : IsLegal after → IsNext k.number book after)
+      (shown : (r : T) → Answer r → (after.calls ≡ book.calls ++ call r ∷ []) × (caller_of (call r) ≡ k.number) × (place r ≡ length after.calls) × Says r after × (deed after.logins after.procs (call r) ≡ done)) where
     called : (m : Sat) (result : Result T E) → IsLegal book
         → MatchResult result (λ r. (m ≡ idle (knowing after k)) × IsLegal after × Answer r) (λ e. (m ≡ idle (knowing book k)) × Why e book)
         → (k' : Known) × (m ≡ idle k') × (k.number ≡ k'.number) × IsSound k' × CallTells call place done Says Why result (pass_of id k) (pass_of id k')
