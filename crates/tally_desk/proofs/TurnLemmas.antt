@@ -15,13 +15,13 @@ use Rattle.tally_desk.specs.declared.fault.FeedFault.TheVariants.{Memory, Read, 
 use Rattle.tally_desk.proofs.BlockLemmas.{any_total, block_size_some, block_size_whole}
 
 -- a block of `size` bytes was filled up to n
-module _ (block : List ℕ) (n size : ℕ) (within : n ≤ length block) (full : length block ≡ size) where
+module _ (block : List ℕ) (n size : ℕ) (within : n ≤ length block) (few : n ≤ size) where
   pub filled_length : length (take n block) ≡ n
   filled_length = length-take-le n block within
 
   -- it has the front of the bytes to come
-  pub front_is : (rest ys : List ℕ) → rest ≡ take n block ++ ys → (n < length block → ys ≡ []) → take size rest ≡ take n block
-  front_is rest ys parts end = elim (cases_lt n (length block)) [
+  pub front_is : (rest ys : List ℕ) → rest ≡ take n block ++ ys → (n < size → ys ≡ []) → take size rest ≡ take n block
+  front_is rest ys parts end = elim (cases_lt n size) [
     | inl short ↦
         let all : rest ≡ take n block = parts ∙ ap (λ l. take n block ++ l) (end short) ∙ append-nil (take n block) in
         take_all size rest (omega (arith, ap length all, filled_length)) ∙ all
@@ -31,8 +31,8 @@ module _ (block : List ℕ) (n size : ℕ) (within : n ≤ length block) (full :
   ]
 
   -- and what follows it is left
-  pub back_is : (rest ys : List ℕ) → rest ≡ take n block ++ ys → (n < length block → ys ≡ []) → drop size rest ≡ ys
-  back_is rest ys parts end = elim (cases_lt n (length block)) [
+  pub back_is : (rest ys : List ℕ) → rest ≡ take n block ++ ys → (n < size → ys ≡ []) → drop size rest ≡ ys
+  back_is rest ys parts end = elim (cases_lt n size) [
     | inl short ↦
         let all : rest ≡ take n block = parts ∙ ap (λ l. take n block ++ l) (end short) ∙ append-nil (take n block) in
         drop_all size rest (omega (arith, ap length all, filled_length)) ∙ sym (end short)
@@ -63,18 +63,18 @@ read_fault expected (LoginsFull stored) gives = absurd gives
 read_fault expected (ProcsFull stored) gives = absurd gives
 read_fault expected CallsFull gives = absurd gives
 
-module _ (kind : Kind) (turn : ℕ) (block : List ℕ) (n : ℕ) (within : n ≤ length block) (full : length block ≡ block_size kind) where
-  pub same_fault : (rest ys : List ℕ) → rest ≡ take n block ++ ys → (n < length block → ys ≡ [])
+module _ (kind : Kind) (turn : ℕ) (block : List ℕ) (n : ℕ) (within : n ≤ length block) (few : n ≤ block_size kind) where
+  pub same_fault : (rest ys : List ℕ) → rest ≡ take n block ++ ys → (n < block_size kind → ys ≡ [])
       → block_fault kind (turn * block_size kind + length rest) (turn, take (block_size kind) rest)
       ≡ block_fault kind (turn * block_size kind + length (take n block)) (turn, take n block)
   same_fault rest ys parts end =
-      ap (λ b. block_fault kind (turn * block_size kind + length rest) (turn, b)) (front_is block n (block_size kind) within full rest ys parts end)
-      ∙ elim (cases_lt n (length block)) [
+      ap (λ b. block_fault kind (turn * block_size kind + length rest) (turn, b)) (front_is block n (block_size kind) within few rest ys parts end)
+      ∙ elim (cases_lt n (block_size kind)) [
         | inl short ↦
             let all : rest ≡ take n block = parts ∙ ap (λ l. take n block ++ l) (end short) ∙ append-nil (take n block) in
             ap (λ l. block_fault kind (turn * block_size kind + length l) (turn, take n block)) all
         | inr over ↦
-            let whole : length (take n block) ≡ block_size kind = filled_length block n (block_size kind) within full ∙ omega arith in
+            let whole : length (take n block) ≡ block_size kind = filled_length block n (block_size kind) within few ∙ omega arith in
             any_total kind _ _ (turn, take n block) (ap (λ m. m % record_size kind) whole ∙ block_size_whole kind)
       ]
 
@@ -82,32 +82,32 @@ module _ (kind : Kind) (turn : ℕ) (block : List ℕ) (n : ℕ) (within : n ≤
   some_left rest ys parts some = omega (arith, ap length parts, length-append (take n block) ys)
 
   any_left : (rest ys : List ℕ) → 0 < n → rest ≡ take n block ++ ys → 0 < length rest
-  any_left rest ys any parts = some_left rest ys parts (omega (arith, filled_length block n (block_size kind) within full))
+  any_left rest ys any parts = some_left rest ys parts (omega (arith, filled_length block n (block_size kind) within few))
 
   -- its batch is that of the first block of the bytes to come
   pub takes_block : (rest : List ℕ) (left : Option (List ℕ)) (batch : Records) → 0 < n → Consumes (Some rest) left (take n block)
-      → (n < length block → IsAtEnd left)
+      → (n < block_size kind → IsAtEnd left)
       → block_fault kind (turn * block_size kind + length (take n block)) (turn, take n block) ≡ None
       → batch ≡ records_in kind (take n block) → record_count batch ≡ length (take n block) / record_size kind
       → TakesBlock kind turn rest left batch
   takes_block rest None batch any taken end good is count = absurd taken
   takes_block rest (Some ys) batch any taken end good is count =
-      let long : length (take n block) ≡ n = filled_length block n (block_size kind) within full in
-      let front = front_is block n (block_size kind) within full rest ys taken end in
+      let long : length (take n block) ≡ n = filled_length block n (block_size kind) within few in
+      let front = front_is block n (block_size kind) within few rest ys taken end in
       record {
         some = some_left rest ys taken (omega arith);
         good = same_fault rest ys taken end ∙ good;
         batch_is = is ∙ ap (records_in kind) (sym front);
         count = count ∙ ap (λ (b : List ℕ). length b / record_size kind) (sym front);
-        left_is = ap Some (sym (back_is block n (block_size kind) within full rest ys taken end));
+        left_is = ap Some (sym (back_is block n (block_size kind) within few rest ys taken end));
       }
 
   -- nothing was filled, so nothing was to come
   pub takes_none : (rest : List ℕ) (left : Option (List ℕ)) → n ≡ 0 → Consumes (Some rest) left (take n block)
-      → (n < length block → IsAtEnd left) → rest ≡ []
+      → (n < block_size kind → IsAtEnd left) → rest ≡ []
   takes_none rest None none taken end = absurd taken
   takes_none rest (Some ys) none taken end =
-      let short : n < length block = omega (arith, full, block_size_some kind) in
+      let short : n < block_size kind = omega (arith, block_size_some kind) in
       let empty : take n block ≡ [] = ap (λ m. take m block) none in
       taken ∙ ap (λ l. l ++ ys) empty ∙ end short
 
@@ -115,7 +115,7 @@ module _ (kind : Kind) (turn : ℕ) (block : List ℕ) (n : ℕ) (within : n ≤
   pub is_batch : (batch : Records) → 0 < n → length (take n block) % record_size kind ≡ 0 → batch ≡ records_in kind (take n block)
       → record_count batch ≡ length (take n block) / record_size kind → IsBatch kind batch
   is_batch batch any whole is count =
-      let long : length (take n block) ≡ n = filled_length block n (block_size kind) within full in
+      let long : length (take n block) ≡ n = filled_length block n (block_size kind) within few in
       let short : length (take n block) ≤ block_size kind = omega arith in
       let all : record_count batch ≡ length (take n block) / record_size kind = count in
       record {
@@ -125,7 +125,7 @@ module _ (kind : Kind) (turn : ℕ) (block : List ℕ) (n : ℕ) (within : n ≤
       }
 
   pub turn_stops : (rest : List ℕ) (left : Option (List ℕ)) (f : FeedFault) → 0 < n → Consumes (Some rest) left (take n block)
-      → (n < length block → IsAtEnd left) → IsBlockRefusal kind turn (take n block) f → TurnStops kind turn rest f
+      → (n < block_size kind → IsAtEnd left) → IsBlockRefusal kind turn (take n block) f → TurnStops kind turn rest f
   turn_stops rest None f any taken end refused = absurd taken
   turn_stops rest (Some ys) Memory any taken end refused = tt
   turn_stops rest (Some ys) Read any taken end refused = tt

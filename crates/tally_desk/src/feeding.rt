@@ -15,7 +15,7 @@ pub(crate) mod reader;
 
 use crate::desk::{Desk, Pass};
 use crate::fault::FeedFault;
-use crate::feeding::block::{block_size, next_batch};
+use crate::feeding::block::{block_size, new_block, next_batch};
 use crate::feeding::input::Input;
 use crate::gate::Gate;
 use std::alloc::Global;
@@ -101,10 +101,9 @@ pub fn feed<R: Wait, I: Input, G: Gate>(
     ensures read { IfErr result (λ f. f ≡ fault.Read
         → (I.failures input.new ≡ I.failures input.old + 1) × (I.can_fail input.old ≡ true)) }
 {
-    let size = block_size(kind);
-    let mut block = vec![in alloc; 0u8; size]?;
+    let mut block = new_block(alloc, block_size(kind))?;
     for turn in 0..MOST_BLOCKS {
-        let Some(batch) = next_batch(alloc, kind, input, block.as_mut_slice(), turn)? else {
+        let Some(batch) = next_batch(alloc, kind, input, &mut block, turn)? else {
             return Ok(fed_by(turn, 0));
         };
         gate.before(pass.number(), turn);

@@ -1,5 +1,4 @@
-use Rattle.std.proofs.Common.{◌∙◌, ◌≡◌, ◌++◌, ◌<◌, ap, arith, drop, length, length-append, refl, subst}
-use Rattle.std.proofs.lemmas.List.{length-drop, length-take}
+use Rattle.std.proofs.Common.{◌∙◌, ◌≡◌, ◌++◌, ◌<◌, ap, arith, refl, subst}
 use Rattle.std.proofs.lemmas.Result.{err_from_is_err_and}
 use Rattle.std.specs.Io.KnownBytes.{IsAtEnd}
 use Rattle.tally_records.specs.Records.{record_count}
@@ -83,20 +82,12 @@ loop-turn-preserved g c =
     let next = c.in_ok-batch.ensures in
     let batch = some_batch c.args.kind _ c.in-Some.batch c.in-Some.is next.batch in
     let full : IsFull c.in-Some.batch = omega (arith, batch.few, c.len-records.ensures.count, c.if-records-lt-BATCH_LIMIT.false) in
-    let same : length c.next_batch.new.block ≡ length c.loop-turn.block.items = c.next_batch.auto.block ∙ ap length c.as_mut_slice.ensures.value in
     record {
       countable = next.failures ∙ c.loop-turn.invariant.countable;
       taken = takes_next c.args.kind c.loop-turn.turn _ _ _ c.loop-turn.invariant.taken next.few;
       nature = next.nature ∙ c.loop-turn.invariant.nature;
-      size = omega (
-        arith,
-        same,
-        c.loop-turn.block.ok.0,
-        c.loop-turn.invariant.size,
-        length-take c.loop-turn.block.len (c.next_batch.new.block ++ drop (length c.next_batch.new.block) c.loop-turn.block.items),
-        length-append c.next_batch.new.block (drop (length c.next_batch.new.block) c.loop-turn.block.items),
-        length-drop (length c.next_batch.new.block) c.loop-turn.block.items,
-      );
+      room = next.room;
+      ready = next.ready;
       keeps = keeps_trans c.args.pass.now c.loop-turn.pass c.post.new.pass c.loop-turn.invariant.keeps c.in_ok-post.ensures.keeps;
       posts = full_more c.args.kind c.args.pass.now c.loop-turn.pass c.post.new.pass c.loop-turn.turn c.loop-turn.invariant.posts c.in-Some.batch batch c.in_ok-post.ensures.did full;
       told = λ bytes told.
