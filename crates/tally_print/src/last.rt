@@ -1,8 +1,8 @@
 ghost use Rattle.std.specs.Prelude.{◌≡◌, ◌++◌, OnOk, codes, if◌then◌else◌, ⊤};
 ghost use Rattle.tally_sessions.specs.Days.{IsOffset};
 ghost use Rattle.tally_print.specs.Output.{IsWritable, Prints, failed_calls};
-ghost use Rattle.tally_print.specs.Text.{left, moment, span};
-ghost use Rattle.tally_print.specs.LastText.{user_column, line_column, ending, still_ending, still_words, beginning, stay_line, last_text};
+ghost use Rattle.tally_print.specs.Text.{left, moment, shown, span};
+ghost use Rattle.tally_print.specs.LastText.{ending, still_ending, still_words, beginning, stay_line, last_text};
 
 use crate::date::push_moment;
 use crate::lines::{Line, put_lines};
@@ -12,23 +12,21 @@ use crate::{Output, PrintFault};
 use std::alloc::{AllocError, Global};
 use tally_sessions::{End, Stay};
 
-fn push_user(line: &mut Vec<u8>, stay: &Stay) -> Result<(), AllocError>
-    ensures { OnOk result (line.new.items ≡ line.old.items ++ left (user_column stay.now) 8) }
+/// Appends a field of a stay in its column, or the words that a boot has there.
+fn push_column(
+    line: &mut Vec<u8>,
+    is_boot: bool,
+    words: &[u8],
+    field: &[u8],
+    width: u8,
+) -> Result<(), AllocError>
+    ensures { OnOk result (line.new.items
+        ≡ line.old.items ++ left (if is_boot then words.now else shown field.now) width) }
 {
-    if stay.is_boot {
-        push_left(line, b"reboot", 8)
+    if is_boot {
+        push_left(line, words, width)
     } else {
-        push_left_shown(line, &stay.user, 8)
-    }
-}
-
-fn push_line(line: &mut Vec<u8>, stay: &Stay) -> Result<(), AllocError>
-    ensures { OnOk result (line.new.items ≡ line.old.items ++ left (line_column stay.now) 12) }
-{
-    if stay.is_boot {
-        push_left(line, b"system boot", 12)
-    } else {
-        push_left_shown(line, &stay.line, 12)
+        push_left_shown(line, field, width)
     }
 }
 
@@ -53,26 +51,22 @@ fn push_logout(line: &mut Vec<u8>, stay: &Stay, offset: i32) -> Result<(), Alloc
     push_span(line, stay.length)
 }
 
+/// The words for a stay that nothing has ended.
+fn still_words(stay: &Stay) -> &'static [u8]
+    ensures { result.now ≡ still_words stay.now }
+{
+    if stay.is_boot {
+        b"still running"
+    } else {
+        b"still logged in"
+    }
+}
+
 fn push_still(line: &mut Vec<u8>, stay: &Stay) -> Result<(), AllocError>
     ensures { OnOk result (line.new.items ≡ line.old.items ++ (codes "   " ++ still_words stay.now)) }
 {
     line.extend_from_slice(b"   ")?;
-    if stay.is_boot {
-        line.extend_from_slice(b"still running")
-    } else {
-        line.extend_from_slice(b"still logged in")
-    }
-}
-
-fn push_still_until(line: &mut Vec<u8>, stay: &Stay) -> Result<(), AllocError>
-    ensures { OnOk result (line.new.items ≡ line.old.items
-        ++ (codes " - " ++ left (still_words stay.now) 19 ++ codes " " ++ span stay.now.length)) }
-{
-    if stay.is_boot {
-        push_cut_off(line, b"still running", stay.length)
-    } else {
-        push_cut_off(line, b"still logged in", stay.length)
-    }
+    line.extend_from_slice(still_words(stay))
 }
 
 fn push_open(line: &mut Vec<u8>, stay: &Stay, until: Option<i32>) -> Result<(), AllocError>
@@ -80,7 +74,7 @@ fn push_open(line: &mut Vec<u8>, stay: &Stay, until: Option<i32>) -> Result<(), 
 {
     match until {
         None => push_still(line, stay),
-        Some(_) => push_still_until(line, stay),
+        Some(_) => push_cut_off(line, still_words(stay), stay.length),
     }
 }
 
@@ -113,9 +107,9 @@ fn push_stay(
     requires { IsOffset offset }
     ensures { OnOk result (line.new.items ≡ line.old.items ++ stay_line offset until stay.now) }
 {
-    push_user(line, stay)?;
+    push_column(line, stay.is_boot, b"reboot", &stay.user, 8)?;
     line.push(b' ')?;
-    push_line(line, stay)?;
+    push_column(line, stay.is_boot, b"system boot", &stay.line, 12)?;
     line.push(b' ')?;
     push_left_shown(line, &stay.remote, 16)?;
     line.push(b' ')?;
