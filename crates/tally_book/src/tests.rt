@@ -7,21 +7,6 @@ use std::hash::RandomState;
 use std::test::Fail;
 use tally_records::Batch;
 
-fn put(bytes: &mut [u8], at: usize, text: &[u8]) {
-    for (to, from) in bytes.iter_mut().skip(at).zip(text) {
-        *to = *from;
-    }
-}
-
-fn make_record(flag: u8, numbers: &[u8; 10]) -> [u8; 64] {
-    let mut bytes = [0; 64];
-    bytes[0] = flag;
-    bytes[1] = 2;
-    put(&mut bytes, 12, numbers);
-    put(&mut bytes, 36, b"make");
-    bytes
-}
-
 /// Posts as a caller, of which the book has some.
 fn post(book: &mut Book, caller: u32, batch: &Batch) -> Result<Receipt, PostFault> {
     if caller >= book.callers() {
@@ -86,11 +71,8 @@ fn a_book_full_of_login_records_takes_an_empty_batch_alone(rt: HostRuntime) -> R
 
 #[test]
 fn a_book_full_of_process_records_takes_an_empty_batch_alone(rt: HostRuntime) -> Result<(), Fail> {
-    let mut bytes = Vec::new(rt.alloc());
-    for _ in 0..1024 {
-        bytes.extend_from_slice(&make_record(0, &[0; 10]))?;
-    }
-    let batch = Batch::procs(rt.alloc(), bytes.as_slice())?;
+    let twos = vec![in rt.alloc(); 2u8; 65_536]?;
+    let batch = Batch::procs(rt.alloc(), twos.as_slice())?;
     let empty = Batch::procs(rt.alloc(), &[])?;
     let (refused, receipt) = overfilled(rt.alloc(), RandomState::new(&rt)?, &batch, &empty)?;
     assert_eq!(rt; refused, Some(PostFault::ProcsFull { stored: 1_048_576 }));

@@ -1,6 +1,6 @@
 -- The fields of a table: which need quotes, and what stands between the quotes.
-use Rattle.std.proofs.Common.{◌≡◌, ℕ, ◌+◌, ◌<◌, ◌≤◌, ◌∷◌, List, length, get_or, drop, false, true, refl, ◌∙◌, ap, eqb, [], arith, inl, inr}
-use Rattle.std.specs.Prelude.{nat_le, ◌&&◌, ◌||◌}
+use Rattle.std.proofs.Common.{◌≡◌, ℕ, ◌+◌, ◌<◌, ◌≤◌, ◌∷◌, List, length, get_or, drop, false, true, refl, sym, ◌∙◌, ap, eqb, [], arith, inl, inr}
+use Rattle.std.specs.Prelude.{Bool, nat_le, ◌&&◌, ◌||◌}
 use Rattle.std.proofs.lemmas.Bool.{cases_Bool, eqb-true}
 use Rattle.std.proofs.lemmas.List.{at_drop_all}
 use Rattle.std.proofs.lemmas.Bool.Decides.{nat_tests}
@@ -21,9 +21,13 @@ plain_shown_byte b comma quote = elim (cases_Bool (nat_le 0x20 b && nat_le b 0x7
   | inr beyond ↦ rw beyond refl
 ]
 
--- the field goes on after a byte that needs no quotes
-pub needs_rest : (field : List ℕ) (i : ℕ) → i < length field → eqb (get_or field i 0) 0 ≡ false → needs_quotes default_writer (shown (drop i field)) ≡ (needs_byte default_writer (shown_byte (get_or field i 0)) || needs_quotes default_writer (shown (drop (i + 1) field)))
+-- the field goes on after a byte that is no NUL
+needs_rest : (field : List ℕ) (i : ℕ) → i < length field → eqb (get_or field i 0) 0 ≡ false → needs_quotes default_writer (shown (drop i field)) ≡ (needs_byte default_writer (shown_byte (get_or field i 0)) || needs_quotes default_writer (shown (drop (i + 1) field)))
 needs_rest field i within ends = ap (needs_quotes default_writer) (shown-drop field i within ends)
+
+-- such a byte decides, or else what follows it
+pub needs_here : (field : List ℕ) (i : ℕ) → i < length field → eqb (get_or field i 0) 0 ≡ false → (mark : Bool) → needs_byte default_writer (shown_byte (get_or field i 0)) ≡ mark → (mark || needs_quotes default_writer (shown (drop (i + 1) field))) ≡ needs_quotes default_writer (shown (drop i field))
+needs_here field i within ends mark is = rw is at (sym (needs_rest field i within ends))
 
 pub needs_nothing : (field : List ℕ) (i : ℕ) → i < length field → eqb (get_or field i 0) 0 ≡ true → needs_quotes default_writer (shown (drop i field)) ≡ false
 needs_nothing field i within ends = ap (needs_quotes default_writer) (shown-drop_stop field i within ends)

@@ -1,3 +1,4 @@
 -- What no public contract cites.
+pub mod Moments
 pub mod Pages
 pub mod Tables

@@ -47,17 +47,15 @@ fn push_row(line: &mut Vec<u8>, row: &ConnectRow) -> Result<(), AllocError>
     Ok(())
 }
 
-/// Appends the line of the total.
-fn push_total(line: &mut Vec<u8>, total: u64) -> Result<(), AllocError>
-    ensures { OnOk result (line.new.items
-        ≡ line.old.items ++ connect_line (record { day = None; user = None; seconds = total })) }
+/// The row of the total.
+pub(crate) fn total_row(total: u64) -> ConnectRow
+    ensures { result ≡ record { day = None; user = None; seconds = total } }
 {
-    let total = ConnectRow {
+    ConnectRow {
         day: None,
         user: None,
         seconds: total,
-    };
-    push_row(line, &total)
+    }
 }
 
 /// The line of a connect time.
@@ -88,6 +86,6 @@ pub fn print_connect<O: Output>(
 {
     let mut page = new_page(alloc)?;
     put_lines(&mut page, &ConnectLine, rows, out)?;
-    push_total(&mut page, total)?;
+    push_row(&mut page, &total_row(total))?;
     put_all(page.as_slice(), out)
 }

@@ -1,8 +1,8 @@
 ghost use Rattle.std.specs.Prelude.{◌≡◌, ◌++◌, OnOk, codes, if◌then◌else◌, ⊤};
 ghost use Rattle.tally_sessions.specs.Days.{IsOffset};
 ghost use Rattle.tally_print.specs.Output.{IsWritable, Prints, failed_calls};
-ghost use Rattle.tally_print.specs.Text.{left, moment, span};
-ghost use Rattle.tally_print.specs.LastText.{user_column, line_column, ending, still_ending, still_words, beginning, stay_line, last_text};
+ghost use Rattle.tally_print.specs.Text.{left, moment, shown, span};
+ghost use Rattle.tally_print.specs.LastText.{ending, still_ending, still_words, beginning, stay_line, last_text};
 
 use crate::date::push_moment;
 use crate::lines::{Line, put_lines};
@@ -12,23 +12,21 @@ use crate::{Output, PrintFault};
 use std::alloc::{AllocError, Global};
 use tally_sessions::{End, Stay};
 
-fn push_user(line: &mut Vec<u8>, stay: &Stay) -> Result<(), AllocError>
-    ensures { OnOk result (line.new.items ≡ line.old.items ++ left (user_column stay.now) 8) }
+/// Appends a field of a stay in its column, or the words that a boot has there.
+fn push_column(
+    line: &mut Vec<u8>,
+    is_boot: bool,
+    words: &[u8],
+    field: &[u8],
+    width: u8,
+) -> Result<(), AllocError>
+    ensures { OnOk result (line.new.items
+        ≡ line.old.items ++ left (if is_boot then words.now else shown field.now) width) }
 {
-    if stay.is_boot {
-        push_left(line, b"reboot", 8)
+    if is_boot {
+        push_left(line, words, width)
     } else {
-        push_left_shown(line, &stay.user, 8)
-    }
-}
-
-fn push_line(line: &mut Vec<u8>, stay: &Stay) -> Result<(), AllocError>
-    ensures { OnOk result (line.new.items ≡ line.old.items ++ left (line_column stay.now) 12) }
-{
-    if stay.is_boot {
-        push_left(line, b"system boot", 12)
-    } else {
-        push_left_shown(line, &stay.line, 12)
+        push_left_shown(line, field, width)
     }
 }
 
@@ -42,87 +40,22 @@ fn push_cut_off(line: &mut Vec<u8>, how: &[u8], length: u64) -> Result<(), Alloc
     push_span(line, length)
 }
 
-fn push_logout(line: &mut Vec<u8>, stay: &Stay, offset: i32) -> Result<(), AllocError>
-    requires { IsOffset offset }
-    ensures { OnOk result (line.new.items ≡ line.old.items
-        ++ (codes " - " ++ moment stay.now.end_time offset ++ codes " " ++ span stay.now.length)) }
+/// The words for a stay that nothing has ended.
+fn still_words(stay: &Stay) -> &'static [u8]
+    ensures { result.now ≡ still_words stay.now }
 {
-    line.extend_from_slice(b" - ")?;
-    push_moment(line, stay.end_time, offset)?;
-    line.push(b' ')?;
-    push_span(line, stay.length)
+    if stay.is_boot {
+        b"still running"
+    } else {
+        b"still logged in"
+    }
 }
 
 fn push_still(line: &mut Vec<u8>, stay: &Stay) -> Result<(), AllocError>
     ensures { OnOk result (line.new.items ≡ line.old.items ++ (codes "   " ++ still_words stay.now)) }
 {
     line.extend_from_slice(b"   ")?;
-    if stay.is_boot {
-        line.extend_from_slice(b"still running")
-    } else {
-        line.extend_from_slice(b"still logged in")
-    }
-}
-
-fn push_still_until(line: &mut Vec<u8>, stay: &Stay) -> Result<(), AllocError>
-    ensures { OnOk result (line.new.items ≡ line.old.items
-        ++ (codes " - " ++ left (still_words stay.now) 19 ++ codes " " ++ span stay.now.length)) }
-{
-    if stay.is_boot {
-        push_cut_off(line, b"still running", stay.length)
-    } else {
-        push_cut_off(line, b"still logged in", stay.length)
-    }
-}
-
-fn push_open(line: &mut Vec<u8>, stay: &Stay, until: Option<i32>) -> Result<(), AllocError>
-    ensures { OnOk result (line.new.items ≡ line.old.items ++ still_ending stay.now until) }
-{
-    match until {
-        None => push_still(line, stay),
-        Some(_) => push_still_until(line, stay),
-    }
-}
-
-#[tactic(auto, unfolding(crate::specs::LastText::ending))]
-fn push_ending(
-    line: &mut Vec<u8>,
-    stay: &Stay,
-    offset: i32,
-    until: Option<i32>,
-) -> Result<(), AllocError>
-    requires { IsOffset offset }
-    ensures { OnOk result (line.new.items ≡ line.old.items ++ ending stay.now.end stay.now offset until) }
-{
-    match stay.end {
-        End::Logout => push_logout(line, stay, offset),
-        End::Next => push_logout(line, stay, offset),
-        End::Down => push_cut_off(line, b"down", stay.length),
-        End::Crash => push_cut_off(line, b"crash", stay.length),
-        End::Still => push_open(line, stay, until),
-    }
-}
-
-#[tactic(auto, unfolding(crate::specs::LastText::stay_line))]
-fn push_stay(
-    line: &mut Vec<u8>,
-    stay: &Stay,
-    offset: i32,
-    until: Option<i32>,
-) -> Result<(), AllocError>
-    requires { IsOffset offset }
-    ensures { OnOk result (line.new.items ≡ line.old.items ++ stay_line offset until stay.now) }
-{
-    push_user(line, stay)?;
-    line.push(b' ')?;
-    push_line(line, stay)?;
-    line.push(b' ')?;
-    push_left_shown(line, &stay.remote, 16)?;
-    line.push(b' ')?;
-    push_moment(line, stay.start, offset)?;
-    push_ending(line, stay, offset, until)?;
-    line.push(b'\n')?;
-    Ok(())
+    line.extend_from_slice(still_words(stay))
 }
 
 fn push_first(line: &mut Vec<u8>, first: i32, offset: i32) -> Result<(), AllocError>
@@ -155,13 +88,64 @@ struct StayLine {
     ghost in_range: { IsOffset offset },
 }
 
+impl StayLine {
+    fn push_logout(&self, page: &mut Vec<u8>, stay: &Stay) -> Result<(), AllocError>
+        ensures { OnOk result (page.new.items ≡ page.old.items
+            ++ (codes " - " ++ moment stay.now.end_time self.now.offset ++ codes " " ++ span stay.now.length)) }
+    {
+        page.extend_from_slice(b" - ")?;
+        push_moment(page, stay.end_time, self.offset)?;
+        page.push(b' ')?;
+        push_span(page, stay.length)
+    }
+
+    fn push_open(&self, page: &mut Vec<u8>, stay: &Stay) -> Result<(), AllocError>
+        ensures { OnOk result (page.new.items ≡ page.old.items ++ still_ending stay.now self.now.until) }
+    {
+        match self.until {
+            None => push_still(page, stay),
+            Some(_) => push_cut_off(page, still_words(stay), stay.length),
+        }
+    }
+
+    #[tactic(auto, unfolding(crate::specs::LastText::ending))]
+    fn push_ending(&self, page: &mut Vec<u8>, stay: &Stay) -> Result<(), AllocError>
+        ensures { OnOk result (page.new.items
+            ≡ page.old.items ++ ending stay.now.end stay.now self.now.offset self.now.until) }
+    {
+        match stay.end {
+            End::Logout => self.push_logout(page, stay),
+            End::Next => self.push_logout(page, stay),
+            End::Down => push_cut_off(page, b"down", stay.length),
+            End::Crash => push_cut_off(page, b"crash", stay.length),
+            End::Still => self.push_open(page, stay),
+        }
+    }
+
+    #[tactic(auto, unfolding(crate::specs::LastText::stay_line))]
+    fn push_stay(&self, page: &mut Vec<u8>, stay: &Stay) -> Result<(), AllocError>
+        ensures { OnOk result (page.new.items ≡ page.old.items ++ stay_line self.now.offset self.now.until stay.now) }
+    {
+        push_column(page, stay.is_boot, b"reboot", &stay.user, 8)?;
+        page.push(b' ')?;
+        push_column(page, stay.is_boot, b"system boot", &stay.line, 12)?;
+        page.push(b' ')?;
+        push_left_shown(page, &stay.remote, 16)?;
+        page.push(b' ')?;
+        push_moment(page, stay.start, self.offset)?;
+        self.push_ending(page, stay)?;
+        page.push(b'\n')?;
+        Ok(())
+    }
+}
+
 impl Line<Stay> for StayLine {
     ghost prints = { λ _. ⊤ };
 
     ghost text = { λ line stay. stay_line line.offset line.until stay };
 
     fn push(&self, page: &mut Vec<u8>, stay: &Stay) -> Result<(), AllocError> {
-        push_stay(page, stay, self.offset, self.until)
+        self.push_stay(page, stay)
     }
 }
 

@@ -1,13 +1,13 @@
 //! A report as one table.
-ghost use Rattle.std.specs.Prelude.{◌≡◌, All, flat_map, map};
+ghost use Rattle.std.specs.Prelude.{◌≡◌, All};
 ghost use Rattle.csv.specs.Writing.{default_writer, row_text};
-ghost use Rattle.tally_book.specs.Answers.{HasDay, HasDays};
+ghost use Rattle.tally_book.specs.Answers.{HasDays};
 ghost use Rattle.tally_sessions.specs.Days.{IsOffset};
 ghost use Rattle.tally_print.specs.Output.{IsWritable, Prints, failed_calls};
-ghost use Rattle.tally_print.specs.ReportTable.{answer_rows, connect_rows, header, table_text};
-ghost use Rattle.tally_print.specs.ConnectTable.{connect_fields};
+ghost use Rattle.tally_print.specs.ReportTable.{answer_rows, header, table_text};
 ghost use Rattle.tally_print.specs.Tables.{csv_text};
 
+use crate::connect::total_row;
 use crate::connect_table::{ConnectFields, connect_header};
 use crate::lines::print_fields;
 use crate::put::put_all;
@@ -15,7 +15,7 @@ use crate::stay_table::{StayFields, stay_header};
 use crate::usage_table::{CommandFields, UserFields, command_header, user_header};
 use crate::{Output, PrintFault};
 use std::alloc::Global;
-use tally_book::{Answer, ConnectRow};
+use tally_book::Answer;
 
 /// Which table a report is as CSV: this says its columns.
 #[derive(Clone, Copy, Debug, PartialEq, Eq)]
@@ -41,32 +41,6 @@ fn header(table: Table) -> &'static [u8]
     }
 }
 
-/// Prints connect times, or their total where they are neither by day nor by user.
-fn print_connect<O: Output>(
-    alloc: Global,
-    by_day: bool,
-    by_user: bool,
-    rows: &[ConnectRow],
-    total: u64,
-    out: &mut O,
-) -> Result<(), PrintFault>
-    requires writable { IsWritable (O.state out.old) }
-    requires days { All HasDay rows.now }
-    ensures writes { Prints (O.state out.old) (O.state out.new) result (failed_calls result)
-        (csv_text (map (connect_fields by_day by_user) (connect_rows by_day by_user rows.now total))) }
-{
-    let fields = ConnectFields { by_day, by_user };
-    if by_day || by_user {
-        return print_fields(alloc, &fields, rows, out);
-    }
-    let total = ConnectRow {
-        day: None,
-        user: None,
-        seconds: total,
-    };
-    print_fields(alloc, &fields, &[total], out)
-}
-
 /// Prints the rows of an answer.
 fn print_answer_rows<O: Output>(
     alloc: Global,
@@ -86,7 +60,12 @@ fn print_answer_rows<O: Output>(
             print_fields(alloc, &StayFields { offset }, rows.as_slice(), out)
         }
         (Table::Connect { by_day, by_user }, Answer::Connect { rows, total }) => {
-            print_connect(alloc, by_day, by_user, rows.as_slice(), *total, out)
+            let fields = ConnectFields { by_day, by_user };
+            if by_day || by_user {
+                print_fields(alloc, &fields, rows.as_slice(), out)
+            } else {
+                print_fields(alloc, &fields, &[total_row(*total)], out)
+            }
         }
         (Table::Commands, Answer::Commands { rows, .. }) => {
             print_fields(alloc, &CommandFields, rows.as_slice(), out)
@@ -96,26 +75,6 @@ fn print_answer_rows<O: Output>(
         }
         _ => Ok(()),
     }
-}
-
-/// Prints the rows of all answers.
-fn print_rows<O: Output>(
-    alloc: Global,
-    table: Table,
-    answers: &[Answer],
-    offset: i32,
-    out: &mut O,
-) -> Result<(), PrintFault>
-    requires writable { IsWritable (O.state out.old) }
-    requires offset { IsOffset offset }
-    requires days { All HasDays answers.now }
-    ensures writes { Prints (O.state out.old) (O.state out.new) result (failed_calls result)
-        (flat_map (λ answer. csv_text (answer_rows table offset answer)) answers.now) }
-{
-    for answer in answers {
-        print_answer_rows(alloc, table, answer, offset, out)?;
-    }
-    Ok(())
 }
 
 /// Prints the answers of a report as one table in CSV: the header, and then a row for each row of
@@ -135,5 +94,8 @@ pub fn print_table<O: Output>(
         (table_text table offset answers.now) }
 {
     put_all(header(table), out)?;
-    print_rows(alloc, table, answers, offset, out)
+    for answer in answers {
+        print_answer_rows(alloc, table, answer, offset, out)?;
+    }
+    Ok(())
 }

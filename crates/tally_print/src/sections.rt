@@ -1,7 +1,6 @@
 //! Several answers, a section for each.
-ghost use Rattle.std.specs.Prelude.{◌∷◌, All, flat_map};
+ghost use Rattle.std.specs.Prelude.{All};
 ghost use Rattle.tally_book.specs.Answers.{HasDays};
-ghost use Rattle.tally_print.specs.AnswerText.{answer_text};
 ghost use Rattle.tally_print.specs.Output.{IsWritable, Prints, failed_calls};
 ghost use Rattle.tally_print.specs.Sections.{sections_text};
 ghost use Rattle.tally_sessions.specs.Days.{IsOffset};
@@ -10,44 +9,6 @@ use crate::put::put_all;
 use crate::{Output, PrintFault, print_answer};
 use std::alloc::Global;
 use tally_book::Answer;
-
-/// Prints an answer after an empty line.
-fn print_next<O: Output>(
-    alloc: Global,
-    answer: &Answer,
-    offset: i32,
-    out: &mut O,
-    until: Option<i32>,
-) -> Result<(), PrintFault>
-    requires writable { IsWritable (O.state out.old) }
-    requires offset { IsOffset offset }
-    requires days { HasDays answer.now }
-    ensures writes { Prints (O.state out.old) (O.state out.new) result (failed_calls result)
-        (10 ∷ answer_text answer.now offset until) }
-{
-    put_all(b"\n", out)?;
-    print_answer(alloc, answer, offset, out, until)
-}
-
-/// Prints the answers, each after an empty line.
-fn print_others<O: Output>(
-    alloc: Global,
-    answers: &[Answer],
-    offset: i32,
-    out: &mut O,
-    until: Option<i32>,
-) -> Result<(), PrintFault>
-    requires writable { IsWritable (O.state out.old) }
-    requires offset { IsOffset offset }
-    requires days { All HasDays answers.now }
-    ensures writes { Prints (O.state out.old) (O.state out.new) result (failed_calls result)
-        (flat_map (λ answer. 10 ∷ answer_text answer offset until) answers.now) }
-{
-    for answer in answers {
-        print_next(alloc, answer, offset, out, until)?;
-    }
-    Ok(())
-}
 
 /// Prints the answers, each as its kind of report, with an empty line between each two, moments at
 /// an offset in minutes east of UTC, with the moment that their questions gave. `Write` is a
@@ -69,5 +30,9 @@ pub fn print_sections<O: Output>(
         return Ok(());
     };
     print_answer(alloc, first, offset, out, until)?;
-    print_others(alloc, others, offset, out, until)
+    for answer in others {
+        put_all(b"\n", out)?;
+        print_answer(alloc, answer, offset, out, until)?;
+    }
+    Ok(())
 }

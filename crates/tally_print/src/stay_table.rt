@@ -6,10 +6,10 @@ ghost use Rattle.tally_sessions.specs.Days.{IsOffset};
 ghost use Rattle.tally_print.specs.StayTable.{end_word, iso_moment, line_field, stay_fields, stay_header, user_field, zone};
 ghost use Rattle.tally_print.specs.Text.{shown};
 
-use crate::date::{day_time, push_date};
+use crate::date::push_marked_moment;
 use crate::fields::{push_number, push_shown_field};
 use crate::lines::{Fields, Line};
-use crate::text::{push_clock, push_two};
+use crate::text::push_two;
 use std::alloc::AllocError;
 use tally_sessions::{End, Stay};
 
@@ -34,10 +34,7 @@ fn push_iso(line: &mut Vec<u8>, time: i32, offset: i32) -> Result<(), AllocError
     requires { IsOffset offset }
     ensures { OnOk result (line.new.items ≡ line.old.items ++ iso_moment time offset) }
 {
-    let moment = day_time(time, offset);
-    push_date(line, moment.day)?;
-    line.push(b'T')?;
-    push_clock(line, moment.second)?;
+    push_marked_moment(line, time, b'T', offset)?;
     push_zone(line, offset)
 }
 

@@ -1,4 +1,5 @@
 -- What no public contract cites.
 pub mod Compact
 pub mod Items
+pub mod Lengths
 pub mod Values

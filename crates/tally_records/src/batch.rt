@@ -1,8 +1,9 @@
-ghost use Rattle.std.specs.Prelude.{◌≡◌, ◌≤◌, ◌<◌, ◌+◌, ◌/◌, MatchOption, MatchResult, OnOk, IfOk, IfErr, IfSome, All, Ok, Err, [], length, vec_len, vec_capacity};
+ghost use Rattle.std.specs.Prelude.{◌≡◌, ◌≤◌, ◌<◌, ◌+◌, ◌/◌, ◌%◌, MatchOption, MatchResult, OnOk, IfOk, IfErr, IfSome, All, Ok, Err, [], length, vec_len, vec_capacity};
 ghost use Rattle.tally_records.specs.Decoding.{decoded};
 ghost use Rattle.tally_records.specs.PackedProc.{unpacked};
 ghost use Rattle.tally_records.specs.ProcRecord.{IsBounded, proc_result};
 ghost use Rattle.tally_records.specs.Records.{NamesRecordBelow};
+ghost use Rattle.tally_records.specs.inside.Lengths.{IsWrongLength};
 
 use crate::fault::BatchFault;
 use crate::login::logins::Logins;
@@ -48,6 +49,24 @@ impl Model for Batch {
     ghost invariant = { λ b. IsSound b.items };
 }
 
+/// How many records of one size the bytes are, or why they are no batch.
+fn count_records(bytes: &[u8], size: usize) -> Result<usize, BatchFault>
+    requires { 0 < size }
+    ensures count { IfOk result (λ count. count ≡ length bytes.now / size) }
+    ensures whole { OnOk result (length bytes.now % size ≡ 0) }
+    ensures limit { OnOk result (length bytes.now / size ≤ BATCH_LIMIT) }
+    ensures cause { IfErr result (IsWrongLength size (length bytes.now)) }
+{
+    if bytes.len() % size != 0 {
+        return Err(BatchFault::Length(bytes.len()));
+    }
+    let count = bytes.len() / size;
+    if count > BATCH_LIMIT {
+        return Err(BatchFault::TooMany(count));
+    }
+    Ok(count)
+}
+
 /// Reads all process records into a vector that has room for them, in one pass.
 fn pack_procs(blocks: &[[u8; PROC_SIZE]], records: &mut Vec<PackedProc>) -> Result<(), BatchFault>
     requires empty { records.old.items ≡ [] }
@@ -78,13 +97,7 @@ impl Batch {
         ensures kind { IfOk result IsLogins }
         ensures place { IfErr result (NamesRecordBelow (length bytes.now / LOGIN_SIZE)) }
     {
-        if bytes.len() % LOGIN_SIZE != 0 {
-            return Err(BatchFault::Length(bytes.len()));
-        }
-        let count = bytes.len() / LOGIN_SIZE;
-        if count > BATCH_LIMIT {
-            return Err(BatchFault::TooMany(count));
-        }
+        count_records(bytes, LOGIN_SIZE)?;
         let (blocks, _) = bytes.as_chunks::<LOGIN_SIZE>();
         Ok(Batch {
             items: Items::Logins(Logins::read(alloc, blocks)?),
@@ -97,13 +110,7 @@ impl Batch {
         ensures kind { IfOk result IsProcs }
         ensures place { IfErr result (NamesRecordBelow (length bytes.now / PROC_SIZE)) }
     {
-        if bytes.len() % PROC_SIZE != 0 {
-            return Err(BatchFault::Length(bytes.len()));
-        }
-        let count = bytes.len() / PROC_SIZE;
-        if count > BATCH_LIMIT {
-            return Err(BatchFault::TooMany(count));
-        }
+        let count = count_records(bytes, PROC_SIZE)?;
         let Ok(mut records) = Vec::with_capacity(alloc, count) else {
             return Err(BatchFault::Memory);
         };

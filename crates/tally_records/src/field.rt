@@ -1,5 +1,7 @@
-ghost use Rattle.std.specs.Prelude.{◌≡◌, ◌≤◌, ◌==◌, length, position};
-ghost use Rattle.tally_records.specs.Text.{text_of, whole_words};
+ghost use Rattle.std.specs.Prelude.{◌≡◌, ◌≤◌, ◌+◌, ◌==◌, length, position};
+ghost use Rattle.tally_records.specs.Text.{text_of, u32_at, whole_words};
+
+use byteorder::{ByteOrder, LittleEndian};
 
 /// A line or a user, `ut_line` and `ut_user` of utmp(5): the text's bytes, then zeros.
 pub type Name = [u8; 32];
@@ -38,4 +40,13 @@ pub(crate) fn text<const N: usize>(field: &[u8]) -> [u8; N]
     let mut kept = [0; N];
     kept[..end].copy_from_slice(&field[..end]);
     kept
+}
+
+/// The number in the four bytes at an offset, the low byte first.
+pub(crate) fn number_at(bytes: &[u8], offset: usize) -> u32
+    requires { offset + 4 ≤ length bytes.now }
+    ensures { result ≡ u32_at offset bytes.now }
+{
+    let field = &bytes[offset..];
+    LittleEndian::read_u32(field)
 }

@@ -10,7 +10,7 @@ pub(crate) mod logins;
 mod words;
 
 use crate::fault::RecordFault;
-use crate::field::{Name, Remote, text};
+use crate::field::{Name, Remote, number_at, text};
 use byteorder::{ByteOrder, LittleEndian};
 
 /// The size of a login record in bytes.
@@ -57,8 +57,7 @@ fn time_at(bytes: &[u8; LOGIN_SIZE], offset: usize) -> i32
     requires { offset + 4 ≤ 384 }
     ensures { result ≡ i32_at offset bytes.now }
 {
-    let field = &bytes[offset..];
-    LittleEndian::read_i32(field)
+    number_at(bytes, offset).cast_signed()
 }
 
 /// The kind of a record, or why the bytes are none.

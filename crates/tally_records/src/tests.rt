@@ -12,11 +12,13 @@ fn put(bytes: &mut [u8], at: usize, text: &[u8]) {
     }
 }
 
-fn login_record(kind: u8, line: &str, user: &str, time: i32) -> [u8; 384] {
+/// A login record of utmp(5), whose texts are the line, the user and the remote host.
+fn login_record(kind: u8, texts: [&[u8]; 3], time: i32) -> [u8; 384] {
     let mut bytes = [0; 384];
     bytes[0] = kind;
-    put(&mut bytes, 8, line.as_bytes());
-    put(&mut bytes, 44, user.as_bytes());
+    for (at, text) in [8, 44, 76].into_iter().zip(texts) {
+        put(&mut bytes, at, text);
+    }
     put(&mut bytes, 340, &time.to_le_bytes());
     bytes
 }
@@ -50,7 +52,7 @@ fn compressed_numbers_have_a_base_eight_exponent(rt: HostRuntime) {
 
 #[test]
 fn a_login_record_is_read_by_its_offsets(rt: HostRuntime) -> Result<(), Fail> {
-    let found = read_login(&login_record(7, "tty1", "ann\0x", 1_000_000))?;
+    let found = read_login(&login_record(7, [b"tty1", b"ann\0x", b""], 1_000_000))?;
     let mut wanted = LoginRecord {
         kind: 7,
         line: [0; 32],
@@ -67,7 +69,7 @@ fn a_login_record_is_read_by_its_offsets(rt: HostRuntime) -> Result<(), Fail> {
 
 #[test]
 fn a_type_outside_zero_to_nine_is_refused(rt: HostRuntime) {
-    let mut bytes = login_record(10, "", "", 0);
+    let mut bytes = login_record(10, [b"", b"", b""], 0);
     assert_eq!(rt; read_login(&bytes), Err(RecordFault::LoginType(10)));
     put(&mut bytes, 0, &[255, 255]);
     assert_eq!(rt; read_login(&bytes), Err(RecordFault::LoginType(-1)));
@@ -141,7 +143,7 @@ fn a_big_endian_process_record_is_refused(rt: HostRuntime) {
 fn a_batch_names_its_first_bad_record(rt: HostRuntime) -> Result<(), Fail> {
     let mut bytes = Vec::new(rt.alloc());
     for kind in [7, 0, 10, 11] {
-        bytes.extend_from_slice(&login_record(kind, "", "", 0))?;
+        bytes.extend_from_slice(&login_record(kind, [b"", b"", b""], 0))?;
     }
     let wanted = BatchFault::Bad {
         index: 2,
@@ -156,14 +158,10 @@ fn a_batch_names_its_first_bad_record(rt: HostRuntime) -> Result<(), Fail> {
 
 /// Records whose texts are short, full, end inside a word and at one, and have bytes after their NUL.
 fn three_records() -> [[u8; 384]; 3] {
-    let mut short = login_record(7, "tty1", "ann\0x", 5);
-    put(&mut short, 76, b"10.0.0.1");
-    let mut full = login_record(8, "", "", -1);
-    put(&mut full, 8, &[255; 32]);
-    put(&mut full, 44, &[1, 128, 255, 0, 7]);
-    put(&mut full, 76, &[128; 256]);
-    let mut words = login_record(1, "~", "shutdown", 7);
-    put(&mut words, 76, b"0123456789abcdef\0\0\0\0\0\0\0\0z");
+    let short = login_record(7, [b"tty1", b"ann\0x", b"10.0.0.1"], 5);
+    let full = login_record(8, [&[255; 32], &[1, 128, 255, 0, 7], &[128; 256]], -1);
+    let remote = b"0123456789abcdef\0\0\0\0\0\0\0\0z";
+    let words = login_record(1, [b"~", b"shutdown", remote], 7);
     [short, full, words]
 }
 

@@ -31,6 +31,16 @@ fn proc_record(flag: u8, uid: u8, numbers: [u16; 5], comm: Comm) -> [u8; PROC_SI
     bytes
 }
 
+/// The row of a command.
+fn row(name: Comm, forked: bool, other: bool, usage: Usage) -> CommandRow {
+    CommandRow {
+        name,
+        forked,
+        other,
+        usage,
+    }
+}
+
 /// One run of make that executed, and two that only forked.
 fn makes() -> [[u8; PROC_SIZE]; 3] {
     let executed = proc_record(0, 100, [120, 60, 600, 500, 1000], MAKE);

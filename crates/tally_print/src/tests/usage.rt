@@ -35,39 +35,21 @@ fn expect_users(rt: &impl Abort, alloc: Global, rows: &[UidRow], total: &Usage, 
     assert!(rt; false, "refused twice");
 }
 
-/// One run of make that executed.
-const EXECUTED: Usage = Usage {
-    count: 1,
-    real: 600,
-    cpu: 180,
-    io: 1000,
-    mem_cpu: 90_000,
-};
+/// What so many calls used.
+fn used(count: u64, real: u128, cpu: u64, io: u64, mem_cpu: u128) -> Usage {
+    Usage {
+        count,
+        real,
+        cpu,
+        io,
+        mem_cpu,
+    }
+}
 
-/// Two runs of make that only forked.
-const FORKED: Usage = Usage {
-    count: 2,
-    real: 120,
-    cpu: 120,
-    io: 6,
-    mem_cpu: 24_000,
-};
-
-const TOTAL: Usage = Usage {
-    count: 3,
-    real: 720,
-    cpu: 300,
-    io: 1006,
-    mem_cpu: 114_000,
-};
-
-const NONE: Usage = Usage {
-    count: 0,
-    real: 0,
-    cpu: 0,
-    io: 0,
-    mem_cpu: 0,
-};
+/// What one run of make used that executed, and two that only forked.
+fn used_by_makes() -> Usage {
+    used(3, 720, 300, 1006, 114_000)
+}
 
 /// One record of version 2 with each number the largest.
 const LARGEST: Usage = Usage {
@@ -80,21 +62,23 @@ const LARGEST: Usage = Usage {
 
 #[test]
 fn commands_have_averages_and_marks(rt: HostRuntime) {
+    let executed = used(1, 600, 180, 1000, 90_000);
+    let forked = used(2, 120, 120, 6, 24_000);
     let rows = [
-        command(b"***other", false, false, EXECUTED),
-        command(b"make", true, false, FORKED),
+        command(b"***other", false, false, executed),
+        command(b"make", true, false, forked),
     ];
     let text = b"       3         0.12re         0.05cp        335avio        380k
        1         0.10re         0.03cp       1000avio        500k ***other
        2         0.02re         0.02cp          3avio        200k make*
 ";
-    expect_commands(&rt, rt.alloc(), &rows, &TOTAL, text);
+    expect_commands(&rt, rt.alloc(), &rows, &used_by_makes(), text);
 }
 
 #[test]
 fn the_total_of_no_commands_is_printed(rt: HostRuntime) {
     let text = b"       0         0.00re         0.00cp          0avio          0k\n";
-    expect_commands(&rt, rt.alloc(), &[], &NONE, text);
+    expect_commands(&rt, rt.alloc(), &[], &used(0, 0, 0, 0, 0), text);
 }
 
 #[test]
@@ -113,13 +97,7 @@ fn long_numbers_stand_whole(rt: HostRuntime) {
 
 #[test]
 fn memory_of_no_cpu_is_none(rt: HostRuntime) {
-    let usage = Usage {
-        count: 1,
-        real: u128::MAX,
-        cpu: 0,
-        io: 7,
-        mem_cpu: 5,
-    };
+    let usage = used(1, u128::MAX, 0, 7, 5);
     let text =
         b"       1 56713727820156410577229101238628035.24re         0.00cp          7avio          0k\n";
     expect_commands(&rt, rt.alloc(), &[], &usage, text);
@@ -129,10 +107,10 @@ fn memory_of_no_cpu_is_none(rt: HostRuntime) {
 fn users_have_their_numbers(rt: HostRuntime) {
     let rows = [UidRow {
         uid: 1000,
-        usage: TOTAL,
+        usage: used_by_makes(),
     }];
     let text = b"total             3         0.12re         0.05cp        335avio        380k
 1000              3         0.12re         0.05cp        335avio        380k
 ";
-    expect_users(&rt, rt.alloc(), &rows, &TOTAL, text);
+    expect_users(&rt, rt.alloc(), &rows, &used_by_makes(), text);
 }

@@ -5,7 +5,7 @@ ghost use Rattle.tally_records.specs.Text.{padded};
 ghost use Rattle.tally_records.specs.inside.Compact.Layout.{IsHead, field_of, record_at, size};
 
 use crate::login::Event;
-use crate::login::head::{Head, line_words, user_key, user_words};
+use crate::login::head::{Head, line_words, user_words};
 use crate::login::key::Key;
 
 /// The words of "shutdown".
@@ -43,7 +43,7 @@ fn is_shutdown(words: &[u64], head: Head) -> bool
     ensures { result ≡ bytes_eq (record_at words.now head).user (padded 32 (codes "shutdown")) }
 {
     let wanted = [SHUTDOWN];
-    user_key(words, head) == Key::of_words(&wanted)
+    Key::of_words(user_words(words, head)) == Key::of_words(&wanted)
 }
 
 /// The event of a head.

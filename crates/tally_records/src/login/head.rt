@@ -4,7 +4,6 @@ ghost use Rattle.tally_records.specs.inside.Compact.Layout.{IsHead, bytes_of, fi
 use crate::fault::Memory;
 use crate::field::Name;
 use crate::login::LoginRecord;
-use crate::login::key::Key;
 
 /// A record but for its texts, which stand one after another as words from a place on.
 #[derive(Clone, Copy)]
@@ -86,26 +85,6 @@ pub(crate) fn user_of(words: &[u64], head: Head) -> Name
     ensures { result ≡ (record_at words.now head).user }
 {
     unpack(user_words(words, head))
-}
-
-/// The line of a head, as a key.
-#[tactic(auto, unfolding(crate::specs::inside::Compact::Layout::record_at))]
-pub(crate) fn line_key(words: &[u64], head: Head) -> Key
-    requires within { head.start + size head ≤ length words.now }
-    requires small { IsHead head }
-    ensures { result ≡ (record_at words.now head).line }
-{
-    Key::of_words(line_words(words, head))
-}
-
-/// The user of a head, as a key.
-#[tactic(auto, unfolding(crate::specs::inside::Compact::Layout::record_at))]
-pub(crate) fn user_key(words: &[u64], head: Head) -> Key
-    requires within { head.start + size head ≤ length words.now }
-    requires small { IsHead head }
-    ensures { result ≡ (record_at words.now head).user }
-{
-    Key::of_words(user_words(words, head))
 }
 
 /// The record of a head.

@@ -11,7 +11,7 @@ use crate::field::Name;
 use crate::login::decode::{RECORD_WORDS, decode_all};
 use crate::login::events::event_at;
 use crate::login::head::{
-    Head, append_parts, head_at, keep_before, line_key, record, user_key, user_of,
+    Head, append_parts, head_at, keep_before, line_words, record, user_of, user_words,
 };
 use crate::login::key::Key;
 use crate::login::{Event, LOGIN_SIZE, LoginRecord};
@@ -119,19 +119,21 @@ impl Logins {
     }
 
     /// The line of a record, as a key.
+    #[tactic(auto, unfolding(crate::specs::inside::Compact::Layout::record_at))]
     pub fn line_key(&self, index: usize) -> Option<Key>
         ensures { result ≡ option_map (λ r. r.line) (slice_get self.now index) }
     {
         let (words, head) = self.part(index)?;
-        Some(line_key(words, head))
+        Some(Key::of_words(line_words(words, head)))
     }
 
     /// The user of a record, as a key.
+    #[tactic(auto, unfolding(crate::specs::inside::Compact::Layout::record_at))]
     pub fn user_key(&self, index: usize) -> Option<Key>
         ensures { result ≡ option_map (λ r. r.user) (slice_get self.now index) }
     {
         let (words, head) = self.part(index)?;
-        Some(user_key(words, head))
+        Some(Key::of_words(user_words(words, head)))
     }
 
     /// Adds the records of another, or none.

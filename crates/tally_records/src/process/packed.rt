@@ -2,10 +2,10 @@
 ghost use Rattle.std.specs.Prelude.{◌≡◌, ◌≤◌, ◌+◌, take, drop, IfOk, MatchResult, Ok, Err};
 ghost use Rattle.tally_records.specs.PackedProc.{elapsed_ticks, record_of};
 ghost use Rattle.tally_records.specs.ProcRecord.{IsBounded, fields_2, fields_3, proc_result};
-ghost use Rattle.tally_records.specs.Text.{text_of, u16_at, u32_at};
+ghost use Rattle.tally_records.specs.Text.{text_of, u16_at};
 
 use crate::fault::RecordFault;
-use crate::field::{Comm, text};
+use crate::field::{Comm, number_at, text};
 use crate::process::compressed::comp;
 use crate::process::elapsed::elapsed;
 use crate::process::{PROC_SIZE, ProcRecord};
@@ -79,14 +79,6 @@ fn comp_at(bytes: &[u8; PROC_SIZE], offset: usize) -> u16
 {
     let field = &bytes[offset..];
     LittleEndian::read_u16(field)
-}
-
-fn number_at(bytes: &[u8; PROC_SIZE], offset: usize) -> u32
-    requires { offset + 4 ≤ 64 }
-    ensures { result ≡ u32_at offset bytes.now }
-{
-    let field = &bytes[offset..];
-    LittleEndian::read_u32(field)
 }
 
 /// The name of the command in a field of so many bytes.

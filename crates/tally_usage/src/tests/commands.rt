@@ -1,20 +1,12 @@
 //! The rows by command, worked by hand.
-use super::{BELL, EXECUTED, FORKED, MAKE, OTHER, commands_of, makes, proc_record, summary_of};
+use super::{
+    BELL, EXECUTED, FORKED, MAKE, OTHER, commands_of, makes, proc_record, row, summary_of,
+};
 use crate::{CommandRow, Order, Summary, Usage};
 use std::alloc::Global;
 use std::hash::RandomState;
 use std::process::Abort;
 use std::test::Fail;
-use tally_records::Comm;
-
-fn row(name: Comm, forked: bool, other: bool, usage: Usage) -> CommandRow {
-    CommandRow {
-        name,
-        forked,
-        other,
-        usage,
-    }
-}
 
 /// The rows of the three runs of make, where a command of one run is joined to the others.
 fn joined() -> [CommandRow; 2] {

@@ -1,12 +1,12 @@
 //! The rows by plain filters over the list of entries, compared with those of a summary.
-use super::{BELL, MAKE, OTHER, commands_of, post, proc_record, users_of};
+use super::{BELL, MAKE, OTHER, commands_of, post, proc_record, row, users_of};
 use crate::{CommandRow, Order, ProcEntry, Summary, UidRow, Usage};
 use std::alloc::{AllocError, Global};
 use std::cmp::Ordering;
 use std::hash::RandomState;
 use std::process::Abort;
 use std::test::Fail;
-use tally_records::{Comm, PROC_SIZE, ProcRecord};
+use tally_records::{Comm, List, PROC_SIZE, ProcRecord};
 
 const NONE: Usage = Usage {
     count: 0,
@@ -63,12 +63,7 @@ fn command_row(entries: &[ProcEntry], process: &ProcRecord) -> CommandRow {
             add(&mut usage, item);
         }
     }
-    CommandRow {
-        name: process.comm,
-        forked: process.flag % 2 == 1,
-        other: false,
-        usage,
-    }
+    row(process.comm, process.flag % 2 == 1, false, usage)
 }
 
 fn prints(name: &Comm) -> bool {
@@ -107,12 +102,7 @@ fn command_rows(
         }
     }
     if others.count > 0 {
-        rows.push(CommandRow {
-            name: OTHER,
-            forked: false,
-            other: true,
-            usage: others,
-        })?;
+        rows.push(row(OTHER, false, true, others))?;
     }
     rows.sort_by(|a, b| {
         by_number(order, &a.usage, &b.usage).then(
@@ -134,6 +124,18 @@ fn user_rows(alloc: Global, entries: &[ProcEntry], order: Order) -> Result<Vec<U
     Ok(rows)
 }
 
+/// Asserts that these rows were found, and the same in reverse.
+fn expect_rows<T: Copy + Drop + PartialEq>(
+    rt: &impl Abort,
+    mut rows: Vec<T>,
+    found: &List<T>,
+    reversed: &List<T>,
+) {
+    assert!(rt; found.as_slice() == rows.as_slice());
+    rows.reverse();
+    assert!(rt; reversed.as_slice() == rows.as_slice());
+}
+
 /// Asserts that the summary answers as the filters do, in this order and with each flag.
 fn expect_filtered(
     rt: &impl Abort,
@@ -143,29 +145,15 @@ fn expect_filtered(
 ) -> Result<(), Fail> {
     let entries = entries_of(alloc, summary)?;
     for all in [false, true] {
-        let mut rows = command_rows(alloc, entries.as_slice(), order, all)?;
+        let rows = command_rows(alloc, entries.as_slice(), order, all)?;
         let found = commands_of(alloc, summary, order, [all, false])?;
-        assert!(rt; found.as_slice() == rows.as_slice());
-        rows.reverse();
-        let found = commands_of(alloc, summary, order, [all, true])?;
-        assert!(rt; found.as_slice() == rows.as_slice());
+        let reversed = commands_of(alloc, summary, order, [all, true])?;
+        expect_rows(rt, rows, &found, &reversed);
     }
-    Ok(())
-}
-
-fn expect_filtered_users(
-    rt: &impl Abort,
-    alloc: Global,
-    summary: &Summary,
-    order: Order,
-) -> Result<(), Fail> {
-    let entries = entries_of(alloc, summary)?;
-    let mut rows = user_rows(alloc, entries.as_slice(), order)?;
+    let rows = user_rows(alloc, entries.as_slice(), order)?;
     let found = users_of(alloc, summary, order, false)?;
-    assert!(rt; found.as_slice() == rows.as_slice());
-    rows.reverse();
-    let found = users_of(alloc, summary, order, true)?;
-    assert!(rt; found.as_slice() == rows.as_slice());
+    let reversed = users_of(alloc, summary, order, true)?;
+    expect_rows(rt, rows, &found, &reversed);
     Ok(())
 }
 
@@ -204,7 +192,6 @@ fn answers_are_those_of_plain_filters(rt: HostRuntime) -> Result<(), Fail> {
             assert!(rt; summary.total() == total_of(entries.as_slice()));
             for order in [Order::Cpu, Order::Calls] {
                 expect_filtered(&rt, rt.alloc(), &summary, order)?;
-                expect_filtered_users(&rt, rt.alloc(), &summary, order)?;
             }
         }
     }

@@ -3,7 +3,7 @@ use Rattle.tally_print.specs.Output.{Prints}
 use Rattle.tally_print.specs.ReportTable.{answer_rows}
 use Rattle.tally_print.specs.Tables.{csv_text}
 use Rattle.tally_print.specs.declared.output.PrintFault.{PrintFault}
-use Rattle.tally_print.proofs.report_table.print_rows.Given as goal
+use Rattle.tally_print.proofs.report_table.print_table.Given as goal
 
 -- the rows of the answers before this one were printed
 abbrev pub invariant-loop-answer : goal.invariant-loop-answer
