@@ -115,7 +115,7 @@ fn work_through<R: Threads + Wait + Sync, I: Input + Send, G: Gate + Sync>(
     requires desk { All (λ p. p.desk ≡ desk.id) passes.items }
     requires numbers { (k : ℕ) (p : _) → k < length passes.items → (slice_index_or passes.items k p).number ≡ k }
     requires sources { length sources.items ≤ length passes.items }
-    requires countable { All (IsReadable I.failures) sources.items }
+    requires readable { All (IsReadable I.failures) sources.items }
     ensures callers { IfOk result (λ r. r.0.callers ≡ desk.callers) }
     ensures legal { IfOk result (λ r. IsLegal r.0) }
     ensures worked { IfOk result (λ r. AreWorkedThrough I.to_come I.can_fail until sources.items passes.items r.0 r.1) }

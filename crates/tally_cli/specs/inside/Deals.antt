@@ -15,7 +15,7 @@ IsIn lists x = (w : ℕ) × (k : ℕ) × (w < length lists) × (k < length (slic
 
 -- to feed the source, or to ask where there is none, up to a moment if one is given
 abbrev pub work_of : {I : Type 0} → Option ℤ → Option (Source I) → Work I
-work_of until (Some source) = work.Feed source.kind source.input
+work_of until (Some source) = work.Feed source
 work_of until None = work.Ask until
 
 -- the caller feeds the source of its number, or asks where there is none

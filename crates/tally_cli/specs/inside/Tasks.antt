@@ -1,5 +1,5 @@
 -- What a worker does of its tasks.
-use Rattle.std.specs.Prelude.{◌≡◌, ◌<◌, ◌-◌, ◌^◌, ◌∷◌, [], ℕ, Bool, List, Option, Some, ℤ, false, pos, true, ⊤, length, slice_index_or}
+use Rattle.std.specs.Prelude.{◌≡◌, ◌<◌, ◌∷◌, [], ℕ, Bool, List, Option, Some, ℤ, false, pos, true, ⊤, length, slice_index_or}
 use Rattle.std.specs.List.{All, Contains}
 use Rattle.tally_book.specs.declared.question.Question.{Question}
 use Rattle.tally_book.specs.declared.question.Question.TheVariants as questions
@@ -12,6 +12,8 @@ use Rattle.tally_desk.specs.declared.feeding.Fed.{Fed}
 use Rattle.tally_records.specs.Records.{Records}
 use Rattle.tally_records.specs.declared.batch.Kind.{Kind}
 use Rattle.tally_usage.specs.declared.order.Order.TheVariants as order
+use Rattle.tally_cli.specs.Runs.{IsReadable}
+use Rattle.tally_cli.specs.declared.running.source.Source.{Source}
 use Rattle.tally_cli.specs.declared.running.task.Task.{Task}
 use Rattle.tally_cli.specs.declared.running.task.Work.{Work}
 use Rattle.tally_cli.specs.declared.running.task.Work.TheVariants as work
@@ -33,11 +35,6 @@ abbrev pub HasFailed : Outcome → Type 0
 HasFailed (outcome.FeedFailed fault) = ⊤
 HasFailed (outcome.AskFailed fault) = ⊤
 HasFailed o = ⊥
-
--- the failures of an input to be fed can be counted once more
-abbrev pub IsCountable : {I : Type 0} → (I → ℕ) → Work I → Type 0
-IsCountable failures (work.Feed kind input) = failures input < 2 ^ 64 - 1
-IsCountable failures (work.Ask until) = ⊤
 
 -- a feed that reached the end of its input
 pub record HasFed (told : Option (List ℕ)) (kind : Kind) (old new : PassState) (fed : Fed) : Type 0 where
@@ -62,10 +59,10 @@ asker_questions until = in_rounds 4 (asked_once until)
 
 -- what a caller did of its work, by what it says of it
 abbrev pub IsOutcome : {I : Type 0} → (I → Option (List ℕ)) → (I → Bool) → Work I → PassState → PassState → Outcome → Type 0
-IsOutcome to_come can_fail (work.Feed kind input) old new outcome.Untried = new ≡ old
-IsOutcome to_come can_fail (work.Feed kind input) old new (outcome.Fed fed) = HasFed (to_come input) kind old new fed
-IsOutcome to_come can_fail (work.Feed kind input) old new (outcome.FeedFailed fault) =
-    FailedToFeed (to_come input) (can_fail input) kind old new fault
+IsOutcome to_come can_fail (work.Feed source) old new outcome.Untried = new ≡ old
+IsOutcome to_come can_fail (work.Feed source) old new (outcome.Fed fed) = HasFed (to_come source.input) source.kind old new fed
+IsOutcome to_come can_fail (work.Feed source) old new (outcome.FeedFailed fault) =
+    FailedToFeed (to_come source.input) (can_fail source.input) source.kind old new fault
 IsOutcome to_come can_fail (work.Ask until) old new outcome.Untried = new ≡ old
 IsOutcome to_come can_fail (work.Ask until) old new (outcome.Asked count) = (count ≡ 16) × Asks old new (asker_questions until)
 IsOutcome to_come can_fail (work.Ask until) old new (outcome.AskFailed fault) = AskStops (asker_questions until) old new fault
@@ -85,7 +82,7 @@ pub record EachWorks {I : Type 0} (to_come : I → Option (List ℕ)) (can_fail 
 pub record IsNew {I : Type 0} (failures : I → ℕ) (desk : DeskState) (t : Task I) : Type 0 where
   pub desk_is : t.pass.desk ≡ desk.id
   pub untried : IsUntried t.outcome
-  pub countable : IsCountable failures t.work
+  pub readable : (source : Source I) → t.work ≡ work.Feed source → IsReadable failures source
 
 -- tasks of callers of this desk in rising order of their numbers, none of which was tried
 pub record AreReady {I : Type 0} (failures : I → ℕ) (desk : DeskState) (ts : List (Task I)) : Type 0 where

@@ -55,8 +55,7 @@ fn next_work<I: Drop>(sources: &mut Vec<Source<I>>, until: Option<i32>) -> Work<
     if sources.is_empty() {
         return Work::Ask { until };
     }
-    let Source { kind, input } = sources.remove(0);
-    Work::Feed { kind, input }
+    Work::Feed(sources.remove(0))
 }
 
 /// Deals the callers' work to the workers, in order. Askers ask up to a moment, if one is given.
@@ -73,7 +72,7 @@ pub(crate) fn deal_out<I: Input>(
     requires desk { All (λ p. p.desk ≡ desk.now.id) passes.items }
     requires numbers { (k : ℕ) (p : _) → k < length passes.items → (slice_index_or passes.items k p).number ≡ k }
     requires sources { length sources.items ≤ length passes.items }
-    requires countable { All (IsReadable I.failures) sources.items }
+    requires readable { All (IsReadable I.failures) sources.items }
     ensures dealt { IfOk result (λ lists. AreDealt until sources.items passes.items (map (λ v. v.items) lists.items)) }
     ensures all { IfOk result (λ lists. sum_by length (map (λ v. v.items) lists.items) ≡ length passes.items) }
     ensures ready { IfOk result (λ lists. All (AreReady I.failures desk.now) (map (λ v. v.items) lists.items)) }

@@ -2,19 +2,20 @@
 ghost use Rattle.std.specs.Prelude.{◌≡◌, IfErr, IfOk, MatchBool, OnOk};
 ghost use Rattle.tally_desk.specs.Passes.{Keeps};
 ghost use Rattle.tally_desk.specs.Rounds.{AskStops, Asks};
-ghost use Rattle.tally_cli.specs.inside.Tasks.{asked_once, asker_questions, HasFailed, IsCountable, IsDone, IsUntried, Works};
+ghost use Rattle.tally_cli.specs.Runs.{IsReadable};
+ghost use Rattle.tally_cli.specs.inside.Tasks.{asked_once, asker_questions, HasFailed, IsDone, IsUntried, Works};
 
+use crate::running::source::Source;
 use std::alloc::Global;
 use std::sync::Wait;
 use tally_book::{AskFault, Question};
 use tally_desk::{Desk, Fed, FeedFault, Gate, Input, Pass, ask_rounds, feed};
-use tally_records::Kind;
 use tally_usage::Order;
 
-/// What a caller is to do: feed its input, or ask reports.
+/// What a caller is to do: feed its source, or ask reports.
 #[derive(Drop)]
 pub(crate) enum Work<I> {
-    Feed { kind: Kind, input: I },
+    Feed(Source<I>),
     Ask { until: Option<i32> },
 }
 
@@ -96,13 +97,21 @@ pub(crate) fn carry_out<R: Wait, I: Input, G: Gate>(
 ) -> bool
     requires desk { task.old.pass.desk ≡ desk.now.id }
     requires untried { IsUntried task.old.outcome }
-    requires countable { IsCountable I.failures task.old.work }
+    requires readable { (source : Source _) → task.old.work ≡ Work.Feed source → IsReadable I.failures source }
     ensures works { Works I.to_come I.can_fail task.old task.new }
     ensures done { MatchBool result (IsDone task.new.outcome) (HasFailed task.new.outcome) }
 {
     match &mut task.work {
-        Work::Feed { kind, input } => {
-            match feed(rt, alloc, desk, &mut task.pass, *kind, input, gate) {
+        Work::Feed(source) => {
+            match feed(
+                rt,
+                alloc,
+                desk,
+                &mut task.pass,
+                source.kind,
+                &mut source.input,
+                gate,
+            ) {
                 Ok(fed) => {
                     task.outcome = Outcome::Fed(fed);
                     true

@@ -8,8 +8,8 @@ use Rattle.tally_desk.specs.Passes.{PassState}
 use Rattle.tally_cli.specs.declared.running.task.Task.{Task}
 use Rattle.tally_cli.specs.declared.running.task.Outcome.TheVariants.{Untried}
 use Rattle.tally_cli.specs.inside.Deals.{IsIn, IsTaskOf, task_of, work_of}
-use Rattle.tally_cli.specs.inside.Tasks.{AreReady, IsCountable, IsNew}
-use Rattle.tally_cli.proofs.Dealt.{AreBelow, all_empty, below_more, below_push, countable_at, first_left, in_new, in_old, none_yet, pushed, ready_push, removed, sum_new}
+use Rattle.tally_cli.specs.inside.Tasks.{AreReady, IsNew}
+use Rattle.tally_cli.proofs.Dealt.{AreBelow, all_empty, below_more, below_push, first_left, in_new, in_old, none_yet, pushed, readable_at, ready_push, removed, sum_new}
 use Rattle.tally_cli.proofs.running.deal.deal_out.Goals as goal
 
 pub loop-number-init : goal.loop-number-init
@@ -58,7 +58,7 @@ loop-number-preserved g c =
     let new : IsNew failures desk t = record {
       desk_is = ap (λ (p : PassState). p.desk) (pass_is pass) ∙ All-get_or (λ (p : PassState). p.desk ≡ desk.id) passes n pass inside c.requires.desk;
       untried = refl;
-      countable = subst (IsCountable failures) (sym work_is) (countable_at failures c.args.until sources n c.requires.countable);
+      readable = λ source is. readable_at failures c.args.until sources n source c.requires.readable (sym work_is ∙ is);
     } in
     record {
       passes = c.remove-pass.ensures.items ∙ (ap (λ l. remove l 0) inv.passes ∙ removed passes n);
