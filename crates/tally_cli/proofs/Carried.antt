@@ -1,11 +1,12 @@
 -- The tasks of all workers, after their work.
-use Rattle.std.proofs.Common.{◌≡◌, ℕ, zero, suc, ◌+◌, ◌<◌, Bool, List, [], ◌∷◌, ◌++◌, Option, length, map, get_or, sym, refl, ap, ◌∙◌, subst, arith, length-append, ℤ}
+use Rattle.std.proofs.Common.{◌≡◌, ℕ, zero, suc, ◌+◌, ◌<◌, Bool, List, [], ◌∷◌, ◌++◌, Option, length, map, get_or, sym, refl, ap, ◌∙◌, subst, arith, length-append}
 use Rattle.std.proofs.lemmas.List.{length-map, get_or_default, get_or_append_left, get_or-append-add}
 use Rattle.std.proofs.lemmas.List.Elements.{All-nil, All-cons, All-append, All-contains, All-get_or, All-head, All-tail}
 use Rattle.std.proofs.lemmas.List.Sums.{sum_by-cons}
 use Rattle.std.specs.List.{All, Contains, flat_map, sum_by}
 use Rattle.tally_desk.specs.Passes.{PassState}
 use Rattle.tally_cli.specs.declared.running.source.Source.{Source}
+use Rattle.tally_cli.specs.declared.running.task.Asking.{Asking}
 use Rattle.tally_cli.specs.declared.running.task.Task.{Task}
 use Rattle.tally_cli.specs.inside.Deals.{AreCarriedOut, AreDealt, CameOf, IsIn, IsTaskOf}
 use Rattle.tally_cli.specs.inside.Tasks.{EachWorks, IsExplained, Works}
@@ -59,15 +60,15 @@ carried to_come can_fail f [] us t worked h = absurd (omega (arith, h.2))
 carried to_come can_fail f (v ∷ vs) us t worked h = carried_at to_come can_fail f (v ∷ vs) us v t worked h
 
 -- what came of all tasks
-pub carried_out : {V I : Type 0} (to_come : I → Option (List ℕ)) (can_fail : I → Bool) (until : Option ℤ) (f : V → List (Task I)) (sources : List (Source I)) (passes : List PassState) (vs us : List V)
-    → AreDealt until sources passes (map f vs) → AreWorked to_come can_fail f vs us → AreCarriedOut to_come can_fail until sources passes (flat_map f us)
-carried_out {V} {I} to_come can_fail until f sources passes vs us dealt worked = record {
+pub carried_out : {V I : Type 0} (to_come : I → Option (List ℕ)) (can_fail : I → Bool) (asking : Asking) (f : V → List (Task I)) (sources : List (Source I)) (passes : List PassState) (vs us : List V)
+    → AreDealt asking sources passes (map f vs) → AreWorked to_come can_fail f vs us → AreCarriedOut to_come can_fail asking sources passes (flat_map f us)
+carried_out {V} {I} to_come can_fail asking f sources passes vs us dealt worked = record {
   each = λ k p l. carried to_come can_fail f vs us _ worked (dealt.each k p l);
-  only = all_flat (CameOf to_come can_fail until sources passes) f us (λ w d l k x m.
+  only = all_flat (CameOf to_come can_fail asking sources passes) f us (λ w d l k x m.
       let near : w < length vs = omega (arith, l, worked.count) in
       let each = worked.works w d near in
       let inside : k < length (f (get_or vs w d)) = omega (arith, m, each.count) in
-      let own : All (IsTaskOf until sources passes) (f (get_or vs w d)) = All-get_or (λ v. All (IsTaskOf until sources passes) (f v)) vs w d near (all_unmap (All (IsTaskOf until sources passes)) f vs dealt.only) in
+      let own : All (IsTaskOf asking sources passes) (f (get_or vs w d)) = All-get_or (λ v. All (IsTaskOf asking sources passes) (f v)) vs w d near (all_unmap (All (IsTaskOf asking sources passes)) f vs dealt.only) in
       (get_or (f (get_or vs w d)) k x, own k x inside, each.each k x inside));
 }
 
@@ -99,11 +100,11 @@ flat_count f [] = refl
 flat_count f (v ∷ vs) = omega (arith, length-append (f v) (flat_map f vs), flat_count f vs, sum_by-cons length (f v) (map f vs))
 
 -- all passes are of the desk still
-pub same_desk : {I D : Type 0} (id : D) (desk_of : PassState → D) (to_come : I → Option (List ℕ)) (can_fail : I → Bool) (until : Option ℤ) (sources : List (Source I)) (passes back : List PassState) (tasks : List (Task I))
-    → ((t u : Task I) → Works to_come can_fail t u → desk_of u.pass ≡ desk_of t.pass) → All (λ p. desk_of p ≡ id) passes → All (CameOf to_come can_fail until sources passes) tasks
+pub same_desk : {I D : Type 0} (id : D) (desk_of : PassState → D) (to_come : I → Option (List ℕ)) (can_fail : I → Bool) (asking : Asking) (sources : List (Source I)) (passes back : List PassState) (tasks : List (Task I))
+    → ((t u : Task I) → Works to_come can_fail t u → desk_of u.pass ≡ desk_of t.pass) → All (λ p. desk_of p ≡ id) passes → All (CameOf to_come can_fail asking sources passes) tasks
     → ((k : ℕ) (d : PassState) → k < length back → (t : Task I) × Contains tasks t × (t.pass ≡ get_or back k d)) → All (λ p. desk_of p ≡ id) back
-same_desk {I} id desk_of to_come can_fail until sources passes back tasks keeps all came own = λ k d l.
+same_desk {I} id desk_of to_come can_fail asking sources passes back tasks keeps all came own = λ k d l.
     let t = own k d l in
-    let from = All-contains (CameOf to_come can_fail until sources passes) tasks t.0 came t.1 in
+    let from = All-contains (CameOf to_come can_fail asking sources passes) tasks t.0 came t.1 in
     let task = from.1 in
     ap desk_of (sym t.2) ∙ keeps from.0 t.0 from.2 ∙ ap (λ (x : Task I). desk_of x.pass) task.3 ∙ All-get_or (λ p. desk_of p ≡ id) passes task.0 task.1 task.2 all

@@ -1,5 +1,5 @@
 -- One more task is dealt.
-use Rattle.std.proofs.Common.{◌≡◌, ◌≢◌, ℕ, zero, suc, ◌+◌, ◌<◌, ◌≤◌, List, [], ◌∷◌, ◌++◌, length, map, set, get_or, drop, sym, refl, ap, ◌∙◌, subst, arith, length-append, ⊎_elim, Option, Some, None, ℤ}
+use Rattle.std.proofs.Common.{◌≡◌, ◌≢◌, ℕ, zero, suc, ◌+◌, ◌<◌, ◌≤◌, List, [], ◌∷◌, ◌++◌, length, map, set, get_or, drop, sym, refl, ap, ◌∙◌, subst, arith, length-append, ⊎_elim, Option, Some, None}
 use Rattle.std.proofs.lemmas.Bool.{cases_eq, cases_lt}
 use Rattle.std.proofs.lemmas.List.{drop-drop, length-set, get_or-set_same, get_or-set_other, get_or_append_left, get_or_at, map-set}
 use Rattle.std.proofs.lemmas.List.Elements.{All-map, All-weaker, All-push, All-head, All-tail}
@@ -9,6 +9,7 @@ use Rattle.std.specs.List.{All, sum_by, remove}
 use Rattle.std.specs.Prelude.{slice_get}
 use Rattle.tally_desk.specs.Passes.{DeskState}
 use Rattle.tally_cli.specs.declared.running.source.Source.{Source}
+use Rattle.tally_cli.specs.declared.running.task.Asking.{Asking}
 use Rattle.tally_cli.specs.declared.running.task.Task.{Task}
 use Rattle.tally_cli.specs.declared.running.task.Work.TheVariants as work
 use Rattle.tally_cli.specs.inside.Deals.{IsIn, work_of}
@@ -72,14 +73,14 @@ none_yet f (v ∷ vs) h =
 pub all_empty : {V A : Type 0} (P : List A → Type 0) (f : V → List A) (vs : List V) → P [] → All (λ v. f v ≡ []) vs → All P (map f vs)
 all_empty P f vs p h = All-map P f vs (All-weaker (λ v. f v ≡ []) (λ v. P (f v)) (λ v e. subst P (sym e) p) vs h)
 
-fed_is : {I : Type 0} (until : Option ℤ) (first : Option (Source I)) (source : Source I) → work_of until first ≡ work.Feed source → first ≡ Some source
-fed_is until (Some s) source e = cc
-fed_is until None source e = cc
+fed_is : {I : Type 0} (asking : Asking) (first : Option (Source I)) (source : Source I) → work_of asking first ≡ work.Feed source → first ≡ Some source
+fed_is asking (Some s) source e = cc
+fed_is asking None source e = cc
 
 -- the source that is to be fed can be read
-pub readable_at : {I : Type 0} (failures : I → ℕ) (until : Option ℤ) (sources : List (Source I)) (n : ℕ) (source : Source I) → All (IsReadable failures) sources → work_of until (slice_get sources n) ≡ work.Feed source → IsReadable failures source
-readable_at failures until sources n source all e =
-    let is = fed_is until (slice_get sources n) source e in
+pub readable_at : {I : Type 0} (failures : I → ℕ) (asking : Asking) (sources : List (Source I)) (n : ℕ) (source : Source I) → All (IsReadable failures) sources → work_of asking (slice_get sources n) ≡ work.Feed source → IsReadable failures source
+readable_at failures asking sources n source all e =
+    let is = fed_is asking (slice_get sources n) source e in
     subst (IsReadable failures) (get_or_from_slice_get sources n source source is) (all n source (slice_get_within sources n source is))
 
 -- no task of these is of this number or a greater one

@@ -1,5 +1,5 @@
 -- What the failure of a caller shows of the files.
-use Rattle.std.proofs.Common.{◌≡◌, ℕ, ◌<◌, ◌≤◌, Bool, List, [], Option, Some, None, length, get_or, sym, refl, ap, ◌∙◌, subst, arith, ⊎_elim, true, ℤ}
+use Rattle.std.proofs.Common.{◌≡◌, ℕ, ◌<◌, ◌≤◌, Bool, List, [], Option, Some, None, length, get_or, sym, refl, ap, ◌∙◌, subst, arith, ⊎_elim, true}
 use Rattle.std.proofs.lemmas.List.{get_or_default}
 use Rattle.std.proofs.lemmas.Option.{slice_get_within, get_or_from_slice_get}
 use Rattle.std.proofs.lemmas.List.Elements.{All-contains, All-from_get_or}
@@ -18,6 +18,7 @@ use Rattle.tally_sessions.specs.declared.entry.Entry.{Entry}
 use Rattle.tally_usage.specs.declared.entry.ProcEntry.{ProcEntry}
 use Rattle.tally_cli.specs.declared.running.gather.Failure.{Failure}
 use Rattle.tally_cli.specs.declared.running.source.Source.{Source}
+use Rattle.tally_cli.specs.declared.running.task.Asking.{Asking}
 use Rattle.tally_cli.specs.declared.running.task.Task.{Task}
 use Rattle.tally_cli.specs.inside.Deals.{CameOf, task_of, work_of}
 use Rattle.tally_cli.specs.inside.Failures.{IsOfOne, failure_of}
@@ -31,8 +32,8 @@ use Rattle.tally_cli.proofs.Faults.{IsAskFailure, IsFailureOf, IsFeedFailure, ca
 use Rattle.tally_cli.proofs.Ended.{Ended, few, good_before, no_input, source_or_none, told_at}
 use Rattle.tally_cli.proofs.TooMany.{too_many}
 
-module _ {I : Type 0} {to_come : I → Option (List ℕ)} {can_fail : I → Bool} {until : Option ℤ} {sources : List (Source I)} {passes : List PassState} {d : PassState} {b : Contents} {failure : Option Failure}
-    (ended : Ended to_come can_fail until sources passes d b failure) where
+module _ {I : Type 0} {to_come : I → Option (List ℕ)} {can_fail : I → Bool} {asking : Asking} {sources : List (Source I)} {passes : List PassState} {d : PassState} {b : Contents} {failure : Option Failure}
+    (ended : Ended to_come can_fail asking sources passes d b failure) where
   -- whose failure was told
   pub record Failed (f : Failure) : Type 0 where
     pub host : ℕ
@@ -40,7 +41,7 @@ module _ {I : Type 0} {to_come : I → Option (List ℕ)} {can_fail : I → Bool
     pub before : (k : ℕ) → k < host → IsBefore k failure
     pub old : PassState
     pub new : PassState
-    pub failure_is : IsFailureOf to_come can_fail until (slice_get sources host) old new host f
+    pub failure_is : IsFailureOf to_come can_fail asking (slice_get sources host) old new host f
     pub stands : Stands b new
     pub fresh : deeds old ≡ []
     pub done : deeds_of host b ≡ deeds new
@@ -49,20 +50,20 @@ module _ {I : Type 0} {to_come : I → Option (List ℕ)} {can_fail : I → Bool
   failed f e =
       let least : IsOfOne ended.worked.tasks f = subst (λ o. IfSome o (IsOfOne ended.worked.tasks)) e ended.worked.least.some in
       let t : Task I = least.0 in
-      let from = All-contains (CameOf to_come can_fail until sources passes) ended.worked.tasks t ended.worked.carried.only least.1 in
+      let from = All-contains (CameOf to_come can_fail asking sources passes) ended.worked.tasks t ended.worked.carried.only least.1 in
       let host : ℕ = from.1.0 in
       let near : host < length passes = from.1.2 in
       let p : PassState = get_or passes host from.1.1 in
-      let is : from.0 ≡ task_of until sources host p = from.1.3 in
+      let is : from.0 ≡ task_of asking sources host p = from.1.3 in
       let first_number : p.number ≡ host = ap (λ (x : PassState). x.number) (get_or_default passes host from.1.1 d near) ∙ (ended.first host near).0 in
       let number : t.pass.number ≡ host = from.2.keeps.number ∙ ap (λ (x : Task I). x.pass.number) is ∙ first_number in
-      let came : IsOutcome to_come can_fail (work_of until (slice_get sources host)) p t.pass t.outcome = subst (λ (x : Task I). IsOutcome to_come can_fail x.work x.pass t.pass t.outcome) is from.2.outcome_is in
+      let came : IsOutcome to_come can_fail (work_of asking (slice_get sources host)) p t.pass t.outcome = subst (λ (x : Task I). IsOutcome to_come can_fail x.work x.pass t.pass t.outcome) is from.2.outcome_is in
       let told : failure_of host t.outcome ≡ Some f = ap (λ n. failure_of n t.outcome) (sym number) ∙ least.2 in
-      let own = failure_is to_come can_fail until (slice_get sources host) p t.pass t.outcome host f came told in
+      let own = failure_is to_come can_fail asking (slice_get sources host) p t.pass t.outcome host f came told in
       record {
         host = host;
         near = near;
-        before = λ k l. subst (IsBefore k) (sym e) (omega (arith, l, caller_is to_come can_fail until (slice_get sources host) p t.pass host f own));
+        before = λ k l. subst (IsBefore k) (sym e) (omega (arith, l, caller_is to_come can_fail asking (slice_get sources host) p t.pass host f own));
         old = p;
         new = t.pass;
         failure_is = own;
@@ -81,7 +82,7 @@ module _ {I : Type 0} {to_come : I → Option (List ℕ)} {can_fail : I → Bool
       let in_inputs : own.host < length inputs = omega (arith, l, tell.0) in
       let t = told_at ended inputs own.host found.0 tell found.1 in
       let i : Told = get_or inputs own.host no_input in
-      let fed : IsFeedFailure to_come can_fail found.0 own.old own.new own.host f = subst (λ o. IsFailureOf to_come can_fail until o own.old own.new own.host f) found.1 own.failure_is in
+      let fed : IsFeedFailure to_come can_fail found.0 own.old own.new own.host f = subst (λ o. IsFailureOf to_come can_fail asking o own.old own.new own.host f) found.1 own.failure_is in
       let told : FailedToFeed (Some i.bytes) (can_fail found.0.input) i.kind own.old own.new fed.fault =
       subst (λ (x : Option (List ℕ) × Kind). FailedToFeed x.0 (can_fail found.0.input) x.1 own.old own.new fed.fault) (λ j. (t.1 j, t.0 j)) fed.failed in
       subst (λ (x : Failure). IsReadCause inputs (run_fault x)) fed.is
@@ -102,7 +103,7 @@ module _ {I : Type 0} {to_come : I → Option (List ℕ)} {can_fail : I → Bool
             (not_full i.kind own.new.seen fed.fault told.full (few_seen b own.new (few ended) own.stands)));
       }))
       (λ (never : (slice_get sources own.host ≡ None) × (length sources ≤ own.host)).
-      let ask : IsAskFailure until own.old own.new own.host f = subst (λ o. IsFailureOf to_come can_fail until o own.old own.new own.host f) never.0 own.failure_is in
+      let ask : IsAskFailure asking own.old own.new own.host f = subst (λ o. IsFailureOf to_come can_fail asking o own.old own.new own.host f) never.0 own.failure_is in
       subst (λ (x : Failure). IsReadCause inputs (run_fault x)) ask.is
       (All-from_get_or IsGood inputs no_input (λ k l.
       let m : k < length sources = omega (arith, l, tell.0) in
@@ -115,12 +116,12 @@ module _ {I : Type 0} {to_come : I → Option (List ℕ)} {can_fail : I → Bool
       let own = failed f e in
       ⊎_elim
       (λ (found : (x : Source I) × (slice_get sources own.host ≡ Some x)).
-      let failure_of_feed : IsFeedFailure to_come can_fail found.0 own.old own.new own.host f = subst (λ o. IsFailureOf to_come can_fail until o own.old own.new own.host f) found.1 own.failure_is in
+      let failure_of_feed : IsFeedFailure to_come can_fail found.0 own.old own.new own.host f = subst (λ o. IsFailureOf to_come can_fail asking o own.old own.new own.host f) found.1 own.failure_is in
       let same = file_is own.host host failure_of_feed.fault feed.Read f failure_of_feed.is told in
       let at : get_or sources host s ≡ found.0 = ap (λ n. get_or sources n s) (sym same.0) ∙ get_or_from_slice_get sources own.host found.0 s found.1 in
       ap (λ (x : Source I). can_fail x.input) at ∙ failure_of_feed.failed.read same.1)
       (λ (never : (slice_get sources own.host ≡ None) × (length sources ≤ own.host)).
-      let ask : IsAskFailure until own.old own.new own.host f = subst (λ o. IsFailureOf to_come can_fail until o own.old own.new own.host f) never.0 own.failure_is in
+      let ask : IsAskFailure asking own.old own.new own.host f = subst (λ o. IsFailureOf to_come can_fail asking o own.old own.new own.host f) never.0 own.failure_is in
       absurd (no_asker own.host host ask.fault feed.Read f ask.is told))
       (source_or_none sources own.host)
 
@@ -131,12 +132,12 @@ module _ {I : Type 0} {to_come : I → Option (List ℕ)} {can_fail : I → Bool
       let seen = few_seen b own.new (few ended) own.stands in
       ⊎_elim
       (λ (found : (s : Source I) × (slice_get sources own.host ≡ Some s)).
-      let fed : IsFeedFailure to_come can_fail found.0 own.old own.new own.host f = subst (λ o. IsFailureOf to_come can_fail until o own.old own.new own.host f) found.1 own.failure_is in
+      let fed : IsFeedFailure to_come can_fail found.0 own.old own.new own.host f = subst (λ o. IsFailureOf to_come can_fail asking o own.old own.new own.host f) found.1 own.failure_is in
       subst (λ (x : Failure). IsAllowed n (run_fault x)) fed.is (feed_allowed n own.host found.0.kind own.new.seen fed.fault fed.failed.full seen))
       (λ (never : (slice_get sources own.host ≡ None) × (length sources ≤ own.host)).
-      let ask : IsAskFailure until own.old own.new own.host f = subst (λ o. IsFailureOf to_come can_fail until o own.old own.new own.host f) never.0 own.failure_is in
+      let ask : IsAskFailure asking own.old own.new own.host f = subst (λ o. IsFailureOf to_come can_fail asking o own.old own.new own.host f) never.0 own.failure_is in
       let callers : 0 < own.new.seen.callers = omega (arith, own.stands.seen.callers, ended.legal.some_callers) in
-      subst (λ (x : Failure). IsAllowed n (run_fault x)) ask.is (ask_allowed until own.old own.new ask.fault ask.stops seen callers))
+      subst (λ (x : Failure). IsAllowed n (run_fault x)) ask.is (ask_allowed asking own.old own.new ask.fault ask.stops seen callers))
       (source_or_none sources own.host)
 
   -- the failure is of a file, or of an asker
@@ -145,10 +146,10 @@ module _ {I : Type 0} {to_come : I → Option (List ℕ)} {can_fail : I → Bool
       let own = failed f e in
       ⊎_elim
       (λ (found : (s : Source I) × (slice_get sources own.host ≡ Some s)).
-      let fed : IsFeedFailure to_come can_fail found.0 own.old own.new own.host f = subst (λ o. IsFailureOf to_come can_fail until o own.old own.new own.host f) found.1 own.failure_is in
+      let fed : IsFeedFailure to_come can_fail found.0 own.old own.new own.host f = subst (λ o. IsFailureOf to_come can_fail asking o own.old own.new own.host f) found.1 own.failure_is in
       subst (λ (x : Failure). IsNamed (length sources) callers (run_fault x)) fed.is (slice_get_within sources own.host found.0 found.1))
       (λ (never : (slice_get sources own.host ≡ None) × (length sources ≤ own.host)).
-      let ask : IsAskFailure until own.old own.new own.host f = subst (λ o. IsFailureOf to_come can_fail until o own.old own.new own.host f) never.0 own.failure_is in
+      let ask : IsAskFailure asking own.old own.new own.host f = subst (λ o. IsFailureOf to_come can_fail asking o own.old own.new own.host f) never.0 own.failure_is in
       subst (λ (x : Failure). IsNamed (length sources) callers (run_fault x)) ask.is (never.1, omega (arith, own.near, is)))
       (source_or_none sources own.host)
 
@@ -158,12 +159,12 @@ module _ {I : Type 0} {to_come : I → Option (List ℕ)} {can_fail : I → Bool
       let own = failed f e in
       ⊎_elim
       (λ (found : (s : Source I) × (slice_get sources own.host ≡ Some s)).
-      let fed : IsFeedFailure to_come can_fail found.0 own.old own.new own.host f = subst (λ o. IsFailureOf to_come can_fail until o own.old own.new own.host f) found.1 own.failure_is in
+      let fed : IsFeedFailure to_come can_fail found.0 own.old own.new own.host f = subst (λ o. IsFailureOf to_come can_fail asking o own.old own.new own.host f) found.1 own.failure_is in
       let logins : length own.new.seen.logins ≤ 1048576 = omega (arith, prefix_length own.new.seen.logins b.logins own.stands.seen.logins, ended.legal.few_logins) in
       let procs : length own.new.seen.procs ≤ 1048576 = omega (arith, prefix_length own.new.seen.procs b.procs own.stands.seen.procs, ended.legal.few_procs) in
       subst (λ (x : Failure). IsFullList sources (run_fault x)) fed.is
       (feed_full sources own.host found.0 (λ s. get_or_from_slice_get sources own.host found.0 s found.1) own.new.seen fed.fault fed.failed.full logins procs))
       (λ (never : (slice_get sources own.host ≡ None) × (length sources ≤ own.host)).
-      let ask : IsAskFailure until own.old own.new own.host f = subst (λ o. IsFailureOf to_come can_fail until o own.old own.new own.host f) never.0 own.failure_is in
+      let ask : IsAskFailure asking own.old own.new own.host f = subst (λ o. IsFailureOf to_come can_fail asking o own.old own.new own.host f) never.0 own.failure_is in
       subst (λ (x : Failure). IsFullList sources (run_fault x)) ask.is tt)
       (source_or_none sources own.host)

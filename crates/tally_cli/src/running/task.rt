@@ -12,11 +12,17 @@ use tally_book::{AskFault, Question};
 use tally_desk::{Desk, Fed, FeedFault, Gate, Input, Pass, ask_rounds, feed};
 use tally_usage::Order;
 
+/// What an asker asks: reports up to a moment, if one is given.
+#[derive(Clone, Copy)]
+pub(crate) struct Asking {
+    pub(crate) until: Option<i32>,
+}
+
 /// What a caller is to do: feed its source, or ask reports.
 #[derive(Drop)]
 pub(crate) enum Work<I> {
     Feed(Source<I>),
-    Ask { until: Option<i32> },
+    Ask(Asking),
 }
 
 /// What came of it.
@@ -40,10 +46,11 @@ pub(crate) struct Task<I> {
 /// How often an asker asks its questions.
 const ROUNDS: u32 = 4;
 
-/// The questions of an asker.
-fn questions(until: Option<i32>) -> [Question; 4]
-    ensures { result ≡ asked_once until }
+/// The questions of a round.
+fn questions(asking: Asking) -> [Question; 4]
+    ensures { result ≡ asked_once asking }
 {
+    let Asking { until } = asking;
     [
         Question::Last {
             host: 0,
@@ -74,16 +81,16 @@ fn ask<R: Wait, G: Gate>(
     alloc: Global,
     desk: &Desk,
     pass: &mut Pass,
-    until: Option<i32>,
+    asking: Asking,
     gate: &G,
 ) -> Result<u64, AskFault>
     requires { pass.old.desk ≡ desk.now.id }
     ensures keeps { Keeps pass.old pass.new }
     ensures count { IfOk result (λ count. count ≡ 16) }
-    ensures asked { OnOk result (Asks pass.old pass.new (asker_questions until)) }
-    ensures stops { IfErr result (AskStops (asker_questions until) pass.old pass.new) }
+    ensures asked { OnOk result (Asks pass.old pass.new (asker_questions asking)) }
+    ensures stops { IfErr result (AskStops (asker_questions asking) pass.old pass.new) }
 {
-    let questions = questions(until);
+    let questions = questions(asking);
     ask_rounds(rt, alloc, desk, pass, &questions, ROUNDS, gate)
 }
 
@@ -122,7 +129,7 @@ pub(crate) fn carry_out<R: Wait, I: Input, G: Gate>(
                 }
             }
         }
-        Work::Ask { until } => match ask(rt, alloc, desk, &mut task.pass, *until, gate) {
+        Work::Ask(asking) => match ask(rt, alloc, desk, &mut task.pass, *asking, gate) {
             Ok(count) => {
                 task.outcome = Outcome::Asked(count);
                 true
