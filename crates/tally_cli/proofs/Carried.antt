@@ -1,7 +1,7 @@
 -- The tasks of all workers, after their work.
 use Rattle.std.proofs.Common.{◌≡◌, ℕ, zero, suc, ◌+◌, ◌<◌, Bool, List, [], ◌∷◌, ◌++◌, Option, length, map, get_or, sym, refl, ap, ◌∙◌, subst, arith, length-append}
-use Rattle.std.proofs.lemmas.List.{length-map, get_or_default, get_or_append_left, get_or-append-add}
-use Rattle.std.proofs.lemmas.List.Elements.{All-nil, All-cons, All-append, All-contains, All-get_or, All-head, All-tail}
+use Rattle.std.proofs.lemmas.List.{length-map, get_or-map, get_or_default}
+use Rattle.std.proofs.lemmas.List.Elements.{All-nil, All-append, All-contains, All-get_or, All-tail, Contains-append_left, Contains-append_right}
 use Rattle.std.proofs.lemmas.List.Sums.{sum_by-cons}
 use Rattle.std.specs.List.{All, Contains, flat_map, sum_by}
 use Rattle.tally_desk.specs.Passes.{PassState}
@@ -10,22 +10,14 @@ use Rattle.tally_cli.specs.declared.running.task.Asking.{Asking}
 use Rattle.tally_cli.specs.declared.running.task.Task.{Task}
 use Rattle.tally_cli.specs.inside.Deals.{AreCarriedOut, AreDealt, CameOf, IsIn, IsTaskOf}
 use Rattle.tally_cli.specs.inside.Tasks.{EachWorks, IsExplained, Works}
-use Rattle.tally_cli.proofs.Dealt.{at_map}
 
 pub all_unmap : {V A : Type 0} (P : A → Type 0) (f : V → A) (vs : List V) → All P (map f vs) → All (λ v. P (f v)) vs
-all_unmap P f [] h = All-nil (λ v. P (f v))
-all_unmap P f (v ∷ vs) h = All-cons (λ v. P (f v)) v vs (All-head P (f v) (map f vs) h) (all_unmap P f vs (All-tail P (f v) (map f vs) h))
-
-contains_left : {A : Type 0} (xs ys : List A) (x : A) → Contains xs x → Contains (xs ++ ys) x
-contains_left xs ys x h = (h.0, omega (arith, length-append xs ys, h.1), get_or_append_left xs ys x h.0 h.1 ∙ h.2)
-
-contains_right : {A : Type 0} (xs ys : List A) (x : A) → Contains ys x → Contains (xs ++ ys) x
-contains_right xs ys x h = (length xs + h.0, omega (arith, length-append xs ys, h.1), get_or-append-add xs ys h.0 x ∙ h.2)
+all_unmap P f vs h = λ k d l. subst P (get_or-map f vs k d (f d) l) (h k (f d) (omega (arith, l, length-map vs f)))
 
 contains_flat : {V A : Type 0} (f : V → List A) (vs : List V) (w : ℕ) (d : V) (x : A) → w < length vs → Contains (f (get_or vs w d)) x → Contains (flat_map f vs) x
 contains_flat f [] w d x h c = absurd (omega (arith, h))
-contains_flat f (v ∷ vs) zero d x h c = contains_left (f v) (flat_map f vs) x c
-contains_flat f (v ∷ vs) (suc w) d x h c = contains_right (f v) (flat_map f vs) x (contains_flat f vs w d x (omega (arith, h)) c)
+contains_flat f (v ∷ vs) zero d x h c = Contains-append_left (f v) (flat_map f vs) x c
+contains_flat f (v ∷ vs) (suc w) d x h c = Contains-append_right (f v) (flat_map f vs) x (contains_flat f vs w d x (omega (arith, h)) c)
 
 all_flat : {V A : Type 0} (P : A → Type 0) (f : V → List A) (vs : List V) → ((w : ℕ) (d : V) → w < length vs → All P (f (get_or vs w d))) → All P (flat_map f vs)
 all_flat P f [] h = All-nil P
@@ -44,7 +36,7 @@ carried_at {V} {I} to_come can_fail f vs us d t worked h =
     let near : w < length vs = omega (arith, h.2, length-map vs f) in
     let ts : List (Task I) = f (get_or vs w d) in
     let now : List (Task I) = f (get_or us w d) in
-    let here : get_or (map f vs) w [] ≡ ts = at_map f vs w d near in
+    let here : get_or (map f vs) w [] ≡ ts = get_or-map f vs w d [] near in
     let each = worked.works w d near in
     let inside : k < length ts = omega (arith, ap length here, h.3) in
     let is : get_or ts k t ≡ t = ap (λ l. get_or l k t) (sym here) ∙ h.4 in

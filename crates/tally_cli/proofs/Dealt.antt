@@ -1,7 +1,7 @@
 -- One more task is dealt.
 use Rattle.std.proofs.Common.{◌≡◌, ◌≢◌, ℕ, zero, suc, ◌+◌, ◌<◌, ◌≤◌, List, [], ◌∷◌, ◌++◌, length, map, set, get_or, drop, sym, refl, ap, ◌∙◌, subst, arith, length-append, ⊎_elim, Option, Some, None}
 use Rattle.std.proofs.lemmas.Bool.{cases_eq, cases_lt}
-use Rattle.std.proofs.lemmas.List.{drop-drop, length-set, get_or-set_same, get_or-set_other, get_or_append_left, get_or_at, map-set}
+use Rattle.std.proofs.lemmas.List.{drop-drop, length-set, get_or-set_same, get_or-map, get_or-set_other, get_or_append_left, get_or_at, map-set}
 use Rattle.std.proofs.lemmas.List.Elements.{All-map, All-weaker, All-push, All-head, All-tail}
 use Rattle.std.proofs.lemmas.List.Sums.{sum_by-set, sum_by-cons}
 use Rattle.std.proofs.lemmas.Option.{get_or_from_slice_get, slice_get_within}
@@ -41,15 +41,10 @@ in_new {A} xss w x near =
 pub sum_new : {A : Type 0} (xss : List (List A)) (w : ℕ) (x : A) → w < length xss → sum_by length (set xss w (get_or xss w [] ++ x ∷ [])) ≡ sum_by length xss + 1
 sum_new {A} xss w x near = let ys : List A = get_or xss w [] ++ x ∷ [] in omega (arith, sum_by-set length xss w ys [] near, length-append (get_or xss w []) (x ∷ []))
 
-pub at_map : {V A : Type 0} (f : V → List A) (vs : List V) (w : ℕ) (v : V) → w < length vs → get_or (map f vs) w [] ≡ f (get_or vs w v)
-at_map f [] w v h = absurd (omega (arith, h))
-at_map f (x ∷ vs) zero v h = refl
-at_map f (x ∷ vs) (suc w) v h = at_map f vs w v (omega (arith, h))
-
 -- the lists after a push to one of them
 pub pushed : {V A : Type 0} (f : V → List A) (vs : List V) (w : ℕ) (v v' : V) (x : A) → w < length vs → v ≡ get_or vs w v → f v' ≡ f v ++ x ∷ [] → map f (set vs w v') ≡ set (map f vs) w (get_or (map f vs) w [] ++ x ∷ [])
 pushed f vs w v v' x near is more =
-    map-set f vs w v' ∙ ap (λ l. set (map f vs) w l) (more ∙ ap (λ l. l ++ x ∷ []) (ap f is ∙ sym (at_map f vs w v near)))
+    map-set f vs w v' ∙ ap (λ l. set (map f vs) w l) (more ∙ ap (λ l. l ++ x ∷ []) (ap f is ∙ sym (get_or-map f vs w v [] near)))
 
 pub first_left : {A : Type 0} (xs : List A) (n : ℕ) → slice_get (drop n xs) 0 ≡ slice_get xs n
 first_left [] zero = refl
