@@ -33,7 +33,7 @@ use Rattle.tally_cli.proofs.Outcomes.{IsBefore, done_before}
 use Rattle.tally_cli.proofs.Calls.{AreFew, outcome_few}
 use Rattle.tally_cli.proofs.Limits.{few_calls}
 use Rattle.tally_cli.proofs.Posted.{Added, AddedNothing, FilePosted, logins_of_file, no_logins_past, no_procs_past, posted_file, procs_of_file}
-use Rattle.tally_cli.proofs.FirstPasses.{first_at, first_count}
+use Rattle.tally_cli.proofs.FirstPasses.{are_first}
 
 caller_in : (callers : ℕ) (logins : List Entry) (procs : List ProcEntry) (c : Call) → IsCall callers logins procs c → caller_of c < callers
 caller_in callers logins procs (Posted caller before after) h = h.caller_in
@@ -69,14 +69,12 @@ pub record Ended {I : Type 0} (to_come : I → Option (List ℕ)) (can_fail : I 
 pub ended_of : {I : Type 0} {to_come : I → Option (List ℕ)} {can_fail : I → Bool} {asking : Asking} {sources : List (Source I)} {b : Contents} {failure : Option Failure} (id : _) (callers : ℕ) (passes : List PassState) → passes ≡ first_passes id callers → b.callers ≡ callers → length sources ≤ callers
     → IsLegal b → EntriesArePosts b → AreWorkedThrough to_come can_fail asking sources passes b failure → Ended to_come can_fail asking sources passes (first_pass id 0 0) b failure
 ended_of id callers passes new same enough legal posts worked =
-    let count = first_count passes (first_pass id callers) callers new in
+    let first = are_first (first_pass id callers) callers passes new in
     record {
       legal = legal;
-      all = count ∙ sym same;
-      enough = omega (arith, count, enough);
-      first = λ k l.
-          let is = first_at passes (first_pass id callers) callers k (first_pass id 0 0) new (omega (arith, l, count)) in
-          (ap (λ (p : PassState). p.number) is, ap deeds is);
+      all = first.count ∙ sym same;
+      enough = omega (arith, first.count, enough);
+      first = λ k l. let is = first.each k (first_pass id 0 0) l in (ap (λ (p : PassState). p.number) is, ap deeds is);
       posts = posts;
       worked = worked;
     }

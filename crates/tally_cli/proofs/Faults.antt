@@ -79,12 +79,12 @@ abbrev IsFile : RunFault → Type 0
 IsFile (run.File host fault) = Unit {0}
 IsFile fault = ⊥
 
--- the fault of a run is a file's where its failure is a feed's
-pub file_is : (number host : ℕ) (fault other : FeedFault) (failure : Failure) → record { caller = number; cause = cause.Feed fault } ≡ failure → run_fault failure ≡ run.File host other → (number ≡ host) × (fault ≡ other)
-file_is number host fault other failure is e = (ap (λ f. host_in (run_fault f)) is ∙ ap host_in e, ap (λ f. feed_in (run_fault f)) is ∙ ap feed_in e)
+-- two faults of files are one in both parts, and an asker's fault is none of them
+pub file_is : (number host : ℕ) (fault other : FeedFault) → run.File number fault ≡ run.File host other → (number ≡ host) × (fault ≡ other)
+file_is number host fault other e = (ap host_in e, ap feed_in e)
 
-pub no_asker : (number host : ℕ) (fault : AskFault) (other : FeedFault) (failure : Failure) → record { caller = number; cause = cause.Ask fault } ≡ failure → run_fault failure ≡ run.File host other → ⊥
-no_asker number host fault other failure is e = subst IsFile (sym (ap run_fault is ∙ e)) tt
+pub no_asker : (number host : ℕ) (fault : AskFault) (other : FeedFault) → run.Asker number fault ≡ run.File host other → ⊥
+no_asker number host fault other e = subst IsFile (sym e) tt
 
 -- the caller that failed
 pub caller_is : {I : Type 0} (to_come : I → Option (List ℕ)) (can_fail : I → Bool) (asking : Asking) (source : Option (Source I)) (p q : PassState) (number : ℕ) (failure : Failure) → IsFailureOf to_come can_fail asking source p q number failure → number ≡ failure.caller

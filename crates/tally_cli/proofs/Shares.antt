@@ -21,7 +21,7 @@ use Rattle.tally_cli.specs.declared.running.task.Outcome.{Outcome}
 use Rattle.tally_cli.specs.declared.running.task.Outcome.TheVariants as outcome
 use Rattle.tally_cli.specs.inside.Deals.{work_of}
 use Rattle.tally_cli.specs.inside.Tasks.{FailedToFeed, IsOutcome, asker_questions}
-use Rattle.tally_cli.proofs.Counting.{below_nothing, of_key}
+use Rattle.tally_cli.proofs.Counting.{below_nothing, of_key, same_key}
 
 below_least : (f g : ℕ → ℕ) (n : ℕ) → ((h : ℕ) → h < n → f h ≤ g h) → below f n ≤ below g n
 below_least f g zero each = omega arith
@@ -55,10 +55,7 @@ at_least_rest false x rest = omega arith
 
 some_of_key : {X : Type 0} (key : X → ℕ) (xs : List X) (k : ℕ) (d : X) → k < length xs → 0 < of_key key xs (key (get_or xs k d))
 some_of_key key [] k d h = absurd (omega (arith, h))
-some_of_key {X} key (x ∷ xs) zero d h =
-    let here : of_key key (x ∷ xs) (key x) ≡ length (filter (λ y. eqb (key y) (key x)) xs) + 1 =
-    ap (λ b. length (cond b (x ∷ filter (λ y. eqb (key y) (key x)) xs) (filter (λ y. eqb (key y) (key x)) xs))) (eq-eqb (key x) (key x) refl) ∙ omega arith in
-    omega (arith, here)
+some_of_key key (x ∷ xs) zero d h = omega (arith, same_key key x xs)
 some_of_key {X} key (x ∷ xs) (suc k) d h =
     let n : ℕ = key (get_or xs k d) in
     omega (arith, some_of_key key xs k d (omega (arith, h)), at_least_rest (eqb (key x) n) x (filter (λ y. eqb (key y) n) xs))

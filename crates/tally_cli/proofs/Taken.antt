@@ -57,14 +57,6 @@ taken_more {I} t ts passes known own new is among first second h = record {
   least = least_more t ts known own new is among first second h.least;
 }
 
-pub none_taken : {I : Type 0} → AreTaken {I = I} [] [] None
-none_taken {I} = record {
-  held = All-nil (λ (x : Task I). Contains [] x.pass);
-  own = All-nil (IsPassOfOne {I = I} []);
-  count = refl;
-  least = record { least = All-nil (λ (x : Task I). AtMost None (failure_of x.pass.number x.outcome)); some = tt };
-}
-
 pub order_more : {A : Type 0} (all xs now : List A) (x : A) (later : List A) → all ≡ xs ++ later → xs ≡ now ++ x ∷ [] → all ≡ now ++ x ∷ later
 order_more all xs now x later e f = e ∙ ap (λ l. l ++ later) f ∙ append_assoc now (x ∷ []) later
 
@@ -74,10 +66,10 @@ ArePopped {I} all old start left passes failure = (later : List (Task I)) × (al
     × ((done : List (Task I)) → AreTaken done old start → AreTaken (later ++ done) passes failure)
 
 -- one more task is popped, and taken back
-pub popped_more : {I : Type 0} (all left now : List (Task I)) (old passes new : List PassState) (start known own failure : Option Failure) (t : Task I)
+pub popped_more : {I : Type 0} {all left : List (Task I)} {old passes new : List PassState} {start known own failure : Option Failure} (now : List (Task I)) (t : Task I)
     → ArePopped all old start left passes known → left ≡ now ++ t ∷ [] → new ≡ passes ++ t.pass ∷ [] → own ≡ failure_of t.pass.number t.outcome
     → (failure ≡ own) ⊎ (failure ≡ known) → AtMost failure own × AtMost failure known → ArePopped all old start now new failure
-popped_more all left now old passes new start known own failure t popped items pushed is among least = (
+popped_more {all = all} {left = left} {passes = passes} {known = known} {own = own} {failure = failure} now t popped items pushed is among least = (
   t ∷ popped.0,
   order_more all left now t popped.0 popped.1 items,
   λ done before. subst (λ ps. AreTaken (t ∷ popped.0 ++ done) ps failure) (sym pushed)

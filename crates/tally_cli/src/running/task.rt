@@ -109,16 +109,8 @@ pub(crate) fn carry_out<R: Wait, I: Input, G: Gate>(
     ensures done { MatchBool result (IsDone task.new.outcome) (HasFailed task.new.outcome) }
 {
     match &mut task.work {
-        Work::Feed(source) => {
-            match feed(
-                rt,
-                alloc,
-                desk,
-                &mut task.pass,
-                source.kind,
-                &mut source.input,
-                gate,
-            ) {
+        Work::Feed(Source { kind, input }) => {
+            match feed(rt, alloc, desk, &mut task.pass, *kind, input, gate) {
                 Ok(fed) => {
                     task.outcome = Outcome::Fed(fed);
                     true
