@@ -1,5 +1,5 @@
 -- A book has few calls for the records that its callers posted.
-use Rattle.std.proofs.Common.{◌≡◌, ℕ, ◌+◌, ◌-◌, ◌*◌, ◌≤◌, Bool, List, [], ◌∷◌, ◌++◌, Option, Some, None, length, map, take, refl, sym, ap, ◌∙◌, subst, arith, length-append, ℤ}
+use Rattle.std.proofs.Common.{◌≡◌, ℕ, ◌+◌, ◌-◌, ◌*◌, ◌≤◌, Bool, List, [], ◌∷◌, ◌++◌, Option, Some, None, length, map, take, refl, sym, ap, ◌∙◌, subst, arith, length-append}
 use Rattle.std.proofs.lemmas.List.{length-map, length-take-le}
 use Rattle.std.proofs.lemmas.List.Elements.{All-head, All-tail}
 use Rattle.std.proofs.lemmas.List.Sums.{sum_by-cons, sum_by-take-le}
@@ -10,6 +10,7 @@ use Rattle.tally_desk.specs.Feeds.{IsFull, post_of}
 use Rattle.tally_desk.specs.Passes.{PassState, deeds}
 use Rattle.tally_records.specs.Records.{Records, Logins, Procs, logins_in, procs_in, record_count}
 use Rattle.tally_cli.specs.declared.running.source.Source.{Source}
+use Rattle.tally_cli.specs.declared.running.task.Asking.{Asking}
 use Rattle.tally_cli.specs.declared.running.task.Outcome.{Outcome}
 use Rattle.tally_cli.specs.declared.running.task.Outcome.TheVariants as outcome
 use Rattle.tally_cli.specs.inside.Deals.{work_of}
@@ -44,20 +45,20 @@ nearly_full bs all =
 asks_few : (ds : List Deed) (qs : List Question) → ds ≡ map AskDeed qs → length qs ≤ 16 → AreFew ds
 asks_few ds qs e few = subst AreFew (sym e) (omega (arith, length-map qs (λ (q : Question). AskDeed q), few))
 
-pub outcome_few : {I : Type 0} (to_come : I → Option (List ℕ)) (can_fail : I → Bool) (until : Option ℤ) (source : Option (Source I)) (p q : PassState) (o : Outcome) → deeds p ≡ [] → IsOutcome to_come can_fail (work_of until source) p q o → AreFew (deeds q)
-outcome_few to_come can_fail until (Some s) p q outcome.Untried e h = subst AreFew (sym (ap deeds h ∙ e)) (omega arith)
-outcome_few to_come can_fail until (Some s) p q (outcome.Fed fed) e h =
+pub outcome_few : {I : Type 0} (to_come : I → Option (List ℕ)) (can_fail : I → Bool) (asking : Asking) (source : Option (Source I)) (p q : PassState) (o : Outcome) → deeds p ≡ [] → IsOutcome to_come can_fail (work_of asking source) p q o → AreFew (deeds q)
+outcome_few to_come can_fail asking (Some s) p q outcome.Untried e h = subst AreFew (sym (ap deeds h ∙ e)) (omega arith)
+outcome_few to_come can_fail asking (Some s) p q (outcome.Fed fed) e h =
     let bs = h.counted.0 in
     posts_few (deeds q) bs (h.counted.1 ∙ ap (λ (ds : List Deed). ds ++ map post_of bs) e) (nearly_full bs h.counted.2.full)
-outcome_few to_come can_fail until (Some s) p q (outcome.FeedFailed f) e h =
+outcome_few to_come can_fail asking (Some s) p q (outcome.FeedFailed f) e h =
     let bs = h.posts.batches in
     posts_few (deeds q) bs (h.posts.posted ∙ ap (λ (ds : List Deed). ds ++ map post_of bs) e) (omega (arith, full_count bs h.posts.full))
-outcome_few to_come can_fail until (Some s) p q (outcome.Asked n) e h = absurd h
-outcome_few to_come can_fail until (Some s) p q (outcome.AskFailed f) e h = absurd h
-outcome_few to_come can_fail until None p q outcome.Untried e h = subst AreFew (sym (ap deeds h ∙ e)) (omega arith)
-outcome_few to_come can_fail until None p q (outcome.Fed fed) e h = absurd h
-outcome_few to_come can_fail until None p q (outcome.FeedFailed f) e h = absurd h
-outcome_few to_come can_fail until None p q (outcome.Asked n) e h = asks_few (deeds q) (asker_questions until) (h.1 ∙ ap (λ (ds : List Deed). ds ++ map AskDeed (asker_questions until)) e) (omega arith)
-outcome_few to_come can_fail until None p q (outcome.AskFailed f) e h =
-    let total : length (asker_questions until) ≡ length h.done + length (h.next ∷ h.left) = ap length h.order ∙ length-append h.done (h.next ∷ h.left) in
+outcome_few to_come can_fail asking (Some s) p q (outcome.Asked n) e h = absurd h
+outcome_few to_come can_fail asking (Some s) p q (outcome.AskFailed f) e h = absurd h
+outcome_few to_come can_fail asking None p q outcome.Untried e h = subst AreFew (sym (ap deeds h ∙ e)) (omega arith)
+outcome_few to_come can_fail asking None p q (outcome.Fed fed) e h = absurd h
+outcome_few to_come can_fail asking None p q (outcome.FeedFailed f) e h = absurd h
+outcome_few to_come can_fail asking None p q (outcome.Asked n) e h = asks_few (deeds q) (asker_questions asking) (h.1 ∙ ap (λ (ds : List Deed). ds ++ map AskDeed (asker_questions asking)) e) (omega arith)
+outcome_few to_come can_fail asking None p q (outcome.AskFailed f) e h =
+    let total : length (asker_questions asking) ≡ length h.done + length (h.next ∷ h.left) = ap length h.order ∙ length-append h.done (h.next ∷ h.left) in
     asks_few (deeds q) h.done (h.some ∙ ap (λ (ds : List Deed). ds ++ map AskDeed h.done) e) (omega (arith, total))

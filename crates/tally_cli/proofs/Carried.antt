@@ -1,30 +1,23 @@
 -- The tasks of all workers, after their work.
-use Rattle.std.proofs.Common.{◌≡◌, ℕ, zero, suc, ◌+◌, ◌<◌, Bool, List, [], ◌∷◌, ◌++◌, Option, length, map, get_or, sym, refl, ap, ◌∙◌, subst, arith, length-append, ℤ}
-use Rattle.std.proofs.lemmas.List.{length-map, get_or_default, get_or_append_left, get_or-append-add}
-use Rattle.std.proofs.lemmas.List.Elements.{All-nil, All-cons, All-append, All-contains, All-get_or, All-head, All-tail}
+use Rattle.std.proofs.Common.{◌≡◌, ℕ, zero, suc, ◌+◌, ◌<◌, Bool, List, [], ◌∷◌, ◌++◌, Option, length, map, get_or, sym, refl, ap, ◌∙◌, subst, arith, length-append}
+use Rattle.std.proofs.lemmas.List.{length-map, get_or-map, get_or_default}
+use Rattle.std.proofs.lemmas.List.Elements.{All-nil, All-append, All-contains, All-get_or, All-tail, Contains-append_left, Contains-append_right}
 use Rattle.std.proofs.lemmas.List.Sums.{sum_by-cons}
 use Rattle.std.specs.List.{All, Contains, flat_map, sum_by}
 use Rattle.tally_desk.specs.Passes.{PassState}
 use Rattle.tally_cli.specs.declared.running.source.Source.{Source}
+use Rattle.tally_cli.specs.declared.running.task.Asking.{Asking}
 use Rattle.tally_cli.specs.declared.running.task.Task.{Task}
 use Rattle.tally_cli.specs.inside.Deals.{AreCarriedOut, AreDealt, CameOf, IsIn, IsTaskOf}
 use Rattle.tally_cli.specs.inside.Tasks.{EachWorks, IsExplained, Works}
-use Rattle.tally_cli.proofs.Dealt.{at_map}
 
 pub all_unmap : {V A : Type 0} (P : A → Type 0) (f : V → A) (vs : List V) → All P (map f vs) → All (λ v. P (f v)) vs
-all_unmap P f [] h = All-nil (λ v. P (f v))
-all_unmap P f (v ∷ vs) h = All-cons (λ v. P (f v)) v vs (All-head P (f v) (map f vs) h) (all_unmap P f vs (All-tail P (f v) (map f vs) h))
-
-contains_left : {A : Type 0} (xs ys : List A) (x : A) → Contains xs x → Contains (xs ++ ys) x
-contains_left xs ys x h = (h.0, omega (arith, length-append xs ys, h.1), get_or_append_left xs ys x h.0 h.1 ∙ h.2)
-
-contains_right : {A : Type 0} (xs ys : List A) (x : A) → Contains ys x → Contains (xs ++ ys) x
-contains_right xs ys x h = (length xs + h.0, omega (arith, length-append xs ys, h.1), get_or-append-add xs ys h.0 x ∙ h.2)
+all_unmap P f vs h = λ k d l. subst P (get_or-map f vs k d (f d) l) (h k (f d) (omega (arith, l, length-map vs f)))
 
 contains_flat : {V A : Type 0} (f : V → List A) (vs : List V) (w : ℕ) (d : V) (x : A) → w < length vs → Contains (f (get_or vs w d)) x → Contains (flat_map f vs) x
 contains_flat f [] w d x h c = absurd (omega (arith, h))
-contains_flat f (v ∷ vs) zero d x h c = contains_left (f v) (flat_map f vs) x c
-contains_flat f (v ∷ vs) (suc w) d x h c = contains_right (f v) (flat_map f vs) x (contains_flat f vs w d x (omega (arith, h)) c)
+contains_flat f (v ∷ vs) zero d x h c = Contains-append_left (f v) (flat_map f vs) x c
+contains_flat f (v ∷ vs) (suc w) d x h c = Contains-append_right (f v) (flat_map f vs) x (contains_flat f vs w d x (omega (arith, h)) c)
 
 all_flat : {V A : Type 0} (P : A → Type 0) (f : V → List A) (vs : List V) → ((w : ℕ) (d : V) → w < length vs → All P (f (get_or vs w d))) → All P (flat_map f vs)
 all_flat P f [] h = All-nil P
@@ -43,7 +36,7 @@ carried_at {V} {I} to_come can_fail f vs us d t worked h =
     let near : w < length vs = omega (arith, h.2, length-map vs f) in
     let ts : List (Task I) = f (get_or vs w d) in
     let now : List (Task I) = f (get_or us w d) in
-    let here : get_or (map f vs) w [] ≡ ts = at_map f vs w d near in
+    let here : get_or (map f vs) w [] ≡ ts = get_or-map f vs w d [] near in
     let each = worked.works w d near in
     let inside : k < length ts = omega (arith, ap length here, h.3) in
     let is : get_or ts k t ≡ t = ap (λ l. get_or l k t) (sym here) ∙ h.4 in
@@ -59,15 +52,15 @@ carried to_come can_fail f [] us t worked h = absurd (omega (arith, h.2))
 carried to_come can_fail f (v ∷ vs) us t worked h = carried_at to_come can_fail f (v ∷ vs) us v t worked h
 
 -- what came of all tasks
-pub carried_out : {V I : Type 0} (to_come : I → Option (List ℕ)) (can_fail : I → Bool) (until : Option ℤ) (f : V → List (Task I)) (sources : List (Source I)) (passes : List PassState) (vs us : List V)
-    → AreDealt until sources passes (map f vs) → AreWorked to_come can_fail f vs us → AreCarriedOut to_come can_fail until sources passes (flat_map f us)
-carried_out {V} {I} to_come can_fail until f sources passes vs us dealt worked = record {
+pub carried_out : {V I : Type 0} (to_come : I → Option (List ℕ)) (can_fail : I → Bool) (asking : Asking) (f : V → List (Task I)) (sources : List (Source I)) (passes : List PassState) (vs us : List V)
+    → AreDealt asking sources passes (map f vs) → AreWorked to_come can_fail f vs us → AreCarriedOut to_come can_fail asking sources passes (flat_map f us)
+carried_out {V} {I} to_come can_fail asking f sources passes vs us dealt worked = record {
   each = λ k p l. carried to_come can_fail f vs us _ worked (dealt.each k p l);
-  only = all_flat (CameOf to_come can_fail until sources passes) f us (λ w d l k x m.
+  only = all_flat (CameOf to_come can_fail asking sources passes) f us (λ w d l k x m.
       let near : w < length vs = omega (arith, l, worked.count) in
       let each = worked.works w d near in
       let inside : k < length (f (get_or vs w d)) = omega (arith, m, each.count) in
-      let own : All (IsTaskOf until sources passes) (f (get_or vs w d)) = All-get_or (λ v. All (IsTaskOf until sources passes) (f v)) vs w d near (all_unmap (All (IsTaskOf until sources passes)) f vs dealt.only) in
+      let own : All (IsTaskOf asking sources passes) (f (get_or vs w d)) = All-get_or (λ v. All (IsTaskOf asking sources passes) (f v)) vs w d near (all_unmap (All (IsTaskOf asking sources passes)) f vs dealt.only) in
       (get_or (f (get_or vs w d)) k x, own k x inside, each.each k x inside));
 }
 
@@ -99,11 +92,11 @@ flat_count f [] = refl
 flat_count f (v ∷ vs) = omega (arith, length-append (f v) (flat_map f vs), flat_count f vs, sum_by-cons length (f v) (map f vs))
 
 -- all passes are of the desk still
-pub same_desk : {I D : Type 0} (id : D) (desk_of : PassState → D) (to_come : I → Option (List ℕ)) (can_fail : I → Bool) (until : Option ℤ) (sources : List (Source I)) (passes back : List PassState) (tasks : List (Task I))
-    → ((t u : Task I) → Works to_come can_fail t u → desk_of u.pass ≡ desk_of t.pass) → All (λ p. desk_of p ≡ id) passes → All (CameOf to_come can_fail until sources passes) tasks
+pub same_desk : {I D : Type 0} (id : D) (desk_of : PassState → D) (to_come : I → Option (List ℕ)) (can_fail : I → Bool) (asking : Asking) (sources : List (Source I)) (passes back : List PassState) (tasks : List (Task I))
+    → ((t u : Task I) → Works to_come can_fail t u → desk_of u.pass ≡ desk_of t.pass) → All (λ p. desk_of p ≡ id) passes → All (CameOf to_come can_fail asking sources passes) tasks
     → ((k : ℕ) (d : PassState) → k < length back → (t : Task I) × Contains tasks t × (t.pass ≡ get_or back k d)) → All (λ p. desk_of p ≡ id) back
-same_desk {I} id desk_of to_come can_fail until sources passes back tasks keeps all came own = λ k d l.
+same_desk {I} id desk_of to_come can_fail asking sources passes back tasks keeps all came own = λ k d l.
     let t = own k d l in
-    let from = All-contains (CameOf to_come can_fail until sources passes) tasks t.0 came t.1 in
+    let from = All-contains (CameOf to_come can_fail asking sources passes) tasks t.0 came t.1 in
     let task = from.1 in
     ap desk_of (sym t.2) ∙ keeps from.0 t.0 from.2 ∙ ap (λ (x : Task I). desk_of x.pass) task.3 ∙ All-get_or (λ p. desk_of p ≡ id) passes task.0 task.1 task.2 all

@@ -30,33 +30,32 @@ below_one f g k (suc n) near more same = ⊎_elim
 abbrev pub of_key : {X : Type 0} → (X → ℕ) → List X → ℕ → ℕ
 of_key key xs h = length (filter (λ x. eqb (key x) h) xs)
 
--- each of these is counted once
-pub shares : {X : Type 0} (key : X → ℕ) (xs : List X) (n : ℕ) → All (λ x. key x < n) xs → below (of_key key xs) n ≡ length xs
-shares key [] n all = below_nothing n
-shares {X} key (x ∷ xs) n all =
-    let near : key x < n = All-head (λ y. key y < n) x xs all in
-    let rest = shares key xs n (All-tail (λ y. key y < n) x xs all) in
-    let here : of_key key (x ∷ xs) (key x) ≡ of_key key xs (key x) + 1 =
-    ap (λ b. length (cond b (x ∷ filter (λ y. eqb (key y) (key x)) xs) (filter (λ y. eqb (key y) (key x)) xs))) (eq-eqb (key x) (key x) refl) ∙ omega arith in
-    let others : (h : ℕ) → h ≢ key x → of_key key (x ∷ xs) h ≡ of_key key xs h =
-    λ h apart. ap (λ b. length (cond b (x ∷ filter (λ y. eqb (key y) h) xs) (filter (λ y. eqb (key y) h) xs))) (ne_eqb (key x) h (λ e. apart (sym e))) in
-    omega (arith, below_one (of_key key (x ∷ xs)) (of_key key xs) (key x) n near here others, rest)
+-- one more counts for its own key and no other
+pub same_key : {X : Type 0} (key : X → ℕ) (x : X) (xs : List X) → of_key key (x ∷ xs) (key x) ≡ of_key key xs (key x) + 1
+same_key key x xs =
+    ap (λ b. length (cond b (x ∷ filter (λ y. eqb (key y) (key x)) xs) (filter (λ y. eqb (key y) (key x)) xs))) (eq-eqb (key x) (key x) refl) ∙ omega arith
+
+other_key : {X : Type 0} (key : X → ℕ) (x : X) (xs : List X) (h : ℕ) → h ≢ key x → of_key key (x ∷ xs) h ≡ of_key key xs h
+other_key key x xs h apart = ap (λ b. length (cond b (x ∷ filter (λ y. eqb (key y) h) xs) (filter (λ y. eqb (key y) h) xs))) (ne_eqb (key x) h (λ e. apart (sym e)))
 
 -- each of these is counted at most once
 pub shares_at_most : {X : Type 0} (key : X → ℕ) (xs : List X) (n : ℕ) → below (of_key key xs) n ≤ length xs
 shares_at_most key [] n = omega (arith, below_nothing n)
-shares_at_most {X} key (x ∷ xs) n =
+shares_at_most key (x ∷ xs) n =
     let rest = shares_at_most key xs n in
-    let others : (h : ℕ) → h ≢ key x → of_key key (x ∷ xs) h ≡ of_key key xs h =
-    λ h apart. ap (λ b. length (cond b (x ∷ filter (λ y. eqb (key y) h) xs) (filter (λ y. eqb (key y) h) xs))) (ne_eqb (key x) h (λ e. apart (sym e))) in
     ⊎_elim
-    (λ (near : key x < n).
-    let here : of_key key (x ∷ xs) (key x) ≡ of_key key xs (key x) + 1 =
-    ap (λ b. length (cond b (x ∷ filter (λ y. eqb (key y) (key x)) xs) (filter (λ y. eqb (key y) (key x)) xs))) (eq-eqb (key x) (key x) refl) ∙ omega arith in
-    omega (arith, below_one (of_key key (x ∷ xs)) (of_key key xs) (key x) n near here others, rest))
+    (λ (near : key x < n). omega (arith, below_one (of_key key (x ∷ xs)) (of_key key xs) (key x) n near (same_key key x xs) (other_key key x xs), rest))
     (λ (past : n ≤ key x).
-    omega (arith, below_same (of_key key (x ∷ xs)) (of_key key xs) n (λ h l. others h (λ e. omega (arith, e, l, past))), rest))
+    omega (arith, below_same (of_key key (x ∷ xs)) (of_key key xs) n (λ h l. other_key key x xs h (λ e. omega (arith, e, l, past))), rest))
     (cases_lt (key x) n)
+
+-- and once where its key is below
+pub shares : {X : Type 0} (key : X → ℕ) (xs : List X) (n : ℕ) → All (λ x. key x < n) xs → below (of_key key xs) n ≡ length xs
+shares key [] n all = below_nothing n
+shares key (x ∷ xs) n all =
+    let near : key x < n = All-head (λ y. key y < n) x xs all in
+    let rest = shares key xs n (All-tail (λ y. key y < n) x xs all) in
+    omega (arith, below_one (of_key key (x ∷ xs)) (of_key key xs) (key x) n near (same_key key x xs) (other_key key x xs), rest)
 
 -- where each has few calls for its records, all together have
 pub few_together : (calls logins procs : ℕ → ℕ) (n : ℕ) → ((h : ℕ) → h < n → 1024 * calls h ≤ logins h + procs h + 17408) → 1024 * below calls n ≤ below logins n + below procs n + 17408 * n

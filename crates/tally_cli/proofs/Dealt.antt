@@ -1,17 +1,20 @@
 -- One more task is dealt.
-use Rattle.std.proofs.Common.{◌≡◌, ◌≢◌, ℕ, zero, suc, ◌+◌, ◌<◌, ◌≤◌, List, [], ◌∷◌, ◌++◌, length, map, set, get_or, drop, sym, refl, ap, ◌∙◌, subst, arith, length-append, ⊎_elim, Option, ℤ}
+use Rattle.std.proofs.Common.{◌≡◌, ◌≢◌, ℕ, zero, suc, ◌+◌, ◌<◌, ◌≤◌, List, [], ◌∷◌, ◌++◌, length, map, set, get_or, drop, sym, refl, ap, ◌∙◌, subst, arith, length-append, ⊎_elim, Option, Some, None}
 use Rattle.std.proofs.lemmas.Bool.{cases_eq, cases_lt}
-use Rattle.std.proofs.lemmas.List.{drop-drop, length-set, get_or-set_same, get_or-set_other, get_or_append_left, get_or_at, map-set}
+use Rattle.std.proofs.lemmas.List.{drop-drop, length-set, get_or-set_same, get_or-map, get_or-set_other, get_or_append_left, get_or_at, map-set}
 use Rattle.std.proofs.lemmas.List.Elements.{All-map, All-weaker, All-push, All-head, All-tail}
 use Rattle.std.proofs.lemmas.List.Sums.{sum_by-set, sum_by-cons}
+use Rattle.std.proofs.lemmas.Option.{get_or_from_slice_get, slice_get_within}
 use Rattle.std.specs.List.{All, sum_by, remove}
 use Rattle.std.specs.Prelude.{slice_get}
 use Rattle.tally_desk.specs.Passes.{DeskState}
 use Rattle.tally_cli.specs.declared.running.source.Source.{Source}
+use Rattle.tally_cli.specs.declared.running.task.Asking.{Asking}
 use Rattle.tally_cli.specs.declared.running.task.Task.{Task}
+use Rattle.tally_cli.specs.declared.running.task.Work.TheVariants as work
 use Rattle.tally_cli.specs.inside.Deals.{IsIn, work_of}
 use Rattle.tally_cli.specs.Runs.{IsReadable}
-use Rattle.tally_cli.specs.inside.Tasks.{AreReady, IsCountable, IsNew}
+use Rattle.tally_cli.specs.inside.Tasks.{AreReady, IsNew}
 
 pub in_old : {A : Type 0} (xss : List (List A)) (w : ℕ) (x t : A) → w < length xss → IsIn xss t → IsIn (set xss w (get_or xss w [] ++ x ∷ [])) t
 in_old {A} xss w x t near h =
@@ -38,15 +41,10 @@ in_new {A} xss w x near =
 pub sum_new : {A : Type 0} (xss : List (List A)) (w : ℕ) (x : A) → w < length xss → sum_by length (set xss w (get_or xss w [] ++ x ∷ [])) ≡ sum_by length xss + 1
 sum_new {A} xss w x near = let ys : List A = get_or xss w [] ++ x ∷ [] in omega (arith, sum_by-set length xss w ys [] near, length-append (get_or xss w []) (x ∷ []))
 
-pub at_map : {V A : Type 0} (f : V → List A) (vs : List V) (w : ℕ) (v : V) → w < length vs → get_or (map f vs) w [] ≡ f (get_or vs w v)
-at_map f [] w v h = absurd (omega (arith, h))
-at_map f (x ∷ vs) zero v h = refl
-at_map f (x ∷ vs) (suc w) v h = at_map f vs w v (omega (arith, h))
-
 -- the lists after a push to one of them
 pub pushed : {V A : Type 0} (f : V → List A) (vs : List V) (w : ℕ) (v v' : V) (x : A) → w < length vs → v ≡ get_or vs w v → f v' ≡ f v ++ x ∷ [] → map f (set vs w v') ≡ set (map f vs) w (get_or (map f vs) w [] ++ x ∷ [])
 pushed f vs w v v' x near is more =
-    map-set f vs w v' ∙ ap (λ l. set (map f vs) w l) (more ∙ ap (λ l. l ++ x ∷ []) (ap f is ∙ sym (at_map f vs w v near)))
+    map-set f vs w v' ∙ ap (λ l. set (map f vs) w l) (more ∙ ap (λ l. l ++ x ∷ []) (ap f is ∙ sym (get_or-map f vs w v [] near)))
 
 pub first_left : {A : Type 0} (xs : List A) (n : ℕ) → slice_get (drop n xs) 0 ≡ slice_get xs n
 first_left [] zero = refl
@@ -70,12 +68,15 @@ none_yet f (v ∷ vs) h =
 pub all_empty : {V A : Type 0} (P : List A → Type 0) (f : V → List A) (vs : List V) → P [] → All (λ v. f v ≡ []) vs → All P (map f vs)
 all_empty P f vs p h = All-map P f vs (All-weaker (λ v. f v ≡ []) (λ v. P (f v)) (λ v e. subst P (sym e) p) vs h)
 
--- the first source that is left can be read
-pub countable_at : {I : Type 0} (failures : I → ℕ) (until : Option ℤ) (sources : List (Source I)) (n : ℕ) → All (IsReadable failures) sources → IsCountable failures (work_of until (slice_get sources n))
-countable_at failures until [] zero h = tt
-countable_at failures until [] (suc n) h = tt
-countable_at failures until (s ∷ ss) zero h = All-head (IsReadable failures) s ss h
-countable_at failures until (s ∷ ss) (suc n) h = countable_at failures until ss n (All-tail (IsReadable failures) s ss h)
+fed_is : {I : Type 0} (asking : Asking) (first : Option (Source I)) (source : Source I) → work_of asking first ≡ work.Feed source → first ≡ Some source
+fed_is asking (Some s) source e = cc
+fed_is asking None source e = cc
+
+-- the source that is to be fed can be read
+pub readable_at : {I : Type 0} (failures : I → ℕ) (asking : Asking) (sources : List (Source I)) (n : ℕ) (source : Source I) → All (IsReadable failures) sources → work_of asking (slice_get sources n) ≡ work.Feed source → IsReadable failures source
+readable_at failures asking sources n source all e =
+    let is = fed_is asking (slice_get sources n) source e in
+    subst (IsReadable failures) (get_or_from_slice_get sources n source source is) (all n source (slice_get_within sources n source is))
 
 -- no task of these is of this number or a greater one
 abbrev pub AreBelow : {I : Type 0} → ℕ → List (Task I) → Type 0

@@ -8,9 +8,9 @@ use Rattle.tally_cli.specs.declared.running.task.Outcome.{Outcome}
 use Rattle.tally_cli.specs.declared.running.task.Outcome.TheVariants as outcome
 use Rattle.tally_cli.specs.inside.Tasks.{EachWorks, HasFailed, IsDone, IsExplained, IsUntried, StopAtFailure, Works}
 
-pub each_set : {I : Type 0} (to_come : I → Option (List ℕ)) (can_fail : I → Bool) (ts us : List (Task I)) (at : ℕ) (x u : Task I) → at < length ts → x ≡ get_or us at x → get_or us at x ≡ get_or ts at x
+pub each_set : {I : Type 0} {to_come : I → Option (List ℕ)} {can_fail : I → Bool} {ts us : List (Task I)} {at : ℕ} {x u : Task I} → at < length ts → x ≡ get_or us at x → get_or us at x ≡ get_or ts at x
     → EachWorks to_come can_fail ts us → Works to_come can_fail x u → EachWorks to_come can_fail ts (set us at u)
-each_set {I} to_come can_fail ts us at x u near is left h w =
+each_set {I} {to_come} {can_fail} {ts} {us} {at} {x} {u} near is left h w =
     let here : (d : Task I) → Works to_come can_fail (get_or ts at d) (get_or (set us at u) at d) =
     λ d. let old : x ≡ get_or ts at d = is ∙ (left ∙ get_or_default ts at x d near) in
     let new : get_or (set us at u) at d ≡ u = get_or-set_same us at u d (omega (arith, h.count)) in

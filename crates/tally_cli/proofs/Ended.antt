@@ -1,5 +1,5 @@
 -- What the callers of a desk did, by the closed book.
-use Rattle.std.proofs.Common.{◌≡◌, ◌≢◌, ℕ, zero, suc, ◌<◌, ◌≤◌, ◌⊎◌, Bool, List, [], ◌∷◌, Option, Some, None, length, map, get_or, sym, refl, ap, ◌∙◌, subst, arith, cond, ne_eqb, ⊎_elim, inl, inr, ℤ}
+use Rattle.std.proofs.Common.{◌≡◌, ◌≢◌, ℕ, zero, suc, ◌<◌, ◌≤◌, ◌⊎◌, Bool, List, [], ◌∷◌, Option, Some, None, length, map, get_or, sym, refl, ap, ◌∙◌, subst, arith, cond, ne_eqb, ⊎_elim, inl, inr}
 use Rattle.std.proofs.lemmas.Bool.{cases_lt}
 use Rattle.std.proofs.lemmas.List.{length-map}
 use Rattle.std.proofs.lemmas.Option.{slice_get_within, get_or_from_slice_get}
@@ -22,6 +22,7 @@ use Rattle.tally_sessions.specs.Hosts.{of_host}
 use Rattle.tally_usage.specs.declared.entry.ProcEntry.{ProcEntry}
 use Rattle.tally_cli.specs.declared.running.gather.Failure.{Failure}
 use Rattle.tally_cli.specs.declared.running.source.Source.{Source}
+use Rattle.tally_cli.specs.declared.running.task.Asking.{Asking}
 use Rattle.tally_cli.specs.declared.running.task.Task.{Task}
 use Rattle.tally_cli.specs.inside.Deals.{work_of}
 use Rattle.tally_cli.specs.Output.{login_entries, proc_entries}
@@ -32,7 +33,7 @@ use Rattle.tally_cli.proofs.Outcomes.{IsBefore, done_before}
 use Rattle.tally_cli.proofs.Calls.{AreFew, outcome_few}
 use Rattle.tally_cli.proofs.Limits.{few_calls}
 use Rattle.tally_cli.proofs.Posted.{Added, AddedNothing, FilePosted, logins_of_file, no_logins_past, no_procs_past, posted_file, procs_of_file}
-use Rattle.tally_cli.proofs.FirstPasses.{first_at, first_count}
+use Rattle.tally_cli.proofs.FirstPasses.{are_first}
 
 caller_in : (callers : ℕ) (logins : List Entry) (procs : List ProcEntry) (c : Call) → IsCall callers logins procs c → caller_of c < callers
 caller_in callers logins procs (Posted caller before after) h = h.caller_in
@@ -56,38 +57,36 @@ abbrev pub no_input : Told
 no_input = record { kind = Login; bytes = [] }
 
 -- the callers of a desk began with fresh passes and worked through their tasks, and this is the closed book
-pub record Ended {I : Type 0} (to_come : I → Option (List ℕ)) (can_fail : I → Bool) (until : Option ℤ) (sources : List (Source I)) (passes : List PassState) (d : PassState) (b : Contents) (failure : Option Failure) : Type 0 where
+pub record Ended {I : Type 0} (to_come : I → Option (List ℕ)) (can_fail : I → Bool) (asking : Asking) (sources : List (Source I)) (passes : List PassState) (d : PassState) (b : Contents) (failure : Option Failure) : Type 0 where
   pub legal : IsLegal b
   pub all : length passes ≡ b.callers
   pub enough : length sources ≤ length passes
   pub first : (k : ℕ) → k < length passes → ((get_or passes k d).number ≡ k) × (deeds (get_or passes k d) ≡ [])
   pub posts : EntriesArePosts b
-  pub worked : AreWorkedThrough to_come can_fail until sources passes b failure
+  pub worked : AreWorkedThrough to_come can_fail asking sources passes b failure
 
 -- where the passes are those of a new desk
-pub ended_of : {I : Type 0} {to_come : I → Option (List ℕ)} {can_fail : I → Bool} {until : Option ℤ} {sources : List (Source I)} {b : Contents} {failure : Option Failure} (id : _) (callers : ℕ) (passes : List PassState) → passes ≡ first_passes id callers → b.callers ≡ callers → length sources ≤ callers
-    → IsLegal b → EntriesArePosts b → AreWorkedThrough to_come can_fail until sources passes b failure → Ended to_come can_fail until sources passes (first_pass id 0 0) b failure
+pub ended_of : {I : Type 0} {to_come : I → Option (List ℕ)} {can_fail : I → Bool} {asking : Asking} {sources : List (Source I)} {b : Contents} {failure : Option Failure} (id : _) (callers : ℕ) (passes : List PassState) → passes ≡ first_passes id callers → b.callers ≡ callers → length sources ≤ callers
+    → IsLegal b → EntriesArePosts b → AreWorkedThrough to_come can_fail asking sources passes b failure → Ended to_come can_fail asking sources passes (first_pass id 0 0) b failure
 ended_of id callers passes new same enough legal posts worked =
-    let count = first_count passes (first_pass id callers) callers new in
+    let first = are_first (first_pass id callers) callers passes new in
     record {
       legal = legal;
-      all = count ∙ sym same;
-      enough = omega (arith, count, enough);
-      first = λ k l.
-          let is = first_at passes (first_pass id callers) callers k (first_pass id 0 0) new (omega (arith, l, count)) in
-          (ap (λ (p : PassState). p.number) is, ap deeds is);
+      all = first.count ∙ sym same;
+      enough = omega (arith, first.count, enough);
+      first = λ k l. let is = first.each k (first_pass id 0 0) l in (ap (λ (p : PassState). p.number) is, ap deeds is);
       posts = posts;
       worked = worked;
     }
 
-module _ {I : Type 0} {to_come : I → Option (List ℕ)} {can_fail : I → Bool} {until : Option ℤ} {sources : List (Source I)} {passes : List PassState} {d : PassState} {b : Contents} {failure : Option Failure}
-    (ended : Ended to_come can_fail until sources passes d b failure) where
+module _ {I : Type 0} {to_come : I → Option (List ℕ)} {can_fail : I → Bool} {asking : Asking} {sources : List (Source I)} {passes : List PassState} {d : PassState} {b : Contents} {failure : Option Failure}
+    (ended : Ended to_come can_fail asking sources passes d b failure) where
   -- the task of a caller, with what it did in the book
   pub record Did (host : ℕ) : Type 0 where
     pub task : Task I
     pub held : Contains ended.worked.tasks task
     pub number : task.pass.number ≡ host
-    pub outcome_is : IsOutcome to_come can_fail (work_of until (slice_get sources host)) (get_or passes host d) task.pass task.outcome
+    pub outcome_is : IsOutcome to_come can_fail (work_of asking (slice_get sources host)) (get_or passes host d) task.pass task.outcome
     pub done : deeds_of host b ≡ deeds task.pass
 
   pub did : (host : ℕ) → host < b.callers → Did host
@@ -105,7 +104,7 @@ module _ {I : Type 0} {to_come : I → Option (List ℕ)} {can_fail : I → Bool
       let m = did host l in
       let near : host < length passes = omega (arith, ended.all, l) in
       let whole = done_before ended.worked.tasks failure m.task ended.worked.least ended.worked.explained m.held (subst (λ n. IsBefore n failure) (sym m.number) before) in
-      (m.task.pass, posted_file to_come can_fail until (slice_get sources host) (get_or passes host d) m.task.pass m.task.outcome (ended.first host near).1 m.outcome_is whole, m.done)
+      (m.task.pass, posted_file to_come can_fail asking (slice_get sources host) (get_or passes host d) m.task.pass m.task.outcome (ended.first host near).1 m.outcome_is whole, m.done)
 
   -- a source that tells is that of its place
   pub told_at : (inputs : List Told) (k : ℕ) (s : Source I) → Tell to_come sources inputs → slice_get sources k ≡ Some s → (s.kind ≡ (get_or inputs k no_input).kind) × (to_come s.input ≡ Some (get_or inputs k no_input).bytes)
@@ -183,4 +182,4 @@ module _ {I : Type 0} {to_come : I → Option (List ℕ)} {can_fail : I → Bool
       (λ host l.
       let m = did host l in
       let near : host < length passes = omega (arith, ended.all, l) in
-      subst AreFew (sym m.done) (outcome_few to_come can_fail until (slice_get sources host) (get_or passes host d) m.task.pass m.task.outcome (ended.first host near).1 m.outcome_is))
+      subst AreFew (sym m.done) (outcome_few to_come can_fail asking (slice_get sources host) (get_or passes host d) m.task.pass m.task.outcome (ended.first host near).1 m.outcome_is))

@@ -1,5 +1,5 @@
 -- What a failure shows of the caller's work.
-use Rattle.std.proofs.Common.{◌≡◌, ℕ, ◌<◌, Bool, List, Option, Some, None, refl, sym, ap, ◌∙◌, subst, ℤ}
+use Rattle.std.proofs.Common.{◌≡◌, ℕ, ◌<◌, Bool, List, Option, Some, None, refl, sym, ap, ◌∙◌, subst}
 use Rattle.tally_book.specs.declared.fault.AskFault.{AskFault}
 use Rattle.tally_desk.specs.Passes.{PassState}
 use Rattle.tally_desk.specs.Rounds.{AskStops}
@@ -10,6 +10,7 @@ use Rattle.tally_cli.specs.declared.fault.RunFault.TheVariants as run
 use Rattle.tally_cli.specs.declared.running.gather.Cause.TheVariants as cause
 use Rattle.tally_cli.specs.declared.running.gather.Failure.{Failure}
 use Rattle.tally_cli.specs.declared.running.source.Source.{Source}
+use Rattle.tally_cli.specs.declared.running.task.Asking.{Asking}
 use Rattle.tally_cli.specs.declared.running.task.Outcome.{Outcome}
 use Rattle.tally_cli.specs.declared.running.task.Outcome.TheVariants as outcome
 use Rattle.tally_cli.specs.inside.Deals.{work_of}
@@ -32,27 +33,27 @@ pub record IsFeedFailure {I : Type 0} (to_come : I → Option (List ℕ)) (can_f
   pub is : record { caller = number; cause = cause.Feed fault } ≡ failure
   pub failed : FailedToFeed (to_come source.input) (can_fail source.input) source.kind old new fault
 
-pub record IsAskFailure (until : Option ℤ) (old new : PassState) (number : ℕ) (failure : Failure) : Type 0 where
+pub record IsAskFailure (asking : Asking) (old new : PassState) (number : ℕ) (failure : Failure) : Type 0 where
   pub fault : AskFault
   pub is : record { caller = number; cause = cause.Ask fault } ≡ failure
-  pub stops : AskStops (asker_questions until) old new fault
+  pub stops : AskStops (asker_questions asking) old new fault
 
-abbrev pub IsFailureOf : {I : Type 0} → (I → Option (List ℕ)) → (I → Bool) → Option ℤ → Option (Source I) → PassState → PassState → ℕ → Failure → Type 0
-IsFailureOf to_come can_fail until (Some source) old new number failure = IsFeedFailure to_come can_fail source old new number failure
-IsFailureOf to_come can_fail until None old new number failure = IsAskFailure until old new number failure
+abbrev pub IsFailureOf : {I : Type 0} → (I → Option (List ℕ)) → (I → Bool) → Asking → Option (Source I) → PassState → PassState → ℕ → Failure → Type 0
+IsFailureOf to_come can_fail asking (Some source) old new number failure = IsFeedFailure to_come can_fail source old new number failure
+IsFailureOf to_come can_fail asking None old new number failure = IsAskFailure asking old new number failure
 
-pub failure_is : {I : Type 0} (to_come : I → Option (List ℕ)) (can_fail : I → Bool) (until : Option ℤ) (source : Option (Source I)) (p q : PassState) (o : Outcome) (number : ℕ) (failure : Failure) → IsOutcome to_come can_fail (work_of until source) p q o → failure_of number o ≡ Some failure
-    → IsFailureOf to_come can_fail until source p q number failure
-failure_is to_come can_fail until (Some s) p q outcome.Untried number failure h e = absurd (subst IsNone e tt)
-failure_is to_come can_fail until (Some s) p q (outcome.Fed fed) number failure h e = absurd (subst IsNone e tt)
-failure_is to_come can_fail until (Some s) p q (outcome.FeedFailed f) number failure h e = record { fault = f; is = ap (pick failure) e; failed = h }
-failure_is to_come can_fail until (Some s) p q (outcome.Asked n) number failure h e = absurd h
-failure_is to_come can_fail until (Some s) p q (outcome.AskFailed f) number failure h e = absurd h
-failure_is to_come can_fail until None p q outcome.Untried number failure h e = absurd (subst IsNone e tt)
-failure_is to_come can_fail until None p q (outcome.Fed fed) number failure h e = absurd h
-failure_is to_come can_fail until None p q (outcome.FeedFailed f) number failure h e = absurd h
-failure_is to_come can_fail until None p q (outcome.Asked n) number failure h e = absurd (subst IsNone e tt)
-failure_is to_come can_fail until None p q (outcome.AskFailed f) number failure h e = record { fault = f; is = ap (pick failure) e; stops = h }
+pub failure_is : {I : Type 0} (to_come : I → Option (List ℕ)) (can_fail : I → Bool) (asking : Asking) (source : Option (Source I)) (p q : PassState) (o : Outcome) (number : ℕ) (failure : Failure) → IsOutcome to_come can_fail (work_of asking source) p q o → failure_of number o ≡ Some failure
+    → IsFailureOf to_come can_fail asking source p q number failure
+failure_is to_come can_fail asking (Some s) p q outcome.Untried number failure h e = absurd (subst IsNone e tt)
+failure_is to_come can_fail asking (Some s) p q (outcome.Fed fed) number failure h e = absurd (subst IsNone e tt)
+failure_is to_come can_fail asking (Some s) p q (outcome.FeedFailed f) number failure h e = record { fault = f; is = ap (pick failure) e; failed = h }
+failure_is to_come can_fail asking (Some s) p q (outcome.Asked n) number failure h e = absurd h
+failure_is to_come can_fail asking (Some s) p q (outcome.AskFailed f) number failure h e = absurd h
+failure_is to_come can_fail asking None p q outcome.Untried number failure h e = absurd (subst IsNone e tt)
+failure_is to_come can_fail asking None p q (outcome.Fed fed) number failure h e = absurd h
+failure_is to_come can_fail asking None p q (outcome.FeedFailed f) number failure h e = absurd h
+failure_is to_come can_fail asking None p q (outcome.Asked n) number failure h e = absurd (subst IsNone e tt)
+failure_is to_come can_fail asking None p q (outcome.AskFailed f) number failure h e = record { fault = f; is = ap (pick failure) e; stops = h }
 
 -- the cause of a source's fault, where a full list has its own
 pub file_cause : (inputs : List Told) (i : Told) (old new : PassState) (can_fail : Bool) (fault : FeedFault) → FailedToFeed (Some i.bytes) can_fail i.kind old new fault
@@ -78,14 +79,14 @@ abbrev IsFile : RunFault → Type 0
 IsFile (run.File host fault) = Unit {0}
 IsFile fault = ⊥
 
--- the fault of a run is a file's where its failure is a feed's
-pub file_is : (number host : ℕ) (fault other : FeedFault) (failure : Failure) → record { caller = number; cause = cause.Feed fault } ≡ failure → run_fault failure ≡ run.File host other → (number ≡ host) × (fault ≡ other)
-file_is number host fault other failure is e = (ap (λ f. host_in (run_fault f)) is ∙ ap host_in e, ap (λ f. feed_in (run_fault f)) is ∙ ap feed_in e)
+-- two faults of files are one in both parts, and an asker's fault is none of them
+pub file_is : (number host : ℕ) (fault other : FeedFault) → run.File number fault ≡ run.File host other → (number ≡ host) × (fault ≡ other)
+file_is number host fault other e = (ap host_in e, ap feed_in e)
 
-pub no_asker : (number host : ℕ) (fault : AskFault) (other : FeedFault) (failure : Failure) → record { caller = number; cause = cause.Ask fault } ≡ failure → run_fault failure ≡ run.File host other → ⊥
-no_asker number host fault other failure is e = subst IsFile (sym (ap run_fault is ∙ e)) tt
+pub no_asker : (number host : ℕ) (fault : AskFault) (other : FeedFault) → run.Asker number fault ≡ run.File host other → ⊥
+no_asker number host fault other e = subst IsFile (sym e) tt
 
 -- the caller that failed
-pub caller_is : {I : Type 0} (to_come : I → Option (List ℕ)) (can_fail : I → Bool) (until : Option ℤ) (source : Option (Source I)) (p q : PassState) (number : ℕ) (failure : Failure) → IsFailureOf to_come can_fail until source p q number failure → number ≡ failure.caller
-caller_is to_come can_fail until (Some s) p q number failure h = ap (λ (f : Failure). f.caller) h.is
-caller_is to_come can_fail until None p q number failure h = ap (λ (f : Failure). f.caller) h.is
+pub caller_is : {I : Type 0} (to_come : I → Option (List ℕ)) (can_fail : I → Bool) (asking : Asking) (source : Option (Source I)) (p q : PassState) (number : ℕ) (failure : Failure) → IsFailureOf to_come can_fail asking source p q number failure → number ≡ failure.caller
+caller_is to_come can_fail asking (Some s) p q number failure h = ap (λ (f : Failure). f.caller) h.is
+caller_is to_come can_fail asking None p q number failure h = ap (λ (f : Failure). f.caller) h.is

@@ -4,8 +4,15 @@ use Rattle.std.proofs.lemmas.List.FromFn.{get_or-map-range_with_len, length-map-
 use Rattle.std.specs.List.{range_with_len}
 use Rattle.tally_desk.specs.Passes.{PassState}
 
-pub first_count : (passes : List PassState) (f : ℕ → PassState) (callers : ℕ) → passes ≡ map f (range_with_len 0 callers) → length passes ≡ callers
-first_count passes f callers e = ap length e ∙ length-map-range_with_len f 0 callers
+-- as many as there are callers, each the first of its number
+pub record AreFirst (first : ℕ → PassState) (callers : ℕ) (passes : List PassState) : Type 0 where
+  pub count : length passes ≡ callers
+  pub each : (k : ℕ) (p : PassState) → k < length passes → get_or passes k p ≡ first k
 
-pub first_at : (passes : List PassState) (f : ℕ → PassState) (callers k : ℕ) (p : PassState) → passes ≡ map f (range_with_len 0 callers) → k < callers → get_or passes k p ≡ f k
-first_at passes f callers k p e h = ap (λ l. get_or l k p) e ∙ get_or-map-range_with_len f 0 callers k k p h (omega arith)
+pub are_first : (first : ℕ → PassState) (callers : ℕ) (passes : List PassState) → passes ≡ map first (range_with_len 0 callers) → AreFirst first callers passes
+are_first first callers passes e =
+    let count : length passes ≡ callers = ap length e ∙ length-map-range_with_len first 0 callers in
+    record {
+      count = count;
+      each = λ k p l. ap (λ ps. get_or ps k p) e ∙ get_or-map-range_with_len first 0 callers k k p (omega (arith, l, count)) (omega arith);
+    }

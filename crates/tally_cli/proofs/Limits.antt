@@ -1,13 +1,12 @@
 -- A run has few calls, so that no call is refused for their number.
-use Rattle.std.proofs.Common.{◌≡◌, ℕ, ◌+◌, ◌*◌, ◌<◌, ◌≤◌, List, [], ◌∷◌, ◌++◌, Some, false, length, get_or, pos, sym, refl, ap, ◌∙◌, subst, arith, length-append, Option, ℤ}
+use Rattle.std.proofs.Common.{◌≡◌, ℕ, zero, suc, ◌+◌, ◌*◌, ◌<◌, ◌≤◌, List, [], ◌∷◌, ◌++◌, Some, false, length, get_or, pos, sym, refl, ap, ◌∙◌, subst, arith, length-append, Option}
 use Rattle.std.proofs.lemmas.List.{get_or_at, length-map}
-use Rattle.std.proofs.lemmas.List.Elements.{All-cons, All-nil}
+use Rattle.std.proofs.lemmas.List.Elements.{All-append, All-nil}
 use mathlib.Core.List.{IsPrefix}
 use Rattle.std.specs.List.{All}
 use Rattle.tally_book.specs.declared.fault.AskFault.{AskFault}
 use Rattle.tally_book.specs.declared.fault.AskFault.TheVariants as ask
 use Rattle.tally_book.specs.declared.question.Question.{Question}
-use Rattle.tally_book.specs.declared.question.Question.TheVariants as questions
 use Rattle.tally_book.specs.Refusals.{IsAskRefusal}
 use Rattle.tally_book.specs.Answers.{NamesHost}
 use Rattle.tally_book.specs.Books.{IsLegal, caller_of, calls_of}
@@ -15,16 +14,16 @@ use Rattle.tally_book.specs.Contents.{Contents}
 use Rattle.tally_book.specs.Deeds.{EntriesArePosts, deed, deeds_of}
 use Rattle.tally_desk.specs.Feeds.{IsFeedRefusal}
 use Rattle.tally_desk.specs.Passes.{PassState, Stands}
-use Rattle.tally_desk.specs.Rounds.{AskStops}
+use Rattle.tally_desk.specs.Rounds.{AskStops, in_rounds}
 use Rattle.tally_desk.specs.declared.fault.FeedFault.{FeedFault}
 use Rattle.tally_desk.specs.declared.fault.FeedFault.TheVariants as feed
 use Rattle.tally_records.specs.declared.batch.Kind.{Kind}
-use Rattle.tally_usage.specs.declared.order.Order.TheVariants as order
 use Rattle.tally_cli.specs.declared.fault.RunFault.TheVariants as run
 use Rattle.tally_records.specs.Records.{Records, Logins, Procs, logins_in, procs_in, record_count}
 use Rattle.tally_cli.specs.declared.running.source.Source.{Source}
+use Rattle.tally_cli.specs.declared.running.task.Asking.{Asking}
 use Rattle.tally_cli.specs.Runs.{IsAllowed, IsFullList}
-use Rattle.tally_cli.specs.inside.Tasks.{asker_questions}
+use Rattle.tally_cli.specs.inside.Tasks.{asked_once, asker_questions}
 use Rattle.tally_sessions.specs.declared.entry.Entry.{Entry}
 use Rattle.tally_usage.specs.declared.entry.ProcEntry.{ProcEntry}
 use Rattle.tally_cli.proofs.Calls.{AreFew}
@@ -102,34 +101,25 @@ feed_full sources host source is seen feed.CallsFull h logins procs = tt
 abbrev NamesFirst : Question → Type 0
 NamesFirst question = (host : ℕ) → NamesHost question host → host ≡ 0
 
-abbrev asked_round : Option ℤ → List Question → List Question
-asked_round until rest = questions.Last 0 (Some 10) until ∷ questions.Connect false false (pos 0) until ∷ questions.Commands order.Cpu false false ∷ questions.Users order.Cpu false ∷ rest
+once_first : (asking : Asking) (k : ℕ) (d : Question) → k < 4 → NamesFirst (get_or (asked_once asking) k d)
+once_first asking zero d l = λ host is. sym is
+once_first asking (suc zero) d l = λ host never. absurd never
+once_first asking (suc (suc zero)) d l = λ host never. absurd never
+once_first asking (suc (suc (suc zero))) d l = λ host never. absurd never
+once_first asking (suc (suc (suc (suc k)))) d l = absurd (omega (arith, l))
 
-first_round : (until : Option ℤ) (rest : List Question) → All NamesFirst rest → All NamesFirst (asked_round until rest)
-first_round until rest h =
-    let users : List Question = questions.Users order.Cpu false ∷ rest in
-    let commands : List Question = questions.Commands order.Cpu false false ∷ users in
-    let connect : List Question = questions.Connect false false (pos 0) until ∷ commands in
-    All-cons NamesFirst (questions.Last 0 (Some 10) until) connect (λ host is. sym is)
-    (All-cons NamesFirst (questions.Connect false false (pos 0) until) commands (λ host never. absurd never)
-    (All-cons NamesFirst (questions.Commands order.Cpu false false) users (λ host never. absurd never)
-    (All-cons NamesFirst (questions.Users order.Cpu false) rest (λ host never. absurd never) h)))
-
-all_first : (until : Option ℤ) → All NamesFirst (asker_questions until)
-all_first until =
-    let one : List Question = asked_round until [] in
-    let two : List Question = asked_round until one in
-    let three : List Question = asked_round until two in
-    first_round until three (first_round until two (first_round until one (first_round until [] (All-nil NamesFirst))))
+all_rounds : (P : Question → Type 0) (rounds : ℕ) (asked : List Question) → All P asked → All P (in_rounds rounds asked)
+all_rounds P zero asked h = All-nil P
+all_rounds P (suc rounds) asked h = All-append P asked (in_rounds rounds asked) h (all_rounds P rounds asked h)
 
 refusal_is : (callers calls : ℕ) (question : Question) (fault : AskFault) → NamesFirst question → IsAskRefusal callers calls question fault → calls ≤ 4224 → 0 < callers → fault ≡ ask.Memory
 refusal_is callers calls question ask.Memory first h few some_callers = refl
 refusal_is callers calls question ask.CallsFull first h few some_callers = absurd (omega (arith, h, few))
 refusal_is callers calls question (ask.NoSuchHost host) first h few some_callers = absurd (omega (arith, h.1, first host h.2, some_callers))
 
-pub ask_allowed : (until : Option ℤ) (old new : PassState) (fault : AskFault) → AskStops (asker_questions until) old new fault → length new.seen.calls ≤ 4224 → 0 < new.seen.callers → fault ≡ ask.Memory
-ask_allowed until old new fault stops few some_callers =
+pub ask_allowed : (asking : Asking) (old new : PassState) (fault : AskFault) → AskStops (asker_questions asking) old new fault → length new.seen.calls ≤ 4224 → 0 < new.seen.callers → fault ≡ ask.Memory
+ask_allowed asking old new fault stops few some_callers =
     let near : length stops.done < length (stops.done ++ stops.next ∷ stops.left) = omega (arith, length-append stops.done (stops.next ∷ stops.left)) in
-    let all : All NamesFirst (stops.done ++ stops.next ∷ stops.left) = subst (All NamesFirst) stops.order (all_first until) in
+    let all : All NamesFirst (stops.done ++ stops.next ∷ stops.left) = subst (All NamesFirst) stops.order (all_rounds NamesFirst 4 (asked_once asking) (once_first asking)) in
     let next : NamesFirst stops.next = subst NamesFirst (get_or_at stops.done stops.next stops.left stops.next (length stops.done) refl) (all (length stops.done) stops.next near) in
     refusal_is new.seen.callers (length new.seen.calls) stops.next fault next stops.cause few some_callers

@@ -1,5 +1,5 @@
 -- The records of a file, as its caller posted them.
-use Rattle.std.proofs.Common.{◌≡◌, ℕ, ◌<◌, ◌≤◌, Bool, List, [], ◌∷◌, ◌++◌, Option, Some, None, length, map, get_or, refl, ap, ◌∙◌, ℤ}
+use Rattle.std.proofs.Common.{◌≡◌, ℕ, ◌<◌, ◌≤◌, Bool, List, [], ◌∷◌, ◌++◌, Option, Some, None, length, map, get_or, refl, ap, ◌∙◌}
 use Rattle.std.specs.List.{flat_map}
 use Rattle.tally_book.specs.declared.question.Question.{Question}
 use Rattle.tally_book.specs.Deeds.{Ask as AskDeed, Deed, logins_added, procs_added, procs_of_host}
@@ -14,6 +14,7 @@ use Rattle.tally_sessions.specs.declared.entry.Entry.{Entry}
 use Rattle.tally_sessions.specs.Hosts.{of_host}
 use Rattle.tally_usage.specs.declared.entry.ProcEntry.{ProcEntry}
 use Rattle.tally_cli.specs.declared.running.source.Source.{Source}
+use Rattle.tally_cli.specs.declared.running.task.Asking.{Asking}
 use Rattle.tally_cli.specs.declared.running.task.Outcome.{Outcome}
 use Rattle.tally_cli.specs.declared.running.task.Outcome.TheVariants as outcome
 use Rattle.tally_cli.specs.inside.Deals.{work_of}
@@ -64,10 +65,10 @@ FilePosted to_come (Some source) q = (bytes : List ℕ) → to_come source.input
     → (feed_fault source.kind bytes ≡ None) × Added (deeds q) (records_in source.kind bytes)
 FilePosted to_come None q = AddedNothing (deeds q)
 
-pub posted_file : {I : Type 0} (to_come : I → Option (List ℕ)) (can_fail : I → Bool) (until : Option ℤ) (source : Option (Source I)) (p q : PassState) (o : Outcome) → deeds p ≡ [] → IsOutcome to_come can_fail (work_of until source) p q o → IsDone o
+pub posted_file : {I : Type 0} (to_come : I → Option (List ℕ)) (can_fail : I → Bool) (asking : Asking) (source : Option (Source I)) (p q : PassState) (o : Outcome) → deeds p ≡ [] → IsOutcome to_come can_fail (work_of asking source) p q o → IsDone o
     → FilePosted to_come source q
-posted_file to_come can_fail until (Some s) p q outcome.Untried e h d = absurd d
-posted_file to_come can_fail until (Some s) p q (outcome.Fed fed) e h d = λ bytes told.
+posted_file to_come can_fail asking (Some s) p q outcome.Untried e h d = absurd d
+posted_file to_come can_fail asking (Some s) p q (outcome.Fed fed) e h d = λ bytes told.
     let whole = h.whole bytes told in
     let is : deeds q ≡ map post_of (good_batches s.kind bytes) = whole.all ∙ ap (λ (ds : List Deed). ds ++ map post_of (good_batches s.kind bytes)) e in (
       whole.no_fault,
@@ -76,16 +77,16 @@ posted_file to_come can_fail until (Some s) p q (outcome.Fed fed) e h d = λ byt
         procs = ap (flat_map procs_added) is ∙ posted_records procs_added procs_in (λ b. refl) (good_batches s.kind bytes) ∙ whole.joined.procs;
       },
     )
-posted_file to_come can_fail until (Some s) p q (outcome.FeedFailed f) e h d = absurd d
-posted_file to_come can_fail until (Some s) p q (outcome.Asked n) e h d = absurd h
-posted_file to_come can_fail until (Some s) p q (outcome.AskFailed f) e h d = absurd d
-posted_file to_come can_fail until None p q outcome.Untried e h d = absurd d
-posted_file to_come can_fail until None p q (outcome.Fed fed) e h d = absurd h
-posted_file to_come can_fail until None p q (outcome.FeedFailed f) e h d = absurd d
-posted_file to_come can_fail until None p q (outcome.Asked n) e h d =
-    let is : deeds q ≡ map AskDeed (asker_questions until) = h.1 ∙ ap (λ (ds : List Deed). ds ++ map AskDeed (asker_questions until)) e in
+posted_file to_come can_fail asking (Some s) p q (outcome.FeedFailed f) e h d = absurd d
+posted_file to_come can_fail asking (Some s) p q (outcome.Asked n) e h d = absurd h
+posted_file to_come can_fail asking (Some s) p q (outcome.AskFailed f) e h d = absurd d
+posted_file to_come can_fail asking None p q outcome.Untried e h d = absurd d
+posted_file to_come can_fail asking None p q (outcome.Fed fed) e h d = absurd h
+posted_file to_come can_fail asking None p q (outcome.FeedFailed f) e h d = absurd d
+posted_file to_come can_fail asking None p q (outcome.Asked n) e h d =
+    let is : deeds q ≡ map AskDeed (asker_questions asking) = h.1 ∙ ap (λ (ds : List Deed). ds ++ map AskDeed (asker_questions asking)) e in
     record {
-      logins = ap (flat_map logins_added) is ∙ asked_records logins_added (λ q. refl) (asker_questions until);
-      procs = ap (flat_map procs_added) is ∙ asked_records procs_added (λ q. refl) (asker_questions until);
+      logins = ap (flat_map logins_added) is ∙ asked_records logins_added (λ q. refl) (asker_questions asking);
+      procs = ap (flat_map procs_added) is ∙ asked_records procs_added (λ q. refl) (asker_questions asking);
     }
-posted_file to_come can_fail until None p q (outcome.AskFailed f) e h d = absurd d
+posted_file to_come can_fail asking None p q (outcome.AskFailed f) e h d = absurd d

@@ -1,5 +1,5 @@
 -- A list is full only where the good blocks of all inputs together are too many.
-use Rattle.std.proofs.Common.{◌≡◌, ◌≢◌, ℕ, zero, suc, ◌+◌, ◌<◌, ◌≤◌, List, [], ◌∷◌, ◌++◌, Option, Some, None, length, map, get_or, refl, sym, ap, ◌∙◌, subst, arith, cond, eqb, eq-eqb, length-append, true, false, Bool, ⊎_elim, ℤ}
+use Rattle.std.proofs.Common.{◌≡◌, ◌≢◌, ℕ, zero, suc, ◌+◌, ◌<◌, ◌≤◌, List, [], ◌∷◌, ◌++◌, Option, Some, None, length, map, get_or, refl, sym, ap, ◌∙◌, subst, arith, cond, eqb, eq-eqb, length-append, true, false, Bool, ⊎_elim}
 use Rattle.std.proofs.lemmas.Bool.{cases_eq, cases_lt}
 use Rattle.std.proofs.lemmas.List.{map-append}
 use Rattle.std.proofs.lemmas.List.Sums.{sum_by-append, sum_by-cons}
@@ -16,11 +16,12 @@ use Rattle.tally_desk.specs.declared.fault.FeedFault.TheVariants as feed
 use Rattle.tally_records.specs.Records.{Records}
 use Rattle.tally_records.specs.declared.batch.Kind.{Kind}
 use Rattle.tally_cli.specs.declared.running.source.Source.{Source}
+use Rattle.tally_cli.specs.declared.running.task.Asking.{Asking}
 use Rattle.tally_cli.specs.declared.running.task.Outcome.{Outcome}
 use Rattle.tally_cli.specs.declared.running.task.Outcome.TheVariants as outcome
 use Rattle.tally_cli.specs.inside.Deals.{work_of}
 use Rattle.tally_cli.specs.inside.Tasks.{FailedToFeed, IsOutcome, asker_questions}
-use Rattle.tally_cli.proofs.Counting.{below_nothing, of_key}
+use Rattle.tally_cli.proofs.Counting.{below_nothing, of_key, same_key}
 
 below_least : (f g : ℕ → ℕ) (n : ℕ) → ((h : ℕ) → h < n → f h ≤ g h) → below f n ≤ below g n
 below_least f g zero each = omega arith
@@ -54,10 +55,7 @@ at_least_rest false x rest = omega arith
 
 some_of_key : {X : Type 0} (key : X → ℕ) (xs : List X) (k : ℕ) (d : X) → k < length xs → 0 < of_key key xs (key (get_or xs k d))
 some_of_key key [] k d h = absurd (omega (arith, h))
-some_of_key {X} key (x ∷ xs) zero d h =
-    let here : of_key key (x ∷ xs) (key x) ≡ length (filter (λ y. eqb (key y) (key x)) xs) + 1 =
-    ap (λ b. length (cond b (x ∷ filter (λ y. eqb (key y) (key x)) xs) (filter (λ y. eqb (key y) (key x)) xs))) (eq-eqb (key x) (key x) refl) ∙ omega arith in
-    omega (arith, here)
+some_of_key key (x ∷ xs) zero d h = omega (arith, same_key key x xs)
 some_of_key {X} key (x ∷ xs) (suc k) d h =
     let n : ℕ = key (get_or xs k d) in
     omega (arith, some_of_key key xs k d (omega (arith, h)), at_least_rest (eqb (key x) n) x (filter (λ y. eqb (key y) n) xs))
@@ -107,20 +105,20 @@ module _ {R : Type 0} (added : Deed → List R) (size : Records → ℕ) (posted
   stopped_much kind bytes can_fail p q feed.CallsFull e h = let at = h.stops bytes refl in omega (arith, cut_much kind bytes p q (at.next ∷ at.left) e at.cut)
 
   -- what a caller that has a file did is no more than its good blocks
-  pub file_much : {I : Type 0} (to_come : I → Option (List ℕ)) (can_fail : I → Bool) (until : Option ℤ) (s : Source I) (bytes : List ℕ) (p q : PassState) (o : Outcome) → to_come s.input ≡ Some bytes → deeds p ≡ [] → IsOutcome to_come can_fail (work_of until (Some s)) p q o → much (deeds q) ≤ good s.kind bytes
-  file_much to_come can_fail until s bytes p q outcome.Untried told e h = omega (arith, ap much (ap deeds h ∙ e))
-  file_much to_come can_fail until s bytes p q (outcome.Fed fed) told e h = omega (arith, fresh_much p q (good_batches s.kind bytes) e (h.whole bytes told).all)
-  file_much to_come can_fail until s bytes p q (outcome.FeedFailed f) told e h = stopped_much s.kind bytes (can_fail s.input) p q f e (subst (λ t. FailedToFeed t (can_fail s.input) s.kind p q f) told h)
-  file_much to_come can_fail until s bytes p q (outcome.Asked n) told e h = absurd h
-  file_much to_come can_fail until s bytes p q (outcome.AskFailed f) told e h = absurd h
+  pub file_much : {I : Type 0} (to_come : I → Option (List ℕ)) (can_fail : I → Bool) (asking : Asking) (s : Source I) (bytes : List ℕ) (p q : PassState) (o : Outcome) → to_come s.input ≡ Some bytes → deeds p ≡ [] → IsOutcome to_come can_fail (work_of asking (Some s)) p q o → much (deeds q) ≤ good s.kind bytes
+  file_much to_come can_fail asking s bytes p q outcome.Untried told e h = omega (arith, ap much (ap deeds h ∙ e))
+  file_much to_come can_fail asking s bytes p q (outcome.Fed fed) told e h = omega (arith, fresh_much p q (good_batches s.kind bytes) e (h.whole bytes told).all)
+  file_much to_come can_fail asking s bytes p q (outcome.FeedFailed f) told e h = stopped_much s.kind bytes (can_fail s.input) p q f e (subst (λ t. FailedToFeed t (can_fail s.input) s.kind p q f) told h)
+  file_much to_come can_fail asking s bytes p q (outcome.Asked n) told e h = absurd h
+  file_much to_come can_fail asking s bytes p q (outcome.AskFailed f) told e h = absurd h
 
   -- and one that asks added nothing
-  pub asker_much : {I : Type 0} (to_come : I → Option (List ℕ)) (can_fail : I → Bool) (until : Option ℤ) (p q : PassState) (o : Outcome) → deeds p ≡ [] → IsOutcome to_come can_fail (work_of until None) p q o → much (deeds q) ≡ 0
-  asker_much to_come can_fail until p q outcome.Untried e h = ap much (ap deeds h ∙ e)
-  asker_much to_come can_fail until p q (outcome.Fed fed) e h = absurd h
-  asker_much to_come can_fail until p q (outcome.FeedFailed f) e h = absurd h
-  asker_much to_come can_fail until p q (outcome.Asked n) e h = ap much (h.1 ∙ ap (λ (ds : List Deed). ds ++ map AskDeed (asker_questions until)) e) ∙ asked_much (asker_questions until)
-  asker_much to_come can_fail until p q (outcome.AskFailed f) e h = ap much (h.some ∙ ap (λ (ds : List Deed). ds ++ map AskDeed h.done) e) ∙ asked_much h.done
+  pub asker_much : {I : Type 0} (to_come : I → Option (List ℕ)) (can_fail : I → Bool) (asking : Asking) (p q : PassState) (o : Outcome) → deeds p ≡ [] → IsOutcome to_come can_fail (work_of asking None) p q o → much (deeds q) ≡ 0
+  asker_much to_come can_fail asking p q outcome.Untried e h = ap much (ap deeds h ∙ e)
+  asker_much to_come can_fail asking p q (outcome.Fed fed) e h = absurd h
+  asker_much to_come can_fail asking p q (outcome.FeedFailed f) e h = absurd h
+  asker_much to_come can_fail asking p q (outcome.Asked n) e h = ap much (h.1 ∙ ap (λ (ds : List Deed). ds ++ map AskDeed (asker_questions asking)) e) ∙ asked_much (asker_questions asking)
+  asker_much to_come can_fail asking p q (outcome.AskFailed f) e h = ap much (h.some ∙ ap (λ (ds : List Deed). ds ++ map AskDeed h.done) e) ∙ asked_much h.done
 
   -- a refused block and what was posted before it are among the good blocks
   pub refused_much : (kind : Kind) (bytes : List ℕ) (p q : PassState) (next : List ℕ) (left : List (List ℕ)) → deeds p ≡ [] → IsCut kind bytes (λ bs. deeds q ≡ deeds p ++ map post_of bs) (next ∷ left) → much (deeds q) + size (records_in kind next) ≤ good kind bytes

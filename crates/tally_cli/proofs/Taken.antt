@@ -3,7 +3,7 @@ use Rattle.std.proofs.Common.{◌≡◌, ◌⊎◌, suc, ◌+◌, List, [], ◌�
 use Rattle.std.proofs.lemmas.List.{append_assoc, get_or_append_left, get_or_at, map-append}
 use Rattle.std.proofs.lemmas.List.Sums.{sum_by-append, sum_by-cons}
 use Rattle.std.proofs.lemmas.Grind.{flat_map-append}
-use Rattle.std.proofs.lemmas.List.Elements.{All-nil, All-cons, All-push, All-weaker}
+use Rattle.std.proofs.lemmas.List.Elements.{All-nil, All-cons, All-push, All-weaker, Contains-append_left, Contains-push}
 use Rattle.std.specs.List.{Contains, flat_map, sum_by}
 use Rattle.std.specs.Prelude.{IfSome}
 use Rattle.tally_desk.specs.Passes.{PassState}
@@ -11,21 +11,11 @@ use Rattle.tally_cli.specs.declared.running.gather.Failure.{Failure}
 use Rattle.tally_cli.specs.declared.running.task.Task.{Task}
 use Rattle.tally_cli.specs.inside.Failures.{AreTaken, AtMost, IsLeast, IsOfOne, IsPassOfOne, failure_of}
 
-contains_push : {A : Type 0} (xs : List A) (y x : A) → Contains xs x → Contains (xs ++ y ∷ []) x
-contains_push xs y x h = (h.0, omega (arith, length-append xs (y ∷ []), h.1), get_or_append_left xs (y ∷ []) x h.0 h.1 ∙ h.2)
-
-contains_last : {A : Type 0} (xs : List A) (x : A) → Contains (xs ++ x ∷ []) x
-contains_last xs x = (length xs, omega (arith, length-append xs (x ∷ [])), get_or_at xs x [] x (length xs) refl)
-
 contains_head : {A : Type 0} (x : A) (xs : List A) → Contains (x ∷ xs) x
 contains_head x xs = (0, omega arith, refl)
 
 contains_cons : {A : Type 0} (y : A) (xs : List A) (x : A) → Contains xs x → Contains (y ∷ xs) x
 contains_cons y xs x h = (suc h.0, omega (arith, h.1), h.2)
-
-at_most_same : (failure : Option Failure) → AtMost failure failure
-at_most_same None = tt
-at_most_same (Some failure) = omega arith
 
 at_most_more : (one two three : Option Failure) → AtMost one two → AtMost two three → AtMost one three
 at_most_more one two None h k = tt
@@ -58,21 +48,13 @@ least_more t ts known own new is among first second h = record {
 pub taken_more : {I : Type 0} (t : Task I) (ts : List (Task I)) (passes : List PassState) (known own new : Option Failure) → own ≡ failure_of t.pass.number t.outcome → (new ≡ own) ⊎ (new ≡ known) → AtMost new own → AtMost new known
     → AreTaken ts passes known → AreTaken (t ∷ ts) (passes ++ t.pass ∷ []) new
 taken_more {I} t ts passes known own new is among first second h = record {
-  held = All-cons (λ (x : Task I). Contains (passes ++ t.pass ∷ []) x.pass) t ts (contains_last passes t.pass)
-      (All-weaker (λ (x : Task I). Contains passes x.pass) (λ (x : Task I). Contains (passes ++ t.pass ∷ []) x.pass) (λ x k. contains_push passes t.pass x.pass k) ts h.held);
+  held = All-cons (λ (x : Task I). Contains (passes ++ t.pass ∷ []) x.pass) t ts (Contains-push passes t.pass)
+      (All-weaker (λ (x : Task I). Contains passes x.pass) (λ (x : Task I). Contains (passes ++ t.pass ∷ []) x.pass) (λ x k. Contains-append_left passes (t.pass ∷ []) x.pass k) ts h.held);
   own = All-push (IsPassOfOne (t ∷ ts)) passes t.pass
       (All-weaker (IsPassOfOne ts) (IsPassOfOne (t ∷ ts)) (λ p k. (k.0, contains_cons t ts k.0 k.1, k.2)) passes h.own)
       (t, contains_head t ts, refl);
   count = length-append passes (t.pass ∷ []) ∙ omega (arith, h.count);
   least = least_more t ts known own new is among first second h.least;
-}
-
-pub none_taken : {I : Type 0} → AreTaken {I = I} [] [] None
-none_taken {I} = record {
-  held = All-nil (λ (x : Task I). Contains [] x.pass);
-  own = All-nil (IsPassOfOne {I = I} []);
-  count = refl;
-  least = record { least = All-nil (λ (x : Task I). AtMost None (failure_of x.pass.number x.outcome)); some = tt };
 }
 
 pub order_more : {A : Type 0} (all xs now : List A) (x : A) (later : List A) → all ≡ xs ++ later → xs ≡ now ++ x ∷ [] → all ≡ now ++ x ∷ later
@@ -84,10 +66,10 @@ ArePopped {I} all old start left passes failure = (later : List (Task I)) × (al
     × ((done : List (Task I)) → AreTaken done old start → AreTaken (later ++ done) passes failure)
 
 -- one more task is popped, and taken back
-pub popped_more : {I : Type 0} (all left now : List (Task I)) (old passes new : List PassState) (start known own failure : Option Failure) (t : Task I)
+pub popped_more : {I : Type 0} {all left : List (Task I)} {old passes new : List PassState} {start known own failure : Option Failure} (now : List (Task I)) (t : Task I)
     → ArePopped all old start left passes known → left ≡ now ++ t ∷ [] → new ≡ passes ++ t.pass ∷ [] → own ≡ failure_of t.pass.number t.outcome
     → (failure ≡ own) ⊎ (failure ≡ known) → AtMost failure own × AtMost failure known → ArePopped all old start now new failure
-popped_more all left now old passes new start known own failure t popped items pushed is among least = (
+popped_more {all = all} {left = left} {passes = passes} {known = known} {own = own} {failure = failure} now t popped items pushed is among least = (
   t ∷ popped.0,
   order_more all left now t popped.0 popped.1 items,
   λ done before. subst (λ ps. AreTaken (t ∷ popped.0 ++ done) ps failure) (sym pushed)

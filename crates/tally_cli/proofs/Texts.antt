@@ -1,15 +1,14 @@
 -- Sections that are asked one by one.
-use Rattle.std.proofs.Common.{◌≡◌, ℕ, zero, suc, ◌+◌, ◌<◌, Bool, true, false, cond, List, [], ◌∷◌, ◌++◌, Option, length, map, filter, take, get_or, refl, ap, ◌∙◌, arith, ℤ}
-use Rattle.std.proofs.lemmas.List.{append-nil, map-append}
+use Rattle.std.proofs.Common.{◌≡◌, ℕ, zero, suc, ◌+◌, ◌<◌, Bool, true, false, cond, List, [], ◌∷◌, ◌++◌, Option, length, map, filter, take, get_or, refl, ap, ◌∙◌, arith}
+use Rattle.std.proofs.lemmas.List.{append-nil, map-append, take_more}
 use Rattle.std.proofs.lemmas.List.Elements.{filter-append}
 use Rattle.std.specs.List.{enumerate_from}
 use Rattle.tally_book.specs.declared.question.Question.{Question}
-use Rattle.tally_book.specs.declared.question.Question.TheVariants as questions
 use Rattle.tally_book.specs.Answers.{answer_of}
 use Rattle.tally_sessions.specs.declared.entry.Entry.{Entry}
 use Rattle.tally_usage.specs.declared.entry.ProcEntry.{ProcEntry}
 use Rattle.tally_records.specs.declared.batch.Kind.{Kind}
-use Rattle.tally_cli.specs.Output.{is_wanted, stays_asked}
+use Rattle.tally_cli.specs.Output.{is_wanted}
 
 numbered_suc : {X : Type 0} (xs : List X) (n i : ℕ) (d : X) → i < length xs → enumerate_from n (take (suc i) xs) ≡ enumerate_from n (take i xs) ++ (n + i, get_or xs i d) ∷ []
 numbered_suc [] n i d h = absurd (omega (arith, h))
@@ -24,11 +23,15 @@ one_or_none : {X Y : Type 0} (f : X → Y) (x : X) (b : Bool) → map f (cond b 
 one_or_none f x true = refl
 one_or_none f x false = refl
 
+-- the questions for the wanted files, each asked by its number
+abbrev pub asked_by : Option Kind → (ℕ → Question) → List Kind → List Question
+asked_by wanted ask kinds = map (λ numbered. ask numbered.0) (filter (λ numbered. is_wanted wanted numbered.1) (enumerate_from 0 kinds))
+
 -- the questions for the files up to one, and that one if it is wanted
-pub stays_next : (wanted : Option Kind) (limit : Option ℕ) (until : Option ℤ) (kinds : List Kind) (i : ℕ) (d : Kind) → i < length kinds
-    → stays_asked wanted limit (take (i + 1) kinds) until ≡ stays_asked wanted limit (take i kinds) until ++ cond (is_wanted wanted (get_or kinds i d)) (questions.Last i limit until ∷ []) []
-stays_next wanted limit until kinds i d h =
-    let asked : ℕ × Kind → Question = λ numbered. questions.Last numbered.0 limit until in
+pub stays_next : (wanted : Option Kind) (ask : ℕ → Question) (kinds : List Kind) (i : ℕ) (d : Kind) → i < length kinds
+    → asked_by wanted ask (take (i + 1) kinds) ≡ asked_by wanted ask (take i kinds) ++ cond (is_wanted wanted (get_or kinds i d)) (ask i ∷ []) []
+stays_next wanted ask kinds i d h =
+    let asked : ℕ × Kind → Question = λ numbered. ask numbered.0 in
     let fits : ℕ × Kind → Bool = λ numbered. is_wanted wanted numbered.1 in
     let first : List (ℕ × Kind) = enumerate_from 0 (take i kinds) in
     let e : 0 + i ≡ i = omega arith in
@@ -38,22 +41,18 @@ stays_next wanted limit until kinds i d h =
     ∙ ap (λ l. map asked (filter fits first) ++ l) (one_or_none asked (i, get_or kinds i d) (is_wanted wanted (get_or kinds i d)))
 
 -- a file that is wanted, and one that is not
-pub stays_more : (wanted : Option Kind) (limit : Option ℕ) (until : Option ℤ) (kinds : List Kind) (i : ℕ) (d : Kind) → i < length kinds → is_wanted wanted (get_or kinds i d) ≡ true
-    → stays_asked wanted limit (take (i + 1) kinds) until ≡ stays_asked wanted limit (take i kinds) until ++ questions.Last i limit until ∷ []
-stays_more wanted limit until kinds i d h e = stays_next wanted limit until kinds i d h ∙ ap (λ b. stays_asked wanted limit (take i kinds) until ++ cond b (questions.Last i limit until ∷ []) []) e
+pub stays_more : (wanted : Option Kind) (ask : ℕ → Question) (kinds : List Kind) (i : ℕ) (d : Kind) → i < length kinds → is_wanted wanted (get_or kinds i d) ≡ true
+    → asked_by wanted ask (take (i + 1) kinds) ≡ asked_by wanted ask (take i kinds) ++ ask i ∷ []
+stays_more wanted ask kinds i d h e = stays_next wanted ask kinds i d h ∙ ap (λ b. asked_by wanted ask (take i kinds) ++ cond b (ask i ∷ []) []) e
 
-pub stays_same : (wanted : Option Kind) (limit : Option ℕ) (until : Option ℤ) (kinds : List Kind) (i : ℕ) (d : Kind) → i < length kinds → is_wanted wanted (get_or kinds i d) ≡ false
-    → stays_asked wanted limit (take (i + 1) kinds) until ≡ stays_asked wanted limit (take i kinds) until
-stays_same wanted limit until kinds i d h e = stays_next wanted limit until kinds i d h ∙ ap (λ b. stays_asked wanted limit (take i kinds) until ++ cond b (questions.Last i limit until ∷ []) []) e ∙ append-nil (stays_asked wanted limit (take i kinds) until)
+pub stays_same : (wanted : Option Kind) (ask : ℕ → Question) (kinds : List Kind) (i : ℕ) (d : Kind) → i < length kinds → is_wanted wanted (get_or kinds i d) ≡ false
+    → asked_by wanted ask (take (i + 1) kinds) ≡ asked_by wanted ask (take i kinds)
+stays_same wanted ask kinds i d h e =
+    stays_next wanted ask kinds i d h ∙ ap (λ b. asked_by wanted ask (take i kinds) ++ cond b (ask i ∷ []) []) e ∙ append-nil (asked_by wanted ask (take i kinds))
 
 -- answers to the questions up to one, and to that one
-map_suc : {X Y : Type 0} (f : X → Y) (xs : List X) (i : ℕ) (x : X) → i < length xs → map f (take (suc i) xs) ≡ map f (take i xs) ++ f (get_or xs i x) ∷ []
-map_suc f [] i x h = absurd (omega (arith, h))
-map_suc f (y ∷ ys) zero x h = refl
-map_suc f (y ∷ ys) (suc i) x h = ap (λ l. f y ∷ l) (map_suc f ys i x (omega (arith, h)))
-
 pub map_next : {X Y : Type 0} (f : X → Y) (xs : List X) (i : ℕ) (x : X) → i < length xs → map f (take (i + 1) xs) ≡ map f (take i xs) ++ f (get_or xs i x) ∷ []
-map_next f xs i x h = let e : i + 1 ≡ suc i = omega arith in ap (λ m. map f (take m xs)) e ∙ map_suc f xs i x h
+map_next f xs i x h = ap (map f) (take_more xs i x h) ∙ map-append f (take i xs) (get_or xs i x ∷ [])
 
 pub answer_same : (q : Question) (logins others : List Entry) (procs rest : List ProcEntry) → logins ≡ others → procs ≡ rest → answer_of q logins procs ≡ answer_of q others rest
 answer_same q logins others procs rest e f = λ j. answer_of q (e j) (f j)

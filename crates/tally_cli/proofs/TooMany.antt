@@ -1,5 +1,5 @@
 -- How much the files hold together.
-use Rattle.std.proofs.Common.{◌≡◌, ℕ, ◌+◌, ◌<◌, ◌≤◌, Bool, List, Option, Some, None, length, map, get_or, sym, ap, ◌∙◌, subst, arith, eqb, ⊎_elim, ℤ}
+use Rattle.std.proofs.Common.{◌≡◌, ℕ, ◌+◌, ◌<◌, ◌≤◌, Bool, List, Option, Some, None, length, map, get_or, sym, ap, ◌∙◌, subst, arith, eqb, ⊎_elim}
 use Rattle.std.proofs.lemmas.List.{length-map, get_or_default}
 use Rattle.std.proofs.lemmas.Option.{slice_get_within}
 use Rattle.std.proofs.Math.ListN.{get_or-map}
@@ -13,6 +13,7 @@ use Rattle.tally_desk.specs.Passes.{PassState, deeds}
 use Rattle.tally_records.specs.Records.{Records}
 use Rattle.tally_cli.specs.declared.running.gather.Failure.{Failure}
 use Rattle.tally_cli.specs.declared.running.source.Source.{Source}
+use Rattle.tally_cli.specs.declared.running.task.Asking.{Asking}
 use Rattle.tally_cli.specs.inside.Deals.{work_of}
 use Rattle.tally_cli.specs.Runs.{Tell, Told}
 use Rattle.tally_cli.specs.inside.Tasks.{IsOutcome}
@@ -20,8 +21,8 @@ use Rattle.tally_cli.proofs.Counting.{of_key, shares}
 use Rattle.tally_cli.proofs.Shares.{all_below, asker_much, below_list, below_more, file_much}
 use Rattle.tally_cli.proofs.Ended.{Ended, did, no_calls, no_input, source_or_none, told_at}
 
-module _ {I : Type 0} {to_come : I → Option (List ℕ)} {can_fail : I → Bool} {until : Option ℤ} {sources : List (Source I)} {passes : List PassState} {d : PassState} {b : Contents} {failure : Option Failure}
-    (ended : Ended to_come can_fail until sources passes d b failure) where
+module _ {I : Type 0} {to_come : I → Option (List ℕ)} {can_fail : I → Bool} {asking : Asking} {sources : List (Source I)} {passes : List PassState} {d : PassState} {b : Contents} {failure : Option Failure}
+    (ended : Ended to_come can_fail asking sources passes d b failure) where
   -- what all inputs hold together, where one has so much more than was posted
   pub too_many : {E R : Type 0} (owner : E → ℕ) (item : E → R) (added : Deed → List R) (size : Records → ℕ) → ((x : Records) → length (added (post_of x)) ≡ size x) → ((q : Question) → length (added (AskDeed q)) ≡ 0)
       → (es : List E) → ((h : ℕ) → map item (filter (λ x. eqb (owner x) h) es) ≡ flat_map added (deeds_of h b)) → (inputs : List Told) → Tell to_come sources inputs → (host more : ℕ) → host < length sources
@@ -43,10 +44,10 @@ module _ {I : Type 0} {to_come : I → Option (List ℕ)} {can_fail : I → Bool
       let t = told_at ended inputs h found.0 tell found.1 in
       let i : Told = get_or inputs h no_input in
       let few_enough : length (flat_map added (deeds m.task.pass)) ≤ sum_by size (good_batches found.0.kind i.bytes) =
-      file_much added size posted asked to_come can_fail until found.0 i.bytes (get_or passes h d) m.task.pass m.task.outcome t.1 start (subst (λ o. IsOutcome to_come can_fail (work_of until o) (get_or passes h d) m.task.pass m.task.outcome) found.1 m.outcome_is) in
+      file_much added size posted asked to_come can_fail asking found.0 i.bytes (get_or passes h d) m.task.pass m.task.outcome t.1 start (subst (λ o. IsOutcome to_come can_fail (work_of asking o) (get_or passes h d) m.task.pass m.task.outcome) found.1 m.outcome_is) in
       omega (arith, mine, few_enough, ap (λ kind. sum_by size (good_batches kind i.bytes)) t.0, cap_is h (omega (arith, slice_get_within sources h found.0 found.1, tell.0))))
       (λ (never : (slice_get sources h ≡ None) × (length sources ≤ h)).
-      omega (arith, mine, asker_much added size posted asked to_come can_fail until (get_or passes h d) m.task.pass m.task.outcome start (subst (λ o. IsOutcome to_come can_fail (work_of until o) (get_or passes h d) m.task.pass m.task.outcome) never.0 m.outcome_is)))
+      omega (arith, mine, asker_much added size posted asked to_come can_fail asking (get_or passes h d) m.task.pass m.task.outcome start (subst (λ o. IsOutcome to_come can_fail (work_of asking o) (get_or passes h d) m.task.pass m.task.outcome) never.0 m.outcome_is)))
       (source_or_none sources h) in
       let none_past : (h : ℕ) → b.callers ≤ h → used h ≡ 0 = λ h l. used_is h ∙ ap (λ cs. length (flat_map added (map (deed b.logins b.procs) cs))) (no_calls b.callers h b.logins b.procs b.calls l ended.legal.sound) in
       omega (

@@ -28,5 +28,5 @@ numbers : map callers_fault (0 ∷ 129 ∷ 5000000000 ∷ []) ≡ Callers 0 ∷ 
 numbers = refl
 
 -- an asker asks four questions four times
-asked : length (asker_questions None) ≡ 16
+asked : length (asker_questions (record { until = None })) ≡ 16
 asked = refl

@@ -25,6 +25,7 @@ use crate::running::forms::print_answers;
 use crate::running::gather::{Cause, Failure, take_all};
 use crate::running::sections::{answers_to, questions_of};
 use crate::running::source::Source;
+use crate::running::task::Asking;
 use crate::running::work::carry_out_lists;
 use std::alloc::{AllocError, Global};
 use std::hash::RandomState;
@@ -107,7 +108,7 @@ fn work_through<R: Threads + Wait + Sync, I: Input + Send, G: Gate + Sync>(
     passes: Vec<Pass>,
     sources: Vec<Source<I>>,
     feeders: usize,
-    until: Option<i32>,
+    asking: Asking,
     gate: &G,
 ) -> Result<(Book, Option<Failure>), AllocError>
     requires feeders { (0 < feeders) × (feeders ≤ 64) }
@@ -115,14 +116,14 @@ fn work_through<R: Threads + Wait + Sync, I: Input + Send, G: Gate + Sync>(
     requires desk { All (λ p. p.desk ≡ desk.id) passes.items }
     requires numbers { (k : ℕ) (p : _) → k < length passes.items → (slice_index_or passes.items k p).number ≡ k }
     requires sources { length sources.items ≤ length passes.items }
-    requires countable { All (IsReadable I.failures) sources.items }
+    requires readable { All (IsReadable I.failures) sources.items }
     ensures callers { IfOk result (λ r. r.0.callers ≡ desk.callers) }
     ensures legal { IfOk result (λ r. IsLegal r.0) }
-    ensures worked { IfOk result (λ r. AreWorkedThrough I.to_come I.can_fail until sources.items passes.items r.0 r.1) }
+    ensures worked { IfOk result (λ r. AreWorkedThrough I.to_come I.can_fail asking sources.items passes.items r.0 r.1) }
 {
     let mut back = Vec::with_capacity(alloc, passes.len())?;
     let feeders = busy_feeders(feeders, sources.len());
-    let lists = deal_out(alloc, &desk, passes, sources, feeders, until)?;
+    let lists = deal_out(alloc, &desk, passes, sources, feeders, asking)?;
     let lists = carry_out_lists(rt, alloc, &desk, lists, gate)?;
     let failure = take_all(lists, &mut back);
     Ok((close_all(desk, back), failure))
@@ -158,8 +159,8 @@ fn feed_all<R: Threads + Wait + Sync, I: Input + Send, G: Gate + Sync>(
     let (desk, passes) = open(alloc, keys, callers)?;
     let feeders = job.feeders as usize;
     entries_are_posts();
-    let until = job.until;
-    let (book, failure) = work_through(rt, alloc, desk, passes, sources, feeders, until, gate)?;
+    let asking = Asking { until: job.until };
+    let (book, failure) = work_through(rt, alloc, desk, passes, sources, feeders, asking, gate)?;
     match failure {
         None => Ok(book),
         Some(failure) => Err(fault_of(failure)),

@@ -1,5 +1,5 @@
 -- What each step of a run knows.
-use Rattle.std.specs.Prelude.{ℕ, Bool, List, Option, ℤ, ⊤, map}
+use Rattle.std.specs.Prelude.{ℕ, Bool, List, Option, ⊤, map}
 use Rattle.std.specs.List.{All}
 use Rattle.tally_book.specs.Contents.{Contents}
 use Rattle.tally_book.specs.Deeds.{SameOfEachHost}
@@ -13,6 +13,7 @@ use Rattle.tally_cli.specs.declared.fault.RunFault.TheVariants.{Memory, Callers,
 use Rattle.tally_cli.specs.declared.running.gather.Cause.{Cause}
 use Rattle.tally_cli.specs.declared.running.gather.Failure.{Failure}
 use Rattle.tally_cli.specs.declared.running.source.Source.{Source}
+use Rattle.tally_cli.specs.declared.running.task.Asking.{Asking}
 use Rattle.tally_cli.specs.declared.running.task.Task.{Task}
 use Rattle.tally_cli.specs.Runs.{Told, IsGood, records_told, IsFirstFault}
 use Rattle.tally_cli.specs.declared.running.gather.Cause.TheVariants as cause
@@ -51,9 +52,9 @@ IsUnprinted Write = ⊥
 IsUnprinted fault = ⊤
 
 -- all callers worked through their tasks, and this is the closed book
-pub record AreWorkedThrough {I : Type 0} (to_come : I → Option (List ℕ)) (can_fail : I → Bool) (until : Option ℤ) (sources : List (Source I)) (passes : List PassState) (book : Contents) (failure : Option Failure) : Type 0 where
+pub record AreWorkedThrough {I : Type 0} (to_come : I → Option (List ℕ)) (can_fail : I → Bool) (asking : Asking) (sources : List (Source I)) (passes : List PassState) (book : Contents) (failure : Option Failure) : Type 0 where
   pub tasks : List (Task I)
-  pub carried : AreCarriedOut to_come can_fail until sources passes tasks
+  pub carried : AreCarriedOut to_come can_fail asking sources passes tasks
   pub explained : All (IsExplained tasks) tasks
   pub least : IsLeast tasks failure
   pub did : All (λ t. HasDone book t.pass) tasks

@@ -1,5 +1,5 @@
 -- What a worker does of its tasks.
-use Rattle.std.specs.Prelude.{◌≡◌, ◌<◌, ◌-◌, ◌^◌, ◌∷◌, [], ℕ, Bool, List, Option, Some, ℤ, false, pos, true, ⊤, length, slice_index_or}
+use Rattle.std.specs.Prelude.{◌≡◌, ◌<◌, ◌∷◌, [], ℕ, Bool, List, Option, Some, false, pos, true, ⊤, length, slice_index_or}
 use Rattle.std.specs.List.{All, Contains}
 use Rattle.tally_book.specs.declared.question.Question.{Question}
 use Rattle.tally_book.specs.declared.question.Question.TheVariants as questions
@@ -12,6 +12,9 @@ use Rattle.tally_desk.specs.declared.feeding.Fed.{Fed}
 use Rattle.tally_records.specs.Records.{Records}
 use Rattle.tally_records.specs.declared.batch.Kind.{Kind}
 use Rattle.tally_usage.specs.declared.order.Order.TheVariants as order
+use Rattle.tally_cli.specs.Runs.{IsReadable}
+use Rattle.tally_cli.specs.declared.running.source.Source.{Source}
+use Rattle.tally_cli.specs.declared.running.task.Asking.{Asking}
 use Rattle.tally_cli.specs.declared.running.task.Task.{Task}
 use Rattle.tally_cli.specs.declared.running.task.Work.{Work}
 use Rattle.tally_cli.specs.declared.running.task.Work.TheVariants as work
@@ -34,11 +37,6 @@ HasFailed (outcome.FeedFailed fault) = ⊤
 HasFailed (outcome.AskFailed fault) = ⊤
 HasFailed o = ⊥
 
--- the failures of an input to be fed can be counted once more
-abbrev pub IsCountable : {I : Type 0} → (I → ℕ) → Work I → Type 0
-IsCountable failures (work.Feed kind input) = failures input < 2 ^ 64 - 1
-IsCountable failures (work.Ask until) = ⊤
-
 -- a feed that reached the end of its input
 pub record HasFed (told : Option (List ℕ)) (kind : Kind) (old new : PassState) (fed : Fed) : Type 0 where
   pub counted : (batches : List Records) × Posts old new batches × Counts kind batches fed
@@ -51,24 +49,24 @@ pub record FailedToFeed (told : Option (List ℕ)) (can_fail : Bool) (kind : Kin
   pub full : IsFeedRefusal kind new.seen fault
   pub read : fault ≡ Read → can_fail ≡ true
 
--- what an asker asks: the latest stays of the first host, connect time, and the usage of commands and users
-abbrev pub asked_once : Option ℤ → List Question
-asked_once until = questions.Last 0 (Some 10) until ∷ questions.Connect false false (pos 0) until
+-- what an asker asks in a round: the latest stays of the first host, connect time, and the usage of commands and users
+abbrev pub asked_once : Asking → List Question
+asked_once asking = questions.Last 0 (Some 10) asking.until ∷ questions.Connect false false (pos 0) asking.until
     ∷ questions.Commands order.Cpu false false ∷ questions.Users order.Cpu false ∷ []
 
 -- all that it asks, in four rounds
-abbrev pub asker_questions : Option ℤ → List Question
-asker_questions until = in_rounds 4 (asked_once until)
+abbrev pub asker_questions : Asking → List Question
+asker_questions asking = in_rounds 4 (asked_once asking)
 
 -- what a caller did of its work, by what it says of it
 abbrev pub IsOutcome : {I : Type 0} → (I → Option (List ℕ)) → (I → Bool) → Work I → PassState → PassState → Outcome → Type 0
-IsOutcome to_come can_fail (work.Feed kind input) old new outcome.Untried = new ≡ old
-IsOutcome to_come can_fail (work.Feed kind input) old new (outcome.Fed fed) = HasFed (to_come input) kind old new fed
-IsOutcome to_come can_fail (work.Feed kind input) old new (outcome.FeedFailed fault) =
-    FailedToFeed (to_come input) (can_fail input) kind old new fault
-IsOutcome to_come can_fail (work.Ask until) old new outcome.Untried = new ≡ old
-IsOutcome to_come can_fail (work.Ask until) old new (outcome.Asked count) = (count ≡ 16) × Asks old new (asker_questions until)
-IsOutcome to_come can_fail (work.Ask until) old new (outcome.AskFailed fault) = AskStops (asker_questions until) old new fault
+IsOutcome to_come can_fail (work.Feed source) old new outcome.Untried = new ≡ old
+IsOutcome to_come can_fail (work.Feed source) old new (outcome.Fed fed) = HasFed (to_come source.input) source.kind old new fed
+IsOutcome to_come can_fail (work.Feed source) old new (outcome.FeedFailed fault) =
+    FailedToFeed (to_come source.input) (can_fail source.input) source.kind old new fault
+IsOutcome to_come can_fail (work.Ask asking) old new outcome.Untried = new ≡ old
+IsOutcome to_come can_fail (work.Ask asking) old new (outcome.Asked count) = (count ≡ 16) × Asks old new (asker_questions asking)
+IsOutcome to_come can_fail (work.Ask asking) old new (outcome.AskFailed fault) = AskStops (asker_questions asking) old new fault
 IsOutcome to_come can_fail w old new o = ⊥
 
 -- the task's work was done as its outcome says
@@ -85,7 +83,7 @@ pub record EachWorks {I : Type 0} (to_come : I → Option (List ℕ)) (can_fail 
 pub record IsNew {I : Type 0} (failures : I → ℕ) (desk : DeskState) (t : Task I) : Type 0 where
   pub desk_is : t.pass.desk ≡ desk.id
   pub untried : IsUntried t.outcome
-  pub countable : IsCountable failures t.work
+  pub readable : (source : Source I) → t.work ≡ work.Feed source → IsReadable failures source
 
 -- tasks of callers of this desk in rising order of their numbers, none of which was tried
 pub record AreReady {I : Type 0} (failures : I → ℕ) (desk : DeskState) (ts : List (Task I)) : Type 0 where

@@ -1,9 +1,9 @@
 //! The command line as `clap` reads it.
 ghost use Rattle.std.specs.Prelude.{◌≡◌, IfOk, false};
 ghost use Rattle.clap.specs.Words.{App, new_app, rule_of};
-ghost use Rattle.tally_cli.specs.CommandLine.{all_app, askers_rule, connect_app, csv_rule, east_rule, feeders_rule, file_rule, flag_rule, last_app, limit_rule};
+ghost use Rattle.tally_cli.specs.CommandLine.{all_app, askers_rule, connect_app, csv_rule, feeders_rule, file_rule, flag_rule, last_app, limit_rule};
 ghost use Rattle.tally_cli.specs.inside.Commands.{IsCommand};
-ghost use Rattle.tally_cli.specs.CommandLine.{minutes_rule, number_rule, tally_app, top_app, until_rule, usage_app, west_rule, with_common};
+ghost use Rattle.tally_cli.specs.CommandLine.{minutes_rule, number_rule, tally_app, top_app, until_rule, usage_app, with_common};
 
 use clap::builder::ValueParser;
 use clap::{Arg, ArgAction, Command, value_parser};
@@ -119,8 +119,16 @@ fn with_options<'a>(
 {
     command
         .arg(feeders(alloc))?
-        .arg(east(alloc))?
-        .arg(west(alloc))?
+        .arg(minutes(
+            alloc,
+            "east",
+            "Show times and cut days M minutes east of UTC, 0 to 1439; 60 for +0100; sa has neither",
+        ))?
+        .arg(minutes(
+            alloc,
+            "west",
+            "Show times and cut days M minutes west of UTC, 0 to 1439; 300 for -0500; sa has neither",
+        ))?
         .arg(file(alloc, files))
 }
 
@@ -177,28 +185,6 @@ fn feeders<'a>(alloc: Global) -> Arg<'a>
 {
     number(alloc, "feeders", value_parser!(u32).range(1..=64), "4").help(
         "Read files with up to N threads, one a file, 1 to 64",
-    )
-}
-
-fn east<'a>(alloc: Global) -> Arg<'a>
-    ensures rule { rule_of result ≡ east_rule }
-    ensures local { result.global ≡ false }
-{
-    minutes(
-        alloc,
-        "east",
-        "Show times and cut days M minutes east of UTC, 0 to 1439; 60 for +0100; sa has neither",
-    )
-}
-
-fn west<'a>(alloc: Global) -> Arg<'a>
-    ensures rule { rule_of result ≡ west_rule }
-    ensures local { result.global ≡ false }
-{
-    minutes(
-        alloc,
-        "west",
-        "Show times and cut days M minutes west of UTC, 0 to 1439; 300 for -0500; sa has neither",
     )
 }
 

@@ -6,7 +6,7 @@ ghost use Rattle.tally_cli.specs.inside.Deals.{AreDealt, work_of};
 ghost use Rattle.tally_cli.specs.Runs.{IsReadable};
 
 use crate::running::source::Source;
-use crate::running::task::{Outcome, Task, Work};
+use crate::running::task::{Asking, Outcome, Task, Work};
 use std::alloc::{AllocError, Global};
 use tally_desk::{Desk, Input, Pass};
 use tally_sessions::HOST_LIMIT;
@@ -48,33 +48,32 @@ fn empty_lists<T: Drop>(alloc: Global, count: usize) -> Result<Vec<Vec<T>>, Allo
 }
 
 /// The first source is to be fed, or nothing is left but to ask.
-fn next_work<I: Drop>(sources: &mut Vec<Source<I>>, until: Option<i32>) -> Work<I>
-    ensures work { result ≡ work_of until (slice_get sources.old.items 0) }
+fn next_work<I: Drop>(sources: &mut Vec<Source<I>>, asking: Asking) -> Work<I>
+    ensures work { result ≡ work_of asking (slice_get sources.old.items 0) }
     ensures rest { sources.new.items ≡ drop 1 sources.old.items }
 {
     if sources.is_empty() {
-        return Work::Ask { until };
+        return Work::Ask(asking);
     }
-    let Source { kind, input } = sources.remove(0);
-    Work::Feed { kind, input }
+    Work::Feed(sources.remove(0))
 }
 
-/// Deals the callers' work to the workers, in order. Askers ask up to a moment, if one is given.
+/// Deals the callers' work to the workers, in order.
 pub(crate) fn deal_out<I: Input>(
     alloc: Global,
     desk: &Desk,
     passes: Vec<Pass>,
     sources: Vec<Source<I>>,
     feeders: usize,
-    until: Option<i32>,
+    asking: Asking,
 ) -> Result<Vec<Vec<Task<I>>>, AllocError>
     requires feeders { (0 < feeders) × (feeders ≤ 64) }
     requires passes { length passes.items ≤ HOST_LIMIT }
     requires desk { All (λ p. p.desk ≡ desk.now.id) passes.items }
     requires numbers { (k : ℕ) (p : _) → k < length passes.items → (slice_index_or passes.items k p).number ≡ k }
     requires sources { length sources.items ≤ length passes.items }
-    requires countable { All (IsReadable I.failures) sources.items }
-    ensures dealt { IfOk result (λ lists. AreDealt until sources.items passes.items (map (λ v. v.items) lists.items)) }
+    requires readable { All (IsReadable I.failures) sources.items }
+    ensures dealt { IfOk result (λ lists. AreDealt asking sources.items passes.items (map (λ v. v.items) lists.items)) }
     ensures all { IfOk result (λ lists. sum_by length (map (λ v. v.items) lists.items) ≡ length passes.items) }
     ensures ready { IfOk result (λ lists. All (AreReady I.failures desk.now) (map (λ v. v.items) lists.items)) }
 {
@@ -86,7 +85,7 @@ pub(crate) fn deal_out<I: Input>(
         let pass = passes.remove(0);
         let task = Task {
             pass,
-            work: next_work(&mut sources, until),
+            work: next_work(&mut sources, asking),
             outcome: Outcome::Untried,
         };
         lists[worker_of(number, count, feeders)].push(task)?;

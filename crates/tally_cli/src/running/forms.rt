@@ -4,7 +4,7 @@ ghost use Rattle.std.specs.List.{All};
 ghost use Rattle.tally_book.specs.Answers.{HasDays};
 ghost use Rattle.tally_print.specs.Output.{IsWritable, Prints, failed_calls};
 ghost use Rattle.tally_sessions.specs.Days.{IsOffset};
-ghost use Rattle.tally_cli.specs.Output.{csv_of, form_text, table_of};
+ghost use Rattle.tally_cli.specs.Output.{form_text, table_of};
 
 use crate::job::{Form, Job, Report};
 use std::alloc::Global;
@@ -24,26 +24,6 @@ fn table_of(report: Report) -> Option<Table>
     }
 }
 
-/// Prints the answers as one table in CSV.
-fn print_csv<O: Output>(
-    alloc: Global,
-    table: Option<Table>,
-    answers: &[Answer],
-    offset: i32,
-    out: &mut O,
-) -> Result<(), PrintFault>
-    requires writable { IsWritable (O.state out.old) }
-    requires offset { IsOffset offset }
-    requires days { All HasDays answers.now }
-    ensures writes { Prints (O.state out.old) (O.state out.new) result (failed_calls result)
-        (csv_of table offset answers.now) }
-{
-    match table {
-        Some(table) => print_table(alloc, table, answers, offset, out),
-        None => Ok(()),
-    }
-}
-
 /// Prints the answers to a job's questions in its form.
 pub(crate) fn print_answers<O: Output>(
     alloc: Global,
@@ -57,8 +37,9 @@ pub(crate) fn print_answers<O: Output>(
     ensures writes { Prints (O.state out.old) (O.state out.new) result (failed_calls result)
         (form_text job.now.form job.now.report job.now.offset job.now.until answers.now) }
 {
-    match job.form {
-        Form::Text => print_sections(alloc, answers, job.offset, out, job.until),
-        Form::Csv => print_csv(alloc, table_of(job.report), answers, job.offset, out),
+    match (job.form, table_of(job.report)) {
+        (Form::Text, _) => print_sections(alloc, answers, job.offset, out, job.until),
+        (Form::Csv, Some(table)) => print_table(alloc, table, answers, job.offset, out),
+        (Form::Csv, None) => Ok(()),
     }
 }

@@ -2,20 +2,27 @@
 ghost use Rattle.std.specs.Prelude.{◌≡◌, IfErr, IfOk, MatchBool, OnOk};
 ghost use Rattle.tally_desk.specs.Passes.{Keeps};
 ghost use Rattle.tally_desk.specs.Rounds.{AskStops, Asks};
-ghost use Rattle.tally_cli.specs.inside.Tasks.{asked_once, asker_questions, HasFailed, IsCountable, IsDone, IsUntried, Works};
+ghost use Rattle.tally_cli.specs.Runs.{IsReadable};
+ghost use Rattle.tally_cli.specs.inside.Tasks.{asked_once, asker_questions, HasFailed, IsDone, IsUntried, Works};
 
+use crate::running::source::Source;
 use std::alloc::Global;
 use std::sync::Wait;
 use tally_book::{AskFault, Question};
 use tally_desk::{Desk, Fed, FeedFault, Gate, Input, Pass, ask_rounds, feed};
-use tally_records::Kind;
 use tally_usage::Order;
 
-/// What a caller is to do: feed its input, or ask reports.
+/// What an asker asks: reports up to a moment, if one is given.
+#[derive(Clone, Copy)]
+pub(crate) struct Asking {
+    pub(crate) until: Option<i32>,
+}
+
+/// What a caller is to do: feed its source, or ask reports.
 #[derive(Drop)]
 pub(crate) enum Work<I> {
-    Feed { kind: Kind, input: I },
-    Ask { until: Option<i32> },
+    Feed(Source<I>),
+    Ask(Asking),
 }
 
 /// What came of it.
@@ -39,10 +46,11 @@ pub(crate) struct Task<I> {
 /// How often an asker asks its questions.
 const ROUNDS: u32 = 4;
 
-/// The questions of an asker.
-fn questions(until: Option<i32>) -> [Question; 4]
-    ensures { result ≡ asked_once until }
+/// The questions of a round.
+fn questions(asking: Asking) -> [Question; 4]
+    ensures { result ≡ asked_once asking }
 {
+    let Asking { until } = asking;
     [
         Question::Last {
             host: 0,
@@ -73,16 +81,16 @@ fn ask<R: Wait, G: Gate>(
     alloc: Global,
     desk: &Desk,
     pass: &mut Pass,
-    until: Option<i32>,
+    asking: Asking,
     gate: &G,
 ) -> Result<u64, AskFault>
     requires { pass.old.desk ≡ desk.now.id }
     ensures keeps { Keeps pass.old pass.new }
     ensures count { IfOk result (λ count. count ≡ 16) }
-    ensures asked { OnOk result (Asks pass.old pass.new (asker_questions until)) }
-    ensures stops { IfErr result (AskStops (asker_questions until) pass.old pass.new) }
+    ensures asked { OnOk result (Asks pass.old pass.new (asker_questions asking)) }
+    ensures stops { IfErr result (AskStops (asker_questions asking) pass.old pass.new) }
 {
-    let questions = questions(until);
+    let questions = questions(asking);
     ask_rounds(rt, alloc, desk, pass, &questions, ROUNDS, gate)
 }
 
@@ -96,12 +104,12 @@ pub(crate) fn carry_out<R: Wait, I: Input, G: Gate>(
 ) -> bool
     requires desk { task.old.pass.desk ≡ desk.now.id }
     requires untried { IsUntried task.old.outcome }
-    requires countable { IsCountable I.failures task.old.work }
+    requires readable { (source : Source _) → task.old.work ≡ Work.Feed source → IsReadable I.failures source }
     ensures works { Works I.to_come I.can_fail task.old task.new }
     ensures done { MatchBool result (IsDone task.new.outcome) (HasFailed task.new.outcome) }
 {
     match &mut task.work {
-        Work::Feed { kind, input } => {
+        Work::Feed(Source { kind, input }) => {
             match feed(rt, alloc, desk, &mut task.pass, *kind, input, gate) {
                 Ok(fed) => {
                     task.outcome = Outcome::Fed(fed);
@@ -113,7 +121,7 @@ pub(crate) fn carry_out<R: Wait, I: Input, G: Gate>(
                 }
             }
         }
-        Work::Ask { until } => match ask(rt, alloc, desk, &mut task.pass, *until, gate) {
+        Work::Ask(asking) => match ask(rt, alloc, desk, &mut task.pass, *asking, gate) {
             Ok(count) => {
                 task.outcome = Outcome::Asked(count);
                 true

@@ -1,15 +1,15 @@
 //! How a run ends: which call of its output is the last, and what is not touched after a failure.
 ghost use Rattle.std.specs.Prelude.{◌≡◌, None, [], false};
 
-use crate::tests::runs::{TOTAL, one_hour, source_of, text_job};
+use crate::tests::runs::{TOTAL, one_hour, source_of, text_job, torn};
 use crate::{Report, RunFault, Source, run};
-use std::alloc::{AllocError, Global};
+use std::alloc::AllocError;
 use std::hash::RandomState;
 use std::sync::Wait;
 use std::sync::atomic::{AtomicU64, Ordering};
 use std::test::Fail;
 use std::thread::Threads;
-use tally_desk::{FeedFault, Input, InputFault, OpenGate};
+use tally_desk::{Input, InputFault, OpenGate};
 use tally_print::{Output, OutputFault};
 use tally_records::Kind;
 
@@ -88,9 +88,8 @@ struct Ended {
 }
 
 /// Prints all reports over two files of so many zeros.
-fn all_over<R: Threads + Wait + Sync>(
+fn all_over<R: AllocGlobal + Threads + Wait + Sync>(
     rt: &R,
-    alloc: Global,
     keys: RandomState,
     sizes: [usize; 2],
     fails: bool,
@@ -98,14 +97,14 @@ fn all_over<R: Threads + Wait + Sync>(
     let first = AtomicU64::new(0);
     let second = AtomicU64::new(0);
     let kind = Kind::Login;
-    let mut sources = Vec::new(alloc);
+    let mut sources = Vec::new(rt.alloc());
     for (left, takes) in [(sizes[0], &first), (sizes[1], &second)] {
         let input = Counted { left, takes };
         sources.push(Source { kind, input })?;
     }
     let job = text_job(Report::All, 1, 0);
     let mut out = Closing::new(fails);
-    let outcome = run(rt, alloc, keys, &job, sources, &OpenGate, &mut out);
+    let outcome = run(rt, rt.alloc(), keys, &job, sources, &OpenGate, &mut out);
     Ok(Ended {
         outcome,
         out,
@@ -115,7 +114,7 @@ fn all_over<R: Threads + Wait + Sync>(
 
 #[test]
 fn an_output_is_finished_once_after_the_last_section(rt: HostRuntime) -> Result<(), Fail> {
-    let ended = all_over(&rt, rt.alloc(), RandomState::new(&rt)?, [384, 0], false)?;
+    let ended = all_over(&rt, RandomState::new(&rt)?, [384, 0], false)?;
     assert!(rt; ended.outcome.is_ok() && ended.out.finished == 1);
     assert!(rt; ended.out.bytes > 0 && ended.out.bytes_then == ended.out.bytes);
     Ok(())
@@ -123,19 +122,15 @@ fn an_output_is_finished_once_after_the_last_section(rt: HostRuntime) -> Result<
 
 #[test]
 fn an_output_that_fails_at_its_end_fails_the_run(rt: HostRuntime) -> Result<(), Fail> {
-    let ended = all_over(&rt, rt.alloc(), RandomState::new(&rt)?, [384, 0], true)?;
+    let ended = all_over(&rt, RandomState::new(&rt)?, [384, 0], true)?;
     assert!(rt; ended.outcome == Err(RunFault::Write) && ended.out.finished == 1);
     Ok(())
 }
 
 #[test]
 fn a_feeder_stops_at_its_first_file_that_fails(rt: HostRuntime) -> Result<(), Fail> {
-    let ended = all_over(&rt, rt.alloc(), RandomState::new(&rt)?, [385, 384], false)?;
-    let fault = FeedFault::Torn {
-        records: 1,
-        rest: 1,
-    };
-    assert!(rt; ended.outcome == Err(RunFault::File { host: 0, fault }));
+    let ended = all_over(&rt, RandomState::new(&rt)?, [385, 384], false)?;
+    assert!(rt; ended.outcome == Err(torn(0)));
     assert!(rt; ended.takes[0] > 0 && ended.takes[1] == 0 && ended.out.bytes == 0);
     Ok(())
 }

@@ -68,56 +68,55 @@ pub(crate) fn source_of(
     Ok(sources)
 }
 
-// What a report on a file of these bytes writes, and how it ends.
-fn run_over<R: Threads + Wait + Sync>(
+// The fault of the file with this number, whose second record has one byte.
+pub(crate) fn torn(host: u32) -> RunFault {
+    let fault = FeedFault::Torn {
+        records: 1,
+        rest: 1,
+    };
+    RunFault::File { host, fault }
+}
+
+// What a report on these sources writes, and how it ends.
+fn run_over<R: AllocGlobal + Threads + Wait + Sync>(
     rt: &R,
-    alloc: Global,
     keys: RandomState,
     report: Report,
-    kind: Kind,
-    bytes: Vec<u8>,
-) -> Result<(Result<(), RunFault>, Kept), AllocError> {
-    let sources = source_of(alloc, kind, bytes)?;
+    sources: Vec<Source<Bytes>>,
+) -> (Result<(), RunFault>, Kept) {
     let job = text_job(report, 4, 0);
-    let mut out = Kept::new(alloc);
-    let outcome = run(rt, alloc, keys, &job, sources, &OpenGate, &mut out);
-    Ok((outcome, out))
+    let mut out = Kept::new(rt.alloc());
+    let outcome = run(rt, rt.alloc(), keys, &job, sources, &OpenGate, &mut out);
+    (outcome, out)
 }
 
 // Whether a report on a file of these bytes ends well and is this text.
-fn writes<R: Threads + Wait + Sync>(
+fn writes<R: AllocGlobal + Threads + Wait + Sync>(
     rt: &R,
-    alloc: Global,
     keys: RandomState,
     report: Report,
     kind: Kind,
     bytes: Vec<u8>,
     text: &[u8],
 ) -> Result<bool, AllocError> {
-    let (outcome, out) = run_over(rt, alloc, keys, report, kind, bytes)?;
+    let sources = source_of(rt.alloc(), kind, bytes)?;
+    let (outcome, out) = run_over(rt, keys, report, sources);
     Ok(outcome.is_ok() && out.bytes() == text)
 }
 
 #[test]
 fn an_hour_is_its_total(rt: HostRuntime) -> Result<(), Fail> {
-    let keys = RandomState::new(&rt)?;
     let bytes = one_hour(rt.alloc(), 768)?;
     let text = b"total                        1.00\n".as_slice();
-    assert!(rt; writes(&rt, rt.alloc(), keys, TOTAL, Kind::Login, bytes, text)?);
+    assert!(rt; writes(&rt, RandomState::new(&rt)?, TOTAL, Kind::Login, bytes, text)?);
     Ok(())
 }
 
 #[test]
 fn an_hour_is_a_stay(rt: HostRuntime) -> Result<(), Fail> {
     let report = Report::Last { limit: None };
-    let (outcome, out) = run_over(
-        &rt,
-        rt.alloc(),
-        RandomState::new(&rt)?,
-        report,
-        Kind::Login,
-        one_hour(rt.alloc(), 768)?,
-    )?;
+    let sources = source_of(rt.alloc(), Kind::Login, one_hour(rt.alloc(), 768)?)?;
+    let (outcome, out) = run_over(&rt, RandomState::new(&rt)?, report, sources);
     assert!(rt; outcome.is_ok());
     let stay =
         b"ann      tty1                          1970-01-12 13:46:40 - 1970-01-12 14:46:40 (01:00)\n".as_slice();
@@ -137,14 +136,13 @@ fn one_call(alloc: Global) -> Result<Vec<u8>, AllocError> {
 }
 
 // Whether a report on a file of that call ends well and is this text.
-fn call_writes<R: Threads + Wait + Sync>(
+fn call_writes<R: AllocGlobal + Threads + Wait + Sync>(
     rt: &R,
-    alloc: Global,
     keys: RandomState,
     report: Report,
     text: &[u8],
 ) -> Result<bool, AllocError> {
-    writes(rt, alloc, keys, report, Kind::Proc, one_call(alloc)?, text)
+    writes(rt, keys, report, Kind::Proc, one_call(rt.alloc())?, text)
 }
 
 #[test]
@@ -156,7 +154,7 @@ fn a_call_is_a_row_of_its_own(rt: HostRuntime) -> Result<(), Fail> {
     };
     let text =
         b"       1         0.03re         0.02cp          0avio          0k\n       1         0.03re         0.02cp          0avio          0k make\n".as_slice();
-    assert!(rt; call_writes(&rt, rt.alloc(), RandomState::new(&rt)?, report, text)?);
+    assert!(rt; call_writes(&rt, RandomState::new(&rt)?, report, text)?);
     Ok(())
 }
 
@@ -168,34 +166,23 @@ fn a_call_is_counted_for_its_user(rt: HostRuntime) -> Result<(), Fail> {
     };
     let text =
         b"total             1         0.03re         0.02cp          0avio          0k\n0                 1         0.03re         0.02cp          0avio          0k\n".as_slice();
-    assert!(rt; call_writes(&rt, rt.alloc(), RandomState::new(&rt)?, report, text)?);
+    assert!(rt; call_writes(&rt, RandomState::new(&rt)?, report, text)?);
     Ok(())
 }
 
 #[test]
 fn an_empty_file_has_the_total_zero(rt: HostRuntime) -> Result<(), Fail> {
-    let keys = RandomState::new(&rt)?;
     let bytes = Vec::new(rt.alloc());
     let text = b"total                        0.00\n".as_slice();
-    assert!(rt; writes(&rt, rt.alloc(), keys, TOTAL, Kind::Login, bytes, text)?);
+    assert!(rt; writes(&rt, RandomState::new(&rt)?, TOTAL, Kind::Login, bytes, text)?);
     Ok(())
 }
 
 #[test]
 fn a_torn_file_writes_nothing(rt: HostRuntime) -> Result<(), Fail> {
-    let (outcome, out) = run_over(
-        &rt,
-        rt.alloc(),
-        RandomState::new(&rt)?,
-        TOTAL,
-        Kind::Login,
-        one_hour(rt.alloc(), 385)?,
-    )?;
-    let fault = FeedFault::Torn {
-        records: 1,
-        rest: 1,
-    };
-    assert!(rt; outcome == Err(RunFault::File { host: 0, fault }));
+    let sources = source_of(rt.alloc(), Kind::Login, one_hour(rt.alloc(), 385)?)?;
+    let (outcome, out) = run_over(&rt, RandomState::new(&rt)?, TOTAL, sources);
+    assert!(rt; outcome == Err(torn(0)));
     assert!(rt; out.bytes().is_empty());
     Ok(())
 }
@@ -206,22 +193,8 @@ fn a_torn_second_file_is_named(rt: HostRuntime) -> Result<(), Fail> {
     let mut sources = source_of(rt.alloc(), kind, one_hour(rt.alloc(), 768)?)?;
     let input = Bytes::new(one_hour(rt.alloc(), 385)?);
     sources.push(Source { kind, input })?;
-    let mut out = Kept::new(rt.alloc());
-    let keys = RandomState::new(&rt)?;
-    let outcome = run(
-        &rt,
-        rt.alloc(),
-        keys,
-        &text_job(Report::All, 4, 0),
-        sources,
-        &OpenGate,
-        &mut out,
-    );
-    let fault = FeedFault::Torn {
-        records: 1,
-        rest: 1,
-    };
-    assert!(rt; outcome == Err(RunFault::File { host: 1, fault }));
+    let (outcome, out) = run_over(&rt, RandomState::new(&rt)?, Report::All, sources);
+    assert!(rt; outcome == Err(torn(1)));
     assert!(rt; out.bytes().is_empty());
     Ok(())
 }

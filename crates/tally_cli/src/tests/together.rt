@@ -64,9 +64,8 @@ fn two_blocks(alloc: Global, user: &[u8], logout: &[u8]) -> Result<Vec<u8>, Allo
 }
 
 // What all reports on both files are, by so many feeders and askers that pass this gate.
-fn all_of_two<R: Threads + Wait + Sync, G: Gate + Sync>(
+fn all_of_two<R: AllocGlobal + Threads + Wait + Sync, G: Gate + Sync>(
     rt: &R,
-    alloc: Global,
     keys: RandomState,
     feeders: u32,
     askers: u32,
@@ -74,6 +73,7 @@ fn all_of_two<R: Threads + Wait + Sync, G: Gate + Sync>(
 ) -> Result<(Result<(), RunFault>, Kept), AllocError>
     requires { (1 ≤ feeders) × (feeders ≤ 64) × (askers ≤ 128) }
 {
+    let alloc = rt.alloc();
     let kind = Kind::Login;
     let mut sources = Vec::new(alloc);
     let ann = Bytes::new(two_blocks(alloc, b"ann", &[0x10, 0x0E])?);
@@ -101,26 +101,20 @@ total                        3.00
 ";
 
 #[test]
-fn two_feeders_and_an_asker_go_on_together(rt: HostRuntime) -> Result<(), Fail> {
-    let gate = Meeting::of(3);
-    let (outcome, out) = all_of_two(&rt, rt.alloc(), RandomState::new(&rt)?, 2, 1, &gate)?;
-    assert!(rt; outcome == Ok(()) && gate.late.load(Ordering::SeqCst) == 0);
-    assert!(rt; out.bytes() == ALL_OF_TWO);
-    Ok(())
-}
-
-#[test]
-fn two_feeders_go_on_together(rt: HostRuntime) -> Result<(), Fail> {
-    let gate = Meeting::of(2);
-    let (outcome, out) = all_of_two(&rt, rt.alloc(), RandomState::new(&rt)?, 2, 0, &gate)?;
-    assert!(rt; outcome == Ok(()) && gate.late.load(Ordering::SeqCst) == 0);
-    assert!(rt; out.bytes() == ALL_OF_TWO);
+fn two_feeders_go_on_together_and_with_an_asker(rt: HostRuntime) -> Result<(), Fail> {
+    for (askers, callers) in [(0, 2), (1, 3)] {
+        let gate = Meeting::of(callers);
+        let (outcome, out) = all_of_two(&rt, RandomState::new(&rt)?, 2, askers, &gate)?;
+        assert!(rt; outcome == Ok(()), "{askers} askers");
+        assert!(rt; gate.late.load(Ordering::SeqCst) == 0, "{askers} askers");
+        assert!(rt; out.bytes() == ALL_OF_TWO, "{askers} askers");
+    }
     Ok(())
 }
 
 #[test]
 fn one_feeder_alone_gives_the_same(rt: HostRuntime) -> Result<(), Fail> {
-    let (outcome, out) = all_of_two(&rt, rt.alloc(), RandomState::new(&rt)?, 1, 0, &OpenGate)?;
+    let (outcome, out) = all_of_two(&rt, RandomState::new(&rt)?, 1, 0, &OpenGate)?;
     assert!(rt; outcome == Ok(()) && out.bytes() == ALL_OF_TWO);
     Ok(())
 }

@@ -1,8 +1,8 @@
 use Rattle.std.proofs.Common.{◌∙◌, ℕ, ap, arith, subst, sym}
-use Rattle.tally_desk.specs.Passes.{PassState, first_pass}
+use Rattle.tally_desk.specs.Passes.{PassState}
 use Rattle.tally_cli.proofs.Ended.{ended_of, few, good_all, same_hosts}
 use Rattle.tally_cli.proofs.Failing.{allowed, can_fail_at, cause_is, full_list, named}
-use Rattle.tally_cli.proofs.FirstPasses.{first_at, first_count}
+use Rattle.tally_cli.proofs.FirstPasses.{are_first}
 use Rattle.tally_cli.proofs.Outcomes.{IsBefore}
 use Rattle.tally_cli.specs.Runs.{IsAllowed, IsFullList, IsNamed}
 use Rattle.tally_cli.specs.inside.RunSteps.{IsReadCause}
@@ -10,29 +10,16 @@ use Rattle.tally_cli.proofs.running.feed_all.Goals as goal
 
 pub work_through-requires-clause-callers : goal.work_through-requires-clause-callers
 work_through-requires-clause-callers g c κs within =
-    let opened = c.in_ok-desk.ensures.opened in
-    let count = first_count c.in_ok-desk.passes.items (first_pass c.in_ok-desk.desk.id _) _ opened.1 in
-    (opened.0 ∙ sym count, omega (arith, opened.0, c.requires.few))
+    let opened = c.in_ok-desk.ensures.opened in (opened.0 ∙ sym (are_first _ _ _ opened.1).count, omega (arith, opened.0, c.requires.few))
 
 pub work_through-requires-clause-desk : goal.work_through-requires-clause-desk
-work_through-requires-clause-desk g c κs within =
-    let opened = c.in_ok-desk.ensures.opened in
-    let new = first_pass c.in_ok-desk.desk.id _ in
-    let count = first_count c.in_ok-desk.passes.items new _ opened.1 in
-    λ k d l. ap (λ (p : PassState). p.desk) (first_at c.in_ok-desk.passes.items new _ k d opened.1 (omega (arith, l, count)))
+work_through-requires-clause-desk g c κs within = λ k d l. ap (λ (p : PassState). p.desk) ((are_first _ _ _ c.in_ok-desk.ensures.opened.1).each k d l)
 
 pub work_through-requires-clause-numbers : goal.work_through-requires-clause-numbers
-work_through-requires-clause-numbers g c κs within =
-    let opened = c.in_ok-desk.ensures.opened in
-    let new = first_pass c.in_ok-desk.desk.id _ in
-    let count = first_count c.in_ok-desk.passes.items new _ opened.1 in
-    λ k p l. ap (λ (x : PassState). x.number) (first_at c.in_ok-desk.passes.items new _ k p opened.1 (omega (arith, l, count)))
+work_through-requires-clause-numbers g c κs within = λ k p l. ap (λ (x : PassState). x.number) ((are_first _ _ _ c.in_ok-desk.ensures.opened.1).each k p l)
 
 pub work_through-requires-clause-sources : goal.work_through-requires-clause-sources
-work_through-requires-clause-sources g c =
-    let opened = c.in_ok-desk.ensures.opened in
-    let count = first_count c.in_ok-desk.passes.items (first_pass c.in_ok-desk.desk.id _) _ opened.1 in
-    omega (arith, count, c.requires.callers)
+work_through-requires-clause-sources g c = omega (arith, (are_first _ _ c.in_ok-desk.passes.items c.in_ok-desk.ensures.opened.1).count, c.requires.callers)
 
 pub returns-in-None-clause-whole : goal.returns-in-None-clause-whole
 returns-in-None-clause-whole g c = λ inputs tell.
@@ -54,7 +41,7 @@ returns-in-Some g c =
     let book = c.in_ok-book.ensures in
     let passes = c.in_ok-desk.passes.items in
     let ended = ended_of c.in_ok-desk.desk.id _ passes opened.1 (book.callers ∙ opened.0) (omega (arith, c.requires.callers)) book.legal (c.entries_are_posts.ensures c.in_ok-book.book book.legal) book.worked in
-    let count = first_count passes (first_pass c.in_ok-desk.desk.id _) _ opened.1 in
+    let count = (are_first _ _ _ opened.1).count in
     let value = c.fault_of.ensures.value in
     let failure = c.in-Some.failure in
     let is = c.in-Some.is in

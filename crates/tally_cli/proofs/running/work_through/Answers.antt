@@ -25,8 +25,8 @@ close_all-requires-clause-desk g c =
     let us = c.in_ok-lists-2.lists.items in
     let told = c.in_ok-lists-2.ensures in
     let worked : AreWorked g.I.Input.to_come g.I.Input.can_fail (λ v. v.items) vs us = record { count = told.count; works = told.works; explained = told.explained } in
-    let out = carried_out g.I.Input.to_come g.I.Input.can_fail c.args.until (λ v. v.items) c.args.sources.items c.args.passes.items vs us c.in_ok-lists.ensures.dealt worked in
-    same_desk c.args.desk.id (λ (p : PassState). p.desk) g.I.Input.to_come g.I.Input.can_fail c.args.until c.args.sources.items c.args.passes.items c.take_all-failure.new.passes.items (flat_map (λ v. v.items) us)
+    let out = carried_out g.I.Input.to_come g.I.Input.can_fail c.args.asking (λ v. v.items) c.args.sources.items c.args.passes.items vs us c.in_ok-lists.ensures.dealt worked in
+    same_desk c.args.desk.id (λ (p : PassState). p.desk) g.I.Input.to_come g.I.Input.can_fail c.args.asking c.args.sources.items c.args.passes.items c.take_all-failure.new.passes.items (flat_map (λ v. v.items) us)
     (λ t u w. w.keeps.desk) c.requires.desk out.only c.take_all-failure.ensures.taken.own
 
 pub close_all-requires-clause-all : goal.close_all-requires-clause-all
@@ -48,7 +48,7 @@ returns-clause-worked g c =
     let worked : AreWorked g.I.Input.to_come g.I.Input.can_fail (λ v. v.items) vs us = record { count = told.count; works = told.works; explained = told.explained } in
     record {
       tasks = tasks;
-      carried = carried_out g.I.Input.to_come g.I.Input.can_fail c.args.until (λ v. v.items) c.args.sources.items c.args.passes.items vs us c.in_ok-lists.ensures.dealt worked;
+      carried = carried_out g.I.Input.to_come g.I.Input.can_fail c.args.asking (λ v. v.items) c.args.sources.items c.args.passes.items vs us c.in_ok-lists.ensures.dealt worked;
       explained = all_explained g.I.Input.to_come g.I.Input.can_fail (λ v. v.items) vs us worked;
       least = c.take_all-failure.ensures.taken.least;
       did = All-weaker (λ (t : Task g.row.I.Denot). Contains back t.pass) (λ (t : Task g.row.I.Denot). HasDone book t.pass)

@@ -8,8 +8,8 @@ use Rattle.tally_desk.specs.Passes.{PassState}
 use Rattle.tally_cli.specs.declared.running.task.Task.{Task}
 use Rattle.tally_cli.specs.declared.running.task.Outcome.TheVariants.{Untried}
 use Rattle.tally_cli.specs.inside.Deals.{IsIn, IsTaskOf, task_of, work_of}
-use Rattle.tally_cli.specs.inside.Tasks.{AreReady, IsCountable, IsNew}
-use Rattle.tally_cli.proofs.Dealt.{AreBelow, all_empty, below_more, below_push, countable_at, first_left, in_new, in_old, none_yet, pushed, ready_push, removed, sum_new}
+use Rattle.tally_cli.specs.inside.Tasks.{AreReady, IsNew}
+use Rattle.tally_cli.proofs.Dealt.{AreBelow, all_empty, below_more, below_push, first_left, in_new, in_old, none_yet, pushed, readable_at, ready_push, removed, sum_new}
 use Rattle.tally_cli.proofs.running.deal.deal_out.Goals as goal
 
 pub loop-number-init : goal.loop-number-init
@@ -20,7 +20,7 @@ loop-number-init g c =
       sources = refl;
       width = omega (arith, none'.0, c.len-callers.ensures, c.len-count.ensures, c.args.passes.ok.0, c.args.sources.ok.0);
       dealt = λ k p l. absurd (omega (arith, l));
-      only = all_empty (All (IsTaskOf c.args.until c.args.sources.items c.args.passes.items)) (λ v. v.items) c.in_ok-lists.lists.items (All-nil (IsTaskOf c.args.until c.args.sources.items c.args.passes.items)) none'.1;
+      only = all_empty (All (IsTaskOf c.args.asking c.args.sources.items c.args.passes.items)) (λ v. v.items) c.in_ok-lists.lists.items (All-nil (IsTaskOf c.args.asking c.args.sources.items c.args.passes.items)) none'.1;
       all = none_yet (λ v. v.items) c.in_ok-lists.lists.items none'.1;
       ready = all_empty (AreReady g.I.Input.failures c.args.desk.now) (λ v. v.items) c.in_ok-lists.lists.items (record { new = All-nil (IsNew g.I.Input.failures c.args.desk.now); rising = λ j k d l m. absurd (omega (arith, m)) }) none'.1;
       less = all_empty (AreBelow 0) (λ v. v.items) c.in_ok-lists.lists.items (All-nil (λ (x : Task g.row.I.Denot). x.pass.number < 0)) none'.1;
@@ -53,26 +53,26 @@ loop-number-preserved g c =
     let pass_is : (p : PassState) → pass ≡ get_or passes n p =
     λ p. c.remove-pass.ensures.value ∙ (ap (λ l. get_or l 0 pass) inv.passes ∙ (get_or-drop n passes 0 pass ∙ (ap (λ k. get_or passes k pass) same_place ∙ get_or_default passes n pass p inside))) in
     let own : t.pass.number ≡ n = ap (λ (p : PassState). p.number) (pass_is pass) ∙ c.requires.numbers n pass inside in
-    let work_is = c.next_work.ensures.work ∙ (ap (λ l. work_of c.args.until (slice_get l 0)) inv.sources ∙ ap (work_of c.args.until) (first_left sources n)) in
-    let here : (p : PassState) → t ≡ task_of c.args.until sources n (get_or passes n p) = λ p i. record { pass = pass_is p i; work = work_is i; outcome = Untried } in
+    let work_is = c.next_work.ensures.work ∙ (ap (λ l. work_of c.args.asking (slice_get l 0)) inv.sources ∙ ap (work_of c.args.asking) (first_left sources n)) in
+    let here : (p : PassState) → t ≡ task_of c.args.asking sources n (get_or passes n p) = λ p i. record { pass = pass_is p i; work = work_is i; outcome = Untried } in
     let new : IsNew failures desk t = record {
       desk_is = ap (λ (p : PassState). p.desk) (pass_is pass) ∙ All-get_or (λ (p : PassState). p.desk ≡ desk.id) passes n pass inside c.requires.desk;
       untried = refl;
-      countable = subst (IsCountable failures) (sym work_is) (countable_at failures c.args.until sources n c.requires.countable);
+      readable = λ source is. readable_at failures c.args.asking sources n source c.requires.readable (sym work_is ∙ is);
     } in
     record {
       passes = c.remove-pass.ensures.items ∙ (ap (λ l. remove l 0) inv.passes ∙ removed passes n);
       sources = c.next_work.ensures.rest ∙ (ap (drop 1) inv.sources ∙ drop-drop 1 n sources);
       width = length-set lists w c.push.new.self ∙ inv.width;
-      dealt = λ k p l. subst (λ xss. IsIn xss (task_of c.args.until sources k (get_or passes k p))) (sym e) (⊎_elim
-          (λ (less : k < n). in_old all w t (task_of c.args.until sources k (get_or passes k p)) near_all (inv.dealt k p less))
+      dealt = λ k p l. subst (λ xss. IsIn xss (task_of c.args.asking sources k (get_or passes k p))) (sym e) (⊎_elim
+          (λ (less : k < n). in_old all w t (task_of c.args.asking sources k (get_or passes k p)) near_all (inv.dealt k p less))
           (λ (not_less : n ≤ k).
           let same : k ≡ n = omega (arith, l, not_less) in
-          let is : t ≡ task_of c.args.until sources k (get_or passes k p) = here p ∙ ap (λ m. task_of c.args.until sources m (get_or passes m p)) (sym same) in
+          let is : t ≡ task_of c.args.asking sources k (get_or passes k p) = here p ∙ ap (λ m. task_of c.args.asking sources m (get_or passes m p)) (sym same) in
           subst (λ x. IsIn (set all w (get_or all w [] ++ t ∷ [])) x) is (in_new all w t near_all))
           (cases_lt k n));
-      only = subst (λ xss. All (All (IsTaskOf c.args.until sources passes)) xss) (sym e)
-          (All-set (All (IsTaskOf c.args.until sources passes)) all w (get_or all w [] ++ t ∷ []) (All-push (IsTaskOf c.args.until sources passes) (get_or all w []) t (All-get_or (All (IsTaskOf c.args.until sources passes)) all w [] near_all inv.only) (n, pass, inside, here pass)) inv.only);
+      only = subst (λ xss. All (All (IsTaskOf c.args.asking sources passes)) xss) (sym e)
+          (All-set (All (IsTaskOf c.args.asking sources passes)) all w (get_or all w [] ++ t ∷ []) (All-push (IsTaskOf c.args.asking sources passes) (get_or all w []) t (All-get_or (All (IsTaskOf c.args.asking sources passes)) all w [] near_all inv.only) (n, pass, inside, here pass)) inv.only);
       all = ap (sum_by length) e ∙ (sum_new all w t near_all ∙ omega (arith, inv.all));
       ready = subst (λ xss. All ready xss) (sym e)
           (All-set ready all w (get_or all w [] ++ t ∷ []) (ready_push failures desk (get_or all w []) t (All-get_or ready all w [] near_all inv.ready) (subst (λ k. AreBelow k (get_or all w [])) (sym own) (All-get_or (AreBelow n) all w [] near_all inv.less)) new) inv.ready);

@@ -4,21 +4,15 @@ use Rattle.tally_cli.proofs.Taken.{popped_more}
 use Rattle.tally_cli.proofs.running.gather.take_list.Goals as goal
 
 pub loop-task-preserved-in-Some : goal.loop-task-preserved-in-Some
-loop-task-preserved-in-Some g c =
-    record {
-      room = search rules;
-      count = search rules;
-      popped = popped_more c.args.tasks.items c.loop-task.tasks.items c.pop.new.self.items c.args.passes.now.items c.loop-task.passes.items c.push_reserved.new.self.items
-          c.args.known c.loop-task.failure c.failure_in.result c.lesser-failure.result c.in-Some.task c.loop-task.invariant.popped c.in-Some.ensures.items c.push_reserved.ensures.items
-          (c.failure_in.ensures ∙ ap (λ n. failure_of n c.in-Some.task.outcome) c.number.ensures) c.lesser-failure.ensures.among c.lesser-failure.ensures.least;
-    }
+loop-task-preserved-in-Some g c = record {
+  room = search rules;
+  count = search rules;
+  popped = popped_more _ c.in-Some.task c.loop-task.invariant.popped c.in-Some.ensures.items c.push_reserved.ensures.items (c.failure_in.ensures ∙ ap (λ n. failure_of n c.in-Some.task.outcome) c.number.ensures) c.lesser-failure.ensures.among c.lesser-failure.ensures.least;
+}
 
 pub loop-task-preserved : goal.loop-task-preserved
-loop-task-preserved g c =
-    record {
-      room = search rules;
-      count = search rules;
-      popped = popped_more c.args.tasks.items c.loop-task.tasks.items c.pop.new.self.items c.args.passes.now.items c.loop-task.passes.items c.push_reserved.new.self.items
-          c.args.known c.loop-task.failure c.failure_in.result c.lesser-failure.result c.in-Some.task c.loop-task.invariant.popped c.in-Some.ensures.items c.push_reserved.ensures.items
-          (c.failure_in.ensures ∙ ap (λ n. failure_of n c.in-Some.task.outcome) c.number.ensures) c.lesser-failure.ensures.among c.lesser-failure.ensures.least;
-    }
+loop-task-preserved g c = record {
+  room = search rules;
+  count = search rules;
+  popped = popped_more _ c.in-Some.task c.loop-task.invariant.popped c.in-Some.ensures.items c.push_reserved.ensures.items (c.failure_in.ensures ∙ ap (λ n. failure_of n c.in-Some.task.outcome) c.number.ensures) c.lesser-failure.ensures.among c.lesser-failure.ensures.least;
+}
