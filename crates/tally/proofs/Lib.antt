@@ -1,1 +1,2 @@
+mod NamedFiles
 mod SameKinds

@@ -1,7 +1,9 @@
 //! The files of the command line, opened.
-ghost use Rattle.std.specs.Prelude.{◌≡◌, IfOk, length, map};
+ghost use Rattle.std.specs.Prelude.{◌≡◌, IfErr, IfOk, length, map};
 ghost use Rattle.std.specs.List.{All};
 ghost use Rattle.tally.specs.Bytes.{bytes_left};
+ghost use Rattle.tally.specs.Faults.{Names, NamesOneOf};
+ghost use Rattle.tally.specs.declared.opened.OpenFault.TheVariants.{Memory};
 ghost use Rattle.tally_cli.specs.Runs.{IsReadable};
 
 use std::alloc::{AllocFailed, Global};
@@ -88,6 +90,8 @@ pub(crate) enum OpenFault<'a> {
 }
 
 impl<'a, T: Drop> From<AllocFailed<T>> for OpenFault<'a> {
+    ghost from_gives = { λ _ fault. fault ≡ Memory };
+
     fn from(_error: AllocFailed<T>) -> OpenFault<'a> {
         OpenFault::Memory
     }
@@ -115,6 +119,7 @@ where
     R::File: Drop,
     ensures kind { IfOk result (λ source. source.kind ≡ file.now.kind) }
     ensures unfailed { IfOk result (λ source. source.input.failures ≡ 0) }
+    ensures fault { IfErr result (Names file.now) }
 {
     let path = file.path.as_str();
     let Some(opened) = open(rt, path) else {
@@ -137,6 +142,7 @@ where
     ensures count { IfOk result (λ sources. length sources.items ≡ length files.now) }
     ensures kinds { IfOk result (λ sources. map (λ s. s.kind) sources.items ≡ map (λ f. f.kind) files.now) }
     ensures readable { IfOk result (λ sources. All (IsReadable (λ input. input.failures)) sources.items) }
+    ensures fault { IfErr result (NamesOneOf files.now) }
 {
     let mut sources = Vec::new(alloc);
     for at in 0..files.len() {

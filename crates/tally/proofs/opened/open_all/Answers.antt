@@ -2,6 +2,8 @@ use Rattle.std.proofs.Common.{◌-◌, ◌^◌, ◌<◌, ◌++◌, ◌∷◌, []
 use Rattle.std.proofs.lemmas.List.{length_push}
 use Rattle.std.proofs.lemmas.List.Elements.{All-push, All-same}
 use Rattle.tally_cli.specs.Runs.{IsReadable}
+use Rattle.std.proofs.lemmas.Result.{err_from_is_err_and}
+use Rattle.tally.proofs.NamedFiles.{names_one}
 use Rattle.tally.proofs.SameKinds.{kinds_more}
 use Rattle.tally.proofs.opened.open_all.Goals as goal
 
@@ -13,3 +15,8 @@ loop-at-preserved g c =
       readable = All-same (IsReadable (λ input. input.failures)) c.push.new.self.items (c.loop-at.sources.items ++ _ ∷ []) c.in_ok-push.ensures.items
           (All-push (IsReadable (λ input. input.failures)) c.loop-at.sources.items _ c.loop-at.invariant.readable fresh);
     }
+
+pub returns-in_err-source-clause-fault : goal.returns-in_err-source-clause-fault
+returns-in_err-source-clause-fault g c =
+    let p = err_from_is_err_and c.from_residual.result c.from_residual.ensures.1 in
+    rw (p.1, p.2) (names_one c.args.files.now c.loop-at.at _ c.index-files-at.result _ (omega arith) c.index-files-at.is c.in_err-source.ensures.fault)

@@ -1,0 +1,12 @@
+-- A file that a fault names is one of those that were to be opened.
+use Rattle.std.proofs.Common.{◌≡◌, ◌∙◌, ◌<◌, ℕ, List, ap, get_or, length, string_bytes, subst, sym}
+use Rattle.std.specs.List.{Contains}
+use Rattle.std.proofs.lemmas.List.Elements.{Contains-get_or}
+use Rattle.tally_cli.specs.declared.line.files.FileArg.{FileArg}
+use Rattle.tally.specs.Faults.{Names, NamesOneOf}
+use Rattle.tally.specs.declared.opened.OpenFault.{OpenFault}
+use Rattle.tally.specs.declared.opened.OpenFault.TheVariants.{Memory, NotOpened}
+
+pub names_one : (files : List FileArg) (i : ℕ) (d file : FileArg) (fault : OpenFault) → i < length files → file ≡ get_or files i d → Names file fault → NamesOneOf files fault
+names_one files i d file Memory within is names = absurd names
+names_one files i d file (NotOpened path) within is names = (file, subst (Contains files) (sym is) (Contains-get_or files i d within), names)
