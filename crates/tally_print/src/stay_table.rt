@@ -117,6 +117,12 @@ fn push_who(line: &mut Vec<u8>, stay: &Stay) -> Result<(), AllocError>
     push_place(line, stay)
 }
 
+fn push_begin(line: &mut Vec<u8>, stay: &Stay) -> Result<(), AllocError>
+    ensures { OnOk result (line.new.items ≡ line.old.items ++ (signed_decimal stay.now.begin ++ 44 ∷ [])) }
+{
+    push_time(line, stay.begin)
+}
+
 fn push_start(line: &mut Vec<u8>, stay: &Stay, offset: i32) -> Result<(), AllocError>
     requires { IsOffset offset }
     ensures { OnOk result (line.new.items ≡ line.old.items ++ (signed_decimal stay.now.start ++ 44 ∷ []
@@ -125,7 +131,7 @@ fn push_start(line: &mut Vec<u8>, stay: &Stay, offset: i32) -> Result<(), AllocE
     push_time(line, stay.start)?;
     push_iso(line, stay.start, offset)?;
     line.push(b',')?;
-    push_time(line, stay.begin)
+    push_begin(line, stay)
 }
 
 fn push_ending(line: &mut Vec<u8>, stay: &Stay, offset: i32) -> Result<(), AllocError>
