@@ -1,5 +1,5 @@
 //! Connect times as CSV.
-ghost use Rattle.std.specs.Prelude.{◌≡◌, ◌++◌, ◌∷◌, [], IfSome, OnOk, decimal, refl};
+ghost use Rattle.std.specs.Prelude.{◌≡◌, ◌++◌, IfSome, OnOk, refl};
 ghost use Rattle.csv.specs.Writing.{default_writer, row_text};
 ghost use Rattle.tally_book.specs.Answers.{HasDay};
 ghost use Rattle.tally_sessions.specs.Days.{IsDay};
@@ -7,7 +7,7 @@ ghost use Rattle.tally_print.specs.ConnectTable.{connect_fields, connect_header,
 ghost use Rattle.tally_print.specs.Tables.{asked};
 ghost use Rattle.tally_print.specs.inside.Tables.{before_last};
 
-use crate::fields::{push_date_field, push_number, push_shown_field};
+use crate::fields::{push_date_field, push_seconds, push_shown_field};
 use crate::lines::{Fields, Line};
 use std::alloc::AllocError;
 use tally_book::ConnectRow;
@@ -40,14 +40,6 @@ fn push_user(line: &mut Vec<u8>, by_user: bool, user: &Option<Name>) -> Result<(
     Ok(())
 }
 
-fn push_seconds(line: &mut Vec<u8>, row: &ConnectRow) -> Result<(), AllocError>
-    ensures { OnOk result (line.new.items ≡ line.old.items ++ (decimal row.now.seconds ++ 10 ∷ [])) }
-{
-    push_number(line, row.seconds)?;
-    line.push(b'\n')?;
-    Ok(())
-}
-
 fn push_row(
     line: &mut Vec<u8>,
     by_day: bool,
@@ -59,7 +51,7 @@ fn push_row(
 {
     push_day(line, by_day, row.day)?;
     push_user(line, by_user, &row.user)?;
-    push_seconds(line, row)
+    push_seconds(line, row.seconds)
 }
 
 /// The fields of a connect time that are asked for.

@@ -67,6 +67,15 @@ pub(crate) fn push_number<I: Integer>(line: &mut Vec<u8>, number: I) -> Result<(
     line.extend_from_slice(Buffer::new().format(number).as_bytes())
 }
 
+/// Appends seconds, which need no quotes, and ends the line.
+pub(crate) fn push_seconds(line: &mut Vec<u8>, seconds: u64) -> Result<(), AllocError>
+    ensures { OnOk result (line.new.items ≡ line.old.items ++ (decimal seconds ++ 10 ∷ [])) }
+{
+    push_number(line, seconds)?;
+    line.push(b'\n')?;
+    Ok(())
+}
+
 /// Appends the civil date of a day, which needs no quotes.
 #[tactic(auto, using(crate::proofs::PlainLemmas::date_as_field))]
 pub(crate) fn push_date_field(line: &mut Vec<u8>, day: i32) -> Result<(), AllocError>

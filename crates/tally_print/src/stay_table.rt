@@ -7,7 +7,7 @@ ghost use Rattle.tally_print.specs.StayTable.{end_word, iso_moment, line_field, 
 ghost use Rattle.tally_print.specs.Text.{shown};
 
 use crate::date::push_marked_moment;
-use crate::fields::{push_number, push_shown_field};
+use crate::fields::{push_number, push_seconds, push_shown_field};
 use crate::lines::{Fields, Line};
 use crate::text::push_two;
 use std::alloc::AllocError;
@@ -38,11 +38,13 @@ fn push_iso(line: &mut Vec<u8>, time: i32, offset: i32) -> Result<(), AllocError
     push_zone(line, offset)
 }
 
-/// Appends a time in seconds since 1970.
+/// Appends a time in seconds since 1970, and the mark after it.
 fn push_time(line: &mut Vec<u8>, time: i32) -> Result<(), AllocError>
-    ensures { OnOk result (line.new.items ≡ line.old.items ++ signed_decimal time) }
+    ensures { OnOk result (line.new.items ≡ line.old.items ++ (signed_decimal time ++ 44 ∷ [])) }
 {
-    push_number(line, time)
+    push_number(line, time)?;
+    line.push(b',')?;
+    Ok(())
 }
 
 /// Appends the number of a file, counted from 1.
@@ -118,9 +120,7 @@ fn push_who(line: &mut Vec<u8>, stay: &Stay) -> Result<(), AllocError>
 fn push_begin(line: &mut Vec<u8>, stay: &Stay) -> Result<(), AllocError>
     ensures { OnOk result (line.new.items ≡ line.old.items ++ (signed_decimal stay.now.begin ++ 44 ∷ [])) }
 {
-    push_time(line, stay.begin)?;
-    line.push(b',')?;
-    Ok(())
+    push_time(line, stay.begin)
 }
 
 fn push_start(line: &mut Vec<u8>, stay: &Stay, offset: i32) -> Result<(), AllocError>
@@ -129,7 +129,6 @@ fn push_start(line: &mut Vec<u8>, stay: &Stay, offset: i32) -> Result<(), AllocE
         ++ iso_moment stay.now.start offset ++ 44 ∷ [] ++ (signed_decimal stay.now.begin ++ 44 ∷ []))) }
 {
     push_time(line, stay.start)?;
-    line.push(b',')?;
     push_iso(line, stay.start, offset)?;
     line.push(b',')?;
     push_begin(line, stay)
@@ -143,17 +142,8 @@ fn push_ending(line: &mut Vec<u8>, stay: &Stay, offset: i32) -> Result<(), Alloc
     push_end(line, stay.end)?;
     line.push(b',')?;
     push_time(line, stay.end_time)?;
-    line.push(b',')?;
     push_iso(line, stay.end_time, offset)?;
     line.push(b',')?;
-    Ok(())
-}
-
-fn push_seconds(line: &mut Vec<u8>, stay: &Stay) -> Result<(), AllocError>
-    ensures { OnOk result (line.new.items ≡ line.old.items ++ (decimal stay.now.length ++ 10 ∷ [])) }
-{
-    push_number(line, stay.length)?;
-    line.push(b'\n')?;
     Ok(())
 }
 
@@ -164,7 +154,7 @@ fn push_row(line: &mut Vec<u8>, stay: &Stay, offset: i32) -> Result<(), AllocErr
     push_who(line, stay)?;
     push_start(line, stay, offset)?;
     push_ending(line, stay, offset)?;
-    push_seconds(line, stay)
+    push_seconds(line, stay.length)
 }
 
 /// The fields of a stay.

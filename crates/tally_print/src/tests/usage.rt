@@ -35,7 +35,7 @@ fn expect_users(rt: &impl Abort, alloc: Global, rows: &[UidRow], total: &Usage, 
     assert!(rt; false, "refused twice");
 }
 
-/// What so many calls used.
+/// What so many calls used: ticks elapsed, ticks of cpu, io, and memory by ticks of cpu.
 fn used(count: u64, real: u128, cpu: u64, io: u64, mem_cpu: u128) -> Usage {
     Usage {
         count,
