@@ -1,5 +1,5 @@
 -- What a failure shows of the caller's work.
-use Rattle.std.proofs.Common.{◌≡◌, ℕ, ◌<◌, Bool, List, Option, Some, None, refl, sym, ap, ◌∙◌, subst}
+use Rattle.std.proofs.Common.{◌≡◌, ℕ, ◌<◌, Bool, List, Option, Some, None, refl, sym, ap, subst}
 use Rattle.tally_book.specs.declared.fault.AskFault.{AskFault}
 use Rattle.tally_desk.specs.Passes.{PassState}
 use Rattle.tally_desk.specs.Rounds.{AskStops}
@@ -16,7 +16,6 @@ use Rattle.tally_cli.specs.declared.running.task.Outcome.TheVariants as outcome
 use Rattle.tally_cli.specs.inside.Deals.{work_of}
 use Rattle.tally_cli.specs.inside.Failures.{failure_of}
 use Rattle.tally_cli.specs.Runs.{IsFileCause, Told, good_logins, good_procs}
-use Rattle.tally_cli.specs.inside.RunSteps.{run_fault}
 use Rattle.tally_cli.specs.inside.Tasks.{FailedToFeed, IsOutcome, asker_questions}
 
 abbrev IsNone : Option Failure → Type 0

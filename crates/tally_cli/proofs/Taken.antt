@@ -1,9 +1,9 @@
 -- Tasks that are taken back one by one.
 use Rattle.std.proofs.Common.{◌≡◌, ◌⊎◌, suc, ◌+◌, List, [], ◌∷◌, ◌++◌, Option, Some, None, length, map, refl, sym, ap, ◌∙◌, subst, arith, length-append, ⊎_elim}
-use Rattle.std.proofs.lemmas.List.{append_assoc, get_or_append_left, get_or_at, map-append}
+use Rattle.std.proofs.lemmas.List.{append_assoc, map-append}
 use Rattle.std.proofs.lemmas.List.Sums.{sum_by-append, sum_by-cons}
 use Rattle.std.proofs.lemmas.Grind.{flat_map-append}
-use Rattle.std.proofs.lemmas.List.Elements.{All-nil, All-cons, All-push, All-weaker, Contains-append_left, Contains-push}
+use Rattle.std.proofs.lemmas.List.Elements.{All-cons, All-push, All-weaker, Contains-append_left, Contains-push}
 use Rattle.std.specs.List.{Contains, flat_map, sum_by}
 use Rattle.std.specs.Prelude.{IfSome}
 use Rattle.tally_desk.specs.Passes.{PassState}

@@ -2,7 +2,7 @@
 ghost use Rattle.std.specs.Prelude.{◌≡◌, ◌<◌, IfOk};
 ghost use Rattle.tally_book.specs.Answers.{IsAskable, HasDays};
 
-use crate::bytes::{login_record, logins, make_record, procs, put};
+use crate::bytes::{logins, make_record, procs, put, session};
 use crate::held::{held_by, holds};
 use crate::printing::{print_receipt, print_served};
 use crate::stopped::Stopped;
@@ -71,10 +71,7 @@ fn ask(alloc: Global, book: &mut Book, caller: u32, question: &Question) -> Resu
 
 /// A session of one hour.
 pub(crate) fn hour(alloc: Global) -> Result<Batch, Stopped> {
-    let mut bytes = [0; 768];
-    put(&mut bytes, 0, &login_record(7, "tty1", "ann", 1_000_000));
-    put(&mut bytes, 384, &login_record(8, "tty1", "", 1_003_600));
-    Ok(logins(alloc, &bytes)?)
+    Ok(logins(alloc, &session("ann", 1_000_000, 1_003_600))?)
 }
 
 /// One run of make that executed, and two that only forked, as bytes.

@@ -22,6 +22,14 @@ pub(crate) fn login_record(kind: u8, line: &str, user: &str, time: i32) -> [u8; 
     bytes
 }
 
+/// A login on tty1, and its logout.
+pub(crate) fn session(user: &str, login: i32, logout: i32) -> [u8; 768] {
+    let mut bytes = [0; 768];
+    put(&mut bytes, 0, &login_record(7, "tty1", user, login));
+    put(&mut bytes, 384, &login_record(8, "tty1", "", logout));
+    bytes
+}
+
 /// The process record of a run of make: user, system and elapsed ticks, memory and blocks.
 pub(crate) fn make_record(flag: u8, numbers: &[u8; 10]) -> [u8; 64] {
     let mut bytes = [0; 64];

@@ -64,36 +64,7 @@ fn print_last_totals<R: Print>(rt: &R, book: &Book) -> Result<(), Stopped> {
     Ok(())
 }
 
-/// Prints what was fed.
-fn print_fed<R: Print + AllocGlobal + Wait>(
-    rt: &R,
-    desk: &Desk,
-    pass: &mut Pass,
-) -> Result<(), Stopped>
-    requires { pass.old.desk ≡ desk.now.id }
-    ensures { pass.new.desk ≡ pass.old.desk }
-{
-    let Fed { records, batches } = feed_makes(rt, rt.alloc(), desk, pass)?;
-    println!(rt; "fed: {records} records in {batches} batches")?;
-    Ok(())
-}
-
-/// Prints how many questions were answered.
-fn print_asked<R: Print + AllocGlobal + Wait>(
-    rt: &R,
-    desk: &Desk,
-    pass: &mut Pass,
-) -> Result<(), Stopped>
-    requires { pass.old.desk ≡ desk.now.id }
-    ensures { pass.new.desk ≡ pass.old.desk }
-{
-    println!(rt; "stored {}", desk.stored(pass))?;
-    let asked = ask_thrice(rt, rt.alloc(), desk, pass)?;
-    println!(rt; "asked: {asked} answers")?;
-    Ok(())
-}
-
-/// Feeds and asks after an hour was posted.
+/// Prints what was fed and how many questions were answered after an hour was posted.
 fn print_calls<R: Print + AllocGlobal + Wait>(
     rt: &R,
     desk: &Desk,
@@ -107,8 +78,12 @@ fn print_calls<R: Print + AllocGlobal + Wait>(
 {
     let hour = hour(rt.alloc())?;
     post(rt, desk, first, &hour)?;
-    print_fed(rt, desk, second)?;
-    print_asked(rt, desk, first)
+    let Fed { records, batches } = feed_makes(rt, rt.alloc(), desk, second)?;
+    println!(rt; "fed: {records} records in {batches} batches")?;
+    println!(rt; "stored {}", desk.stored(first))?;
+    let asked = ask_thrice(rt, rt.alloc(), desk, first)?;
+    println!(rt; "asked: {asked} answers")?;
+    Ok(())
 }
 
 /// Prints what was fed, how many questions were answered and what was answered. A refused round

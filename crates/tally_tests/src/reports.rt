@@ -2,7 +2,7 @@
 ghost use Rattle.std.specs.Prelude.{◌≡◌};
 
 use crate::book::{hour, makes, new_book, post, report};
-use crate::bytes::{login_record, logins, put};
+use crate::bytes::{login_record, logins, put, session};
 use crate::stopped::Stopped;
 use std::alloc::Global;
 use std::hash::RandomState;
@@ -67,10 +67,7 @@ fn reboots(alloc: Global) -> Result<Batch, Stopped> {
 
 /// A session over midnight.
 fn night(alloc: Global) -> Result<Batch, Stopped> {
-    let mut bytes = [0; 768];
-    put(&mut bytes, 0, &login_record(7, "tty1", "ann", 84_600));
-    put(&mut bytes, 384, &login_record(8, "tty1", "", 88_200));
-    Ok(logins(alloc, &bytes)?)
+    Ok(logins(alloc, &session("ann", 84_600, 88_200))?)
 }
 
 /// Posts the batches of both callers.

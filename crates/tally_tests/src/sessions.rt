@@ -2,7 +2,7 @@
 ghost use Rattle.std.specs.Prelude.{◌≡◌, ◌<◌, ◌≤◌, ◌+◌, IfOk, OnOk, Some, length};
 ghost use Rattle.tally_records.specs.Records.{IsLogins, logins_in, record_count};
 
-use crate::bytes::{login_record, logins, put};
+use crate::bytes::{login_record, logins, put, session};
 use crate::session_answers::{Answers, Seen, answers_of, are_same, seen_of};
 use crate::stopped::Stopped;
 use crate::window::{grant_growths, refuse_growths};
@@ -78,10 +78,7 @@ fn add(alloc: Global, sessions: &mut Sessions, host: u32, batch: &Batch) -> Resu
 fn hour(alloc: Global) -> Result<Batch, BatchFault>
     ensures { IfOk result IsLogins }
 {
-    let mut bytes = [0; 768];
-    put(&mut bytes, 0, &login_record(7, "tty1", "dan", 0));
-    put(&mut bytes, 384, &login_record(8, "tty1", "", 3600));
-    logins(alloc, &bytes)
+    logins(alloc, &session("dan", 0, 3600))
 }
 
 /// Three users, one over midnight and one who never logs out.
