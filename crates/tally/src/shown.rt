@@ -1,5 +1,7 @@
 //! Words of the command line as fault lines show them.
-ghost use Rattle.std.specs.Prelude.{◌≡◌, ◌≤◌};
+ghost use Rattle.std.specs.Prelude.{◌≡◌, Some, IfOk, map, string_bytes};
+ghost use Rattle.tally_print.specs.Text.{shown_byte};
+ghost use Rattle.tally.specs.Shown.{shown_word};
 
 use std::alloc::{AllocError, Global};
 use std::fmt::{self, Display, Formatter};
@@ -19,16 +21,17 @@ pub(crate) struct Shown<'a> {
 }
 
 impl<'a> Shown<'a> {
-    pub(crate) fn new(word: &'a str, to: ErrorsTo) -> Shown<'a> {
+    pub(crate) fn new(word: &'a str, to: ErrorsTo) -> Shown<'a>
+        ensures word { result.word.now ≡ word.now }
+        ensures to { result.to ≡ to }
+    {
         Shown { word, to }
     }
 }
 
 /// What a terminal is sent for a byte.
 fn printed(byte: u8) -> u8
-    ensures least { 32 ≤ result }
-    ensures greatest { result ≤ 126 }
-    ensures same { 32 ≤ byte → byte ≤ 126 → result ≡ byte }
+    ensures { result ≡ shown_byte byte }
 {
     match byte {
         b' '..=b'~' => byte,
@@ -37,6 +40,8 @@ fn printed(byte: u8) -> u8
 }
 
 impl Display for Shown<'_> {
+    ghost output = { λ shown. Some (shown_word shown.to shown.word.now) };
+
     fn fmt<W: fmt::Write>(&self, f: &mut Formatter<W>) -> fmt::Result {
         match self.to {
             ErrorsTo::Elsewhere => f.write_str(self.word),
@@ -51,7 +56,9 @@ impl Display for Shown<'_> {
 }
 
 /// The words as a terminal shows them.
-pub(crate) fn printable(alloc: Global, words: &[String]) -> Result<Vec<String>, AllocError> {
+pub(crate) fn printable(alloc: Global, words: &[String]) -> Result<Vec<String>, AllocError>
+    ensures { IfOk result (λ shown. map string_bytes shown.items ≡ map (λ word. map shown_byte (string_bytes word)) words.now) }
+{
     let mut shown = Vec::new(alloc);
     for word in words {
         shown.push(format!(in alloc; "{}", Shown::new(word.as_str(), ErrorsTo::Terminal))?)?;
