@@ -18,7 +18,8 @@ use Rattle.tally_sessions.specs.Hosts.{of_host}
 use Rattle.tally_sessions.specs.inside.Entries.{no_entry}
 use Rattle.tally_sessions.specs.inside.Kept.{AreTracks}
 use Rattle.tally_sessions.specs.Stays.{starts_stay, last_time}
-use Rattle.tally_sessions.specs.inside.Track.{no_stay, stay_at, start_of, ended_with, tracked_in, counts, ended_length, AreOf, AreTracked, HasSums, IsEntered, IsTrack, IsWithin}
+use Rattle.tally_sessions.specs.inside.Numbers.{StandsAt}
+use Rattle.tally_sessions.specs.inside.Track.{no_stay, stay_at, start_of, ended_with, tracked_in, counts, ended_length, AreOf, AreTracked, HasSums, IsTrack, IsWithin}
 use Rattle.tally_sessions.specs.inside.Tracking.{Tracked, clock, tracked_from}
 use Rattle.tally_sessions.proofs.track.EndedSteps.{HasSums-same}
 use Rattle.tally_sessions.proofs.sessions.HostSteps.{of_host-take_other}
@@ -82,8 +83,9 @@ HasSums-take es es' n sums lines swept stays same tracked h = record {
       (λ k lt. ap (λ (r : LoginRecord). cond (counts who r) (option_map_or (λ (e : Ending). e.length) (stay_at stays k).ended 0) 0) (sym (start_same es es' n (stay_at stays k) same (tracked.at k lt).placed)));
   entered = λ k lt login.
       let start = start_same es es' n (stay_at stays k) same (tracked.at k lt).placed in
-      subst (λ (r : LoginRecord). IsEntered sums r.user) (sym start) (h.entered k lt (ap event_of (sym start) ∙ login));
+      subst (λ (r : LoginRecord). StandsAt sums.users (stay_at stays k).user r.user) (sym start) (h.entered k lt (ap event_of (sym start) ∙ login));
   fits = h.fits;
+  few = h.few;
 }
 
 pub IsTrack-take : (host : ℕ) (es es' : List Entry) (n : ℕ) (a : Track) → take n es' ≡ take n es → IsTrack host es n a → IsTrack host es' n a

@@ -1,12 +1,12 @@
 -- The sums of ended sessions, after one stay that is ended.
-use Rattle.std.proofs.Common.{◌≡◌, ◌≢◌, ◌⊎◌, inl, inr, ℕ, ◌+◌, ◌*◌, ◌<◌, ◌≤◌, Bool, true, false, cond, List, [], ◌∷◌, ◌++◌, length, get_or, set, Option, Some, None, IsSome, unwrap_or, ℤ, length-append, refl, sym, ap, subst, ◌∙◌, arith}
+use Rattle.std.proofs.Common.{◌≡◌, ◌≢◌, ◌⊎◌, inl, inr, ℕ, ◌+◌, ◌*◌, ◌<◌, ◌≤◌, ◌&&◌, Bool, if◌then◌else◌, true, false, cond, List, [], ◌∷◌, ◌++◌, length, get_or, set, Option, Some, None, unwrap_or, ℤ, length-append, refl, sym, ap, subst, ◌∙◌, arith}
 use Rattle.std.proofs.lemmas.Bool.{cases_eq}
 use Rattle.std.proofs.lemmas.List.{append-nil, get_or_default, get_or-set_same, get_or-set_other, length-set}
 use Rattle.std.proofs.lemmas.List.Sums.{sum_by-append, sum_by-set, sum_by-le}
-use Rattle.std.specs.Map.{lookup}
+use Rattle.std.specs.Map.{keys_of, lookup}
 use Rattle.std.specs.Option.{option_map_or}
-use Rattle.std.specs.Prelude.{bytes_eq, sum_by}
-use Rattle.tally_records.specs.declared.login.LoginRecord.{LoginRecord}
+use Rattle.std.specs.Prelude.{bytes_eq, slice_get, sum_by}
+use Rattle.std.proofs.lemmas.Map.Entries.{length-keys_of}
 use Rattle.tally_records.specs.declared.login.Event.TheVariants.{Login}
 use Rattle.tally_records.specs.Event.{event_of}
 use Rattle.tally_sessions.specs.declared.entry.Entry.{Entry}
@@ -14,20 +14,42 @@ use Rattle.tally_sessions.specs.declared.track.ended.EndedSums.{EndedSums}
 use Rattle.tally_sessions.specs.declared.track.ending.Ending.{Ending}
 use Rattle.tally_sessions.specs.declared.track.ending.TrackedStay.{TrackedStay}
 use Rattle.tally_sessions.specs.inside.Entries.{entry_at}
-use Rattle.tally_sessions.specs.inside.Track.{no_stay, stay_at, start_of, counts, ended_length, ended_sum, sum_of, started, HasSums, IsEntered, LengthFits}
+use Rattle.tally_sessions.specs.inside.Track.{no_stay, stay_at, start_of, counts, ended_length, ended_sum, covers, is_login_event, sum_of, started, HasSums, HasUser, LengthFits}
+use Rattle.tally_sessions.specs.inside.Numbers.{StandsAt}
 use Rattle.tally_sessions.specs.Stays.{starts_stay}
 use Rattle.tally_sessions.proofs.track.Places.{each-push}
 
+-- a login's stay that has ended counts for its user and for all
+pub counted : (who : Option (List ℕ)) (es : List Entry) (before : TrackedStay) (ending : Ending) (n n' : ℕ) → is_login_event (event_of (start_of es before)) ≡ true → before.ended ≡ None
+    → n' ≡ n + (if covers who (start_of es before).user then ending.length else 0) → n' + ended_length who es before ≡ n + ended_length who es (record before { ended = Some ending })
+counted who es before ending n n' login pending more =
+    let nothing : ended_length who es before ≡ 0 = ap (λ o. ended_length who es (record before { ended = o })) pending ∙ none (counts who (start_of es before)) in
+    let own : ended_length who es (record before { ended = Some ending }) ≡ (if covers who (start_of es before).user then ending.length else 0) = ap (λ b. cond b ending.length 0) (alike who) in
+    omega (arith, more, nothing, own)
+  where
+    none : (b : Bool) → ◌≡◌ {A = ℕ} (cond b 0 0) 0
+    none true = refl
+    none false = refl
+
+    alike : (who : Option (List ℕ)) → counts who (start_of es before) ≡ covers who (start_of es before).user
+    alike None = login
+    alike (Some user) = ap (λ b. b && bytes_eq (start_of es before).user user) login
+
+-- tables of the same names are as long
+pub same_length : (xs ys : List (List ℕ × ℕ)) → keys_of ys ≡ keys_of xs → length ys ≡ length xs
+same_length xs ys h = sym (length-keys_of ys) ∙ ap length h ∙ length-keys_of xs
+
 -- one stay is replaced by its next state
-pub HasSums-set : (es : List Entry) (sums sums' : EndedSums) (ts : List TrackedStay) (i : ℕ) (before after : TrackedStay) → HasSums es sums ts → i < length ts → stay_at ts i ≡ before → after.entry ≡ before.entry
+pub HasSums-set : (es : List Entry) (sums sums' : EndedSums) (ts : List TrackedStay) (i : ℕ) (before after : TrackedStay) → HasSums es sums ts → i < length ts → stay_at ts i ≡ before → after.entry ≡ before.entry → after.user ≡ before.user
     → ((who : Option (List ℕ)) → sum_of sums' who + ended_length who es before ≡ sum_of sums who + ended_length who es after)
-    → ((name : List ℕ) → IsEntered sums name → IsEntered sums' name) → LengthFits after → HasSums es sums' (set ts i after)
-HasSums-set es sums sums' ts i before after h lt is same moved kept fits = record {
+    → keys_of sums'.users.entries ≡ keys_of sums.users.entries → LengthFits after → HasSums es sums' (set ts i after)
+HasSums-set es sums sums' ts i before after h lt is same same_user moved kept fits = record {
   at = λ who.
       let f = ended_length who es in
       let step : sum_by f (set ts i after) + f before ≡ sum_by f ts + f after = subst (λ t. sum_by f (set ts i after) + f t ≡ sum_by f ts + f after) is (sum_by-set f ts i after no_stay lt) in
       balance (sum_of sums' who) (sum_of sums who) (sum_by f (set ts i after)) (sum_by f ts) (f before) (f after) (moved who) (h.at who) step;
-  entered = λ k within login. by_entered k (omega (arith, length-set ts i after)) login (cases_eq k i);
+  entered = λ k within. by_entered k (omega (arith, length-set ts i after)) (cases_eq k i);
+  few = omega (arith, h.few, length-set ts i after, same_length sums.users.entries sums'.users.entries kept);
   fits = λ k within. by_fits k (omega (arith, length-set ts i after)) (cases_eq k i);
 }
   where
@@ -37,17 +59,16 @@ HasSums-set es sums sums' ts i before after h lt is same moved kept fits = recor
     here : stay_at (set ts i after) i ≡ after
     here = get_or-set_same ts i after no_stay lt
 
-    start : start_of es (stay_at ts i) ≡ start_of es (stay_at (set ts i after) i)
-    start = sym (ap (start_of es) (get_or-set_same ts i after no_stay lt) ∙ ap (λ e. start_of es (record { entry = e; clock_at = after.clock_at; ended = after.ended })) same ∙ ap (λ (t : TrackedStay). start_of es t) (sym is))
+    has_user : HasUser es sums'.users after
+    has_user login =
+        subst (λ names. slice_get names after.user ≡ Some (start_of es after).user) (sym kept)
+        (subst (HasUser es sums.users) (λ j. record after { entry = sym same j; user = sym same_user j }) (subst (HasUser es sums.users) is (h.entered i lt)) login)
 
-    by_entered : (k : ℕ) → k < length ts → event_of (start_of es (stay_at (set ts i after) k)) ≡ Login → (k ≡ i) ⊎ (k ≢ i) → IsEntered sums' (start_of es (stay_at (set ts i after) k)).user
-    by_entered k within login (inl e) =
-        let at_i : event_of (start_of es (stay_at (set ts i after) i)) ≡ Login = subst (λ j. event_of (start_of es (stay_at (set ts i after) j)) ≡ Login) e login in
-        subst (λ j. IsEntered sums' (start_of es (stay_at (set ts i after) j)).user) (sym e)
-        (kept _ (subst (λ (r : LoginRecord). IsEntered sums r.user) start (h.entered i lt (ap event_of start ∙ at_i))))
-    by_entered k within login (inr other) =
-        let old : stay_at (set ts i after) k ≡ stay_at ts k = get_or-set_other ts i k after no_stay other in
-        kept _ (subst (λ t. IsEntered sums (start_of es t).user) (sym old) (h.entered k within (ap (λ t. event_of (start_of es t)) (sym old) ∙ login)))
+    by_entered : (k : ℕ) → k < length ts → (k ≡ i) ⊎ (k ≢ i) → HasUser es sums'.users (stay_at (set ts i after) k)
+    by_entered k within (inl e) = subst (λ j. HasUser es sums'.users (stay_at (set ts i after) j)) (sym e) (subst (HasUser es sums'.users) (sym here) has_user)
+    by_entered k within (inr other) =
+        subst (HasUser es sums'.users) (sym (get_or-set_other ts i k after no_stay other))
+        (λ login. subst (λ names. slice_get names (stay_at ts k).user ≡ Some (start_of es (stay_at ts k)).user) (sym kept) (h.entered k within login))
 
     by_fits : (k : ℕ) → k < length ts → (k ≡ i) ⊎ (k ≢ i) → LengthFits (stay_at (set ts i after) k)
     by_fits k within (inl e) = subst (λ j. LengthFits (stay_at (set ts i after) j)) (sym e) (subst LengthFits (sym (get_or-set_same ts i after no_stay lt)) fits)
@@ -64,9 +85,9 @@ ended_sum-le who es ts fits =
     sum_by-le (ended_length who es) 4294967295 ts
     (λ k d lt. subst (λ t. ended_length who es t ≤ 4294967295) (get_or_default ts k no_stay d lt) (few_seconds (counts who (start_of es (stay_at ts k))) (stay_at ts k).ended (fits k lt)))
 
-ended_nothing : (who : Option (List ℕ)) (es : List Entry) (n : ℕ) (now : ℤ) (b : Bool) → ended_sum who es (cond b (record { entry = n; clock_at = now; ended = None } ∷ []) []) ≡ 0
-ended_nothing who es n now false = refl
-ended_nothing who es n now true = let none = no_length (counts who (entry_at es n).item) 0 in omega arith
+ended_nothing : (who : Option (List ℕ)) (es : List Entry) (n : ℕ) (now : ℤ) (user : ℕ) (b : Bool) → ended_sum who es (cond b (record { entry = n; clock_at = now; ended = None; user = user } ∷ []) []) ≡ 0
+ended_nothing who es n now user false = refl
+ended_nothing who es n now user true = let none = no_length (counts who (entry_at es n).item) 0 in omega arith
   where
     no_length : (b : Bool) (z : ℕ) → cond b z z ≡ z
     no_length true z = refl
@@ -76,33 +97,37 @@ add_nothing : (m n : ℕ) → n ≡ 0 → m + n ≡ m
 add_nothing m n h = omega arith
 
 -- the stay that the entry at n starts has ended nothing
-pub HasSums-start : (es : List Entry) (n : ℕ) (now : ℤ) (sums sums' : EndedSums) (ts : List TrackedStay) → HasSums es sums ts → ((who : Option (List ℕ)) → sum_of sums' who ≡ sum_of sums who)
-    → ((name : List ℕ) → IsEntered sums name → IsEntered sums' name) → (event_of (entry_at es n).item ≡ Login → IsEntered sums' (entry_at es n).item.user) → HasSums es sums' (ts ++ started es n now)
-HasSums-start es n now sums sums' ts h same kept entered = by (starts_stay (event_of (entry_at es n).item))
+pub HasSums-start : (es : List Entry) (n : ℕ) (now : ℤ) (user : ℕ) (sums sums' : EndedSums) (ts : List TrackedStay) → HasSums es sums ts → ((who : Option (List ℕ)) → sum_of sums' who ≡ sum_of sums who)
+    → ((place : ℕ) (name : List ℕ) → StandsAt sums.users place name → StandsAt sums'.users place name) → (event_of (entry_at es n).item ≡ Login → StandsAt sums'.users user (entry_at es n).item.user)
+    → length sums'.users.entries + length ts ≤ length sums.users.entries + length (ts ++ started es n now user) → HasSums es sums' (ts ++ started es n now user)
+HasSums-start es n now user sums sums' ts h same kept entered few = by (starts_stay (event_of (entry_at es n).item)) few
   where
+    new : TrackedStay
+    new = record { entry = n; clock_at = now; ended = None; user = user }
+
     none≢some : (e : Ending) → None ≡ Some e → ⊥
     none≢some e h = cc
 
-    old_entered : (k : ℕ) (d : TrackedStay) → k < length ts → event_of (start_of es (get_or ts k d)) ≡ Login → IsEntered sums' (start_of es (get_or ts k d)).user
-    old_entered k d lt login =
-        let read = get_or_default ts k no_stay d lt in
-        kept _ (subst (λ t. IsEntered sums (start_of es t).user) read (h.entered k lt (ap (λ t. event_of (start_of es t)) read ∙ login)))
+    old_has_user : (k : ℕ) (d : TrackedStay) → k < length ts → HasUser es sums'.users (get_or ts k d)
+    old_has_user k d lt = subst (HasUser es sums'.users) (get_or_default ts k no_stay d lt) (λ login. kept _ _ (h.entered k lt login))
 
-    by : (b : Bool) → HasSums es sums' (ts ++ cond b (record { entry = n; clock_at = now; ended = None } ∷ []) [])
-    by true = record {
-      at = λ who. same who ∙ h.at who ∙ sym (sum_by-append (ended_length who es) ts (record { entry = n; clock_at = now; ended = None } ∷ []) ∙ add_nothing (ended_sum who es ts) _ (ended_nothing who es n now true));
-      entered = λ k within. each-push (λ t. event_of (start_of es t) ≡ Login → IsEntered sums' (start_of es t).user) ts (length ts) (record { entry = n; clock_at = now; ended = None }) refl (λ j d lt. old_entered j d lt) entered k no_stay
-          (omega (arith, length-append ts (record { entry = n; clock_at = now; ended = None } ∷ [])));
-      fits = λ k within. each-push LengthFits ts (length ts) (record { entry = n; clock_at = now; ended = None }) refl (λ j d lt. subst LengthFits (get_or_default ts j no_stay d lt) (h.fits j lt)) (λ e no. absurd (none≢some e no)) k no_stay
-          (omega (arith, length-append ts (record { entry = n; clock_at = now; ended = None } ∷ [])));
+    by : (b : Bool) → length sums'.users.entries + length ts ≤ length sums.users.entries + length (ts ++ cond b (new ∷ []) []) → HasSums es sums' (ts ++ cond b (new ∷ []) [])
+    by true few = record {
+      at = λ who. same who ∙ h.at who ∙ sym (sum_by-append (ended_length who es) ts (new ∷ []) ∙ add_nothing (ended_sum who es ts) _ (ended_nothing who es n now user true));
+      entered = λ k within. each-push (HasUser es sums'.users) ts (length ts) new refl old_has_user entered k no_stay (omega (arith, length-append ts (new ∷ [])));
+      fits = λ k within. each-push LengthFits ts (length ts) new refl (λ j d lt. subst LengthFits (get_or_default ts j no_stay d lt) (h.fits j lt)) (λ e no. absurd (none≢some e no)) k no_stay (omega (arith, length-append ts (new ∷ [])));
+      few = omega (arith, few, h.few);
     }
-    by false = subst (HasSums es sums') (sym (append-nil ts)) (record { at = λ who. same who ∙ h.at who; entered = λ k lt login. kept _ (h.entered k lt login); fits = h.fits })
+    by false few =
+        subst (HasSums es sums') (sym (append-nil ts))
+        (record { at = λ who. same who ∙ h.at who; entered = λ k lt login. kept _ _ (h.entered k lt login); fits = h.fits; few = omega (arith, few, h.few, ap length (append-nil ts)) })
 
 -- the same sums, in a table with more room
 pub HasSums-same : (es : List Entry) (a b : EndedSums) (ts : List TrackedStay) → b.all ≡ a.all → b.users.entries ≡ a.users.entries → HasSums es a ts → HasSums es b ts
 HasSums-same es a b ts all users h = record {
   at = λ who. by who ∙ h.at who;
-  entered = λ k lt login. subst (λ us. IsSome (lookup (bytes_eq (start_of es (stay_at ts k)).user) us)) (sym users) (h.entered k lt login);
+  entered = λ k lt login. subst (λ us. slice_get (keys_of us) (stay_at ts k).user ≡ Some (start_of es (stay_at ts k)).user) (sym users) (h.entered k lt login);
+  few = omega (arith, h.few, ap length users);
   fits = h.fits;
 }
   where

@@ -1,7 +1,11 @@
 -- Where a name stands in a table.
-use Rattle.std.proofs.Common.{◌≡◌, ℕ, Bool, true, false, refl, cond, List, slice_get, get_or, position, Option, None, Some, IfSome, sym, ap, ◌∙◌}
+use Rattle.std.proofs.Common.{◌≡◌, ℕ, Bool, true, false, refl, cond, List, [], ◌∷◌, ◌++◌, length, length-append, slice_get, get_or, position, Option, None, Some, IfSome, sym, ap, ◌∙◌, arith}
+use Rattle.std.proofs.Math.Seq.{get_or-append_seam}
+use Rattle.std.proofs.lemmas.List.{get_or_append_left, map-append}
+use Rattle.std.proofs.lemmas.Map.Entries.{length-keys_of}
 use Rattle.std.specs.Cmp.Lexicographic.{nat_list_eq_equiv, same_text}
 use Rattle.std.specs.Map.{keys_of, lookup}
+use Rattle.std.specs.Prelude.{Result, Ok, Err, IsOk, OnOk}
 use Rattle.std.specs.Option.{option_map}
 use Rattle.std.specs.Prelude.{bytes_eq}
 use Rattle.std.proofs.lemmas.List.Quantifiers.{position-Some}
@@ -12,10 +16,13 @@ use Rattle.std.proofs.lemmas.Option.{get_or_from_slice_get, slice_get-get_or, sl
 use Rattle.indexmap.specs.IndexMap.{IndexMap, IsUnique, keys, set_value_at}
 use Rattle.indexmap.proofs.CallerLemmas.{updates-with_value_at}
 
+-- the name of the entry at a place
+pub own_name : (entries : List (List ℕ × ℕ)) (i : ℕ) (own : List ℕ) (n : ℕ) → slice_get entries i ≡ Some (own, n) → slice_get (keys_of entries) i ≡ Some own
+own_name entries i own n entry = slice_get-map (λ (p : List ℕ × ℕ). p.0) entries i ∙ ap (option_map (λ (p : List ℕ × ℕ). p.0)) entry
+
 -- the name at a place, by the entry that stands there
 pub own_key : (entries : List (List ℕ × ℕ)) (i : ℕ) (own name : List ℕ) (n : ℕ) → slice_get entries i ≡ Some (own, n) → bytes_eq own name ≡ true → slice_get (keys_of entries) i ≡ Some name
-own_key entries i own name n entry same =
-    slice_get-map (λ (p : List ℕ × ℕ). p.0) entries i ∙ ap (option_map (λ (p : List ℕ × ℕ). p.0)) entry ∙ ap Some (same_text own name (sym same))
+own_key entries i own name n entry same = own_name entries i own n entry ∙ ap Some (same_text own name (sym same))
 
 -- the name at the place where a search found it
 pub found_key : (names : List (List ℕ)) (name : List ℕ) (o : Option ℕ) → o ≡ position (bytes_eq name) names → IfSome o (λ i. slice_get names i ≡ Some name)
@@ -23,6 +30,25 @@ found_key names name None e = tt
 found_key names name (Some i) e =
     let found = position-Some (bytes_eq name) names i name (sym e) in
     slice_get-get_or names i name found.0 ∙ ap Some (sym (same_text name (get_or names i name) (sym found.1)))
+
+-- names stay where they stand when one more comes last
+module _ (entries more : List (List ℕ × ℕ)) (name : List ℕ) (n : ℕ) (is : more ≡ entries ++ (name, n) ∷ []) where
+  names_are : keys_of more ≡ keys_of entries ++ name ∷ []
+  names_are = ap keys_of is ∙ map-append (λ (p : List ℕ × ℕ). p.0) entries ((name, n) ∷ [])
+
+  pub stands_before : (i : ℕ) (other : List ℕ) → slice_get (keys_of entries) i ≡ Some other → slice_get (keys_of more) i ≡ Some other
+  stands_before i other there =
+      let within = slice_get_within (keys_of entries) i other there in
+      ap (λ names. slice_get names i) names_are
+      ∙ slice_get-get_or (keys_of entries ++ name ∷ []) i other (omega (arith, within, length-append (keys_of entries) (name ∷ [])))
+      ∙ ap Some (get_or_append_left (keys_of entries) (name ∷ []) other i within ∙ get_or_from_slice_get (keys_of entries) i other other there)
+
+  pub stands_last : (i : ℕ) → i ≡ length entries → slice_get (keys_of more) i ≡ Some name
+  stands_last i last =
+      let seam : i ≡ length (keys_of entries) = last ∙ sym (length-keys_of entries) in
+      ap (λ names. slice_get names i) names_are
+      ∙ slice_get-get_or (keys_of entries ++ name ∷ []) i name (omega (arith, seam, length-append (keys_of entries) (name ∷ [])))
+      ∙ ap Some (ap (λ k. get_or (keys_of entries ++ name ∷ []) k name) seam ∙ get_or-append_seam (keys_of entries) name [] name)
 
 -- the entry at a name's place
 module _ {S : Type 0} (m : IndexMap (List ℕ) ℕ S) (i : ℕ) (name own : List ℕ) (n : ℕ) (unique : IsUnique bytes_eq m) (place : slice_get (keys m) i ≡ Some name) (entry : slice_get m.entries i ≡ Some (own, n)) where
@@ -46,3 +72,8 @@ same_both_ways a b false h = by (bytes_eq b a) refl
     by : (t : Bool) → bytes_eq b a ≡ t → bytes_eq b a ≡ false
     by false e = e
     by true e = absurd (false≢true (sym h ∙ (bytes_eq-Decides a b).1 (sym ((bytes_eq-Decides b a).0 e))))
+
+-- what holds where a call succeeds holds
+pub on_ok : {T E : Type 0} (r : Result T E) (P : Type 0) → IsOk r → OnOk r P → P
+on_ok (Ok x) P is h = h
+on_ok (Err e) P is h = absurd (false≢true is)

@@ -38,22 +38,22 @@ off_line r x login none = by (event_of x) (ap (λ e. ends_event e (event_of x) (
     by NewTime h = refl
     by Nothing h = refl
 
-module _ (es : List Entry) (n : ℕ) (lines lines' : List (List ℕ × ℕ)) (swept swept' : ℕ) (stays : List TrackedStay) (now : ℤ) where
+module _ (es : List Entry) (n : ℕ) (lines lines' : List (List ℕ × ℕ)) (swept swept' : ℕ) (stays : List TrackedStay) (now : ℤ) (user : ℕ) where
   abbrev x : LoginRecord
   x = (entry_at es n).item
 
   abbrev later : List TrackedStay
-  later = map (after es now x) stays ++ started es n now
+  later = map (after es now x) stays ++ started es n now user
 
   stay_before : (k : ℕ) → k < length stays → stay_at later k ≡ after es now x (stay_at stays k)
   stay_before k lt =
-      get_or_append_left (map (after es now x) stays) (started es n now) no_stay k (omega (arith, length-map stays (after es now x)))
+      get_or_append_left (map (after es now x) stays) (started es n now user) no_stay k (omega (arith, length-map stays (after es now x)))
       ∙ get_or-map (after es now x) stays k no_stay no_stay lt
 
   abbrev new : TrackedStay
-  new = record { entry = n; clock_at = now; ended = None }
+  new = record { entry = n; clock_at = now; ended = None; user = user }
 
-  started_is : (b : Bool) → starts_stay (event_of x) ≡ b → started es n now ≡ cond b (new ∷ []) []
+  started_is : (b : Bool) → starts_stay (event_of x) ≡ b → started es n now user ≡ cond b (new ∷ []) []
   started_is b h = ap (λ t. cond t (new ∷ []) []) h
 
   stay_new : starts_stay (event_of x) ≡ true → stay_at later (length stays) ≡ new
@@ -64,8 +64,8 @@ module _ (es : List Entry) (n : ℕ) (lines lines' : List (List ℕ × ℕ)) (sw
 
   length_after : (b : Bool) → starts_stay (event_of x) ≡ b → length later ≡ length stays + length (cond b (new ∷ []) [])
   length_after b h =
-      length-append (map (after es now x) stays) (started es n now)
-      ∙ ap (λ k. k + length (started es n now)) (length-map stays (after es now x))
+      length-append (map (after es now x) stays) (started es n now user)
+      ∙ ap (λ k. k + length (started es n now user)) (length-map stays (after es now x))
       ∙ ap (λ ss. length stays + length ss) (started_is b h)
 
   login_starts : is_login_event (event_of x) ≡ true → starts_stay (event_of x) ≡ true
@@ -167,7 +167,7 @@ module _ (es : List Entry) (n : ℕ) (lines lines' : List (List ℕ × ℕ)) (sw
               let old = h.on line i (sym (leads line ∙ ap (λ b. cond b (Some (length stays)) (lookup (bytes_eq line) lines)) e) ∙ found) in
               let lt = old.within in
               let there = stay_before i lt in record {
-                within = let l = length-append (map (after es now x) stays) (started es n now) in let m = length-map stays (after es now x) in omega arith;
+                within = let l = length-append (map (after es now x) stays) (started es n now user) in let m = length-map stays (after es now x) in omega arith;
                 login = ap (λ (t : TrackedStay). event_of (start_of es t)) there ∙ old.login;
                 same = ap (λ (t : TrackedStay). (start_of es t).line) there ∙ old.same;
               }

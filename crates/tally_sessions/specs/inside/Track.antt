@@ -17,12 +17,13 @@ use Rattle.tally_sessions.specs.declared.track.Track.{Track}
 use Rattle.tally_sessions.specs.Clock.{pending_old_time}
 use Rattle.tally_sessions.specs.Hosts.{of_host}
 use Rattle.tally_sessions.specs.inside.Entries.{entry_at}
+use Rattle.tally_sessions.specs.inside.Numbers.{Numbers, StandsAt}
 use Rattle.tally_sessions.specs.Stays.{clamped, seconds_between, end_at, ends_stay, last_time, starts_stay, stay_with}
 use Rattle.tally_sessions.specs.inside.Tracking.{Tracked, clock, tracked_from}
 
 -- what a read of a tracked stay gives past the end
 abbrev pub no_stay : TrackedStay
-no_stay = record { entry = 0; clock_at = pos 0; ended = None }
+no_stay = record { entry = 0; clock_at = pos 0; ended = None; user = 0 }
 
 -- the tracked stay at a place
 abbrev pub stay_at : List TrackedStay → ℕ → TrackedStay
@@ -130,18 +131,19 @@ abbrev pub sum_of : EndedSums → Option (List ℕ) → ℕ
 sum_of sums None = sums.all
 sum_of sums (Some user) = unwrap_or (lookup (bytes_eq user) sums.users.entries) 0
 
--- a user has a sum
-abbrev pub IsEntered : EndedSums → List ℕ → Type 0
-IsEntered sums user = IsSome (lookup (bytes_eq user) sums.users.entries)
-
 -- the length of a stay that has ended fits in 32 bits
 abbrev pub LengthFits : TrackedStay → Type 0
 LengthFits t = (e : Ending) → t.ended ≡ Some e → e.length < 2 ^ 32
 
--- the sums of the sessions among stays that have ended, and a sum for each user of a session
+-- where the sum of a session's user stands
+abbrev pub HasUser : List Entry → Numbers → TrackedStay → Type 0
+HasUser es users t = event_of (start_of es t) ≡ Login → StandsAt users t.user (start_of es t).user
+
+-- the sums of the sessions among stays that have ended, and a sum for the user of each session
 pub record HasSums (es : List Entry) (sums : EndedSums) (stays : List TrackedStay) : Type 0 where
   pub at : (who : Option (List ℕ)) → sum_of sums who ≡ ended_sum who es stays
-  pub entered : (k : ℕ) → k < length stays → event_of (start_of es (stay_at stays k)) ≡ Login → IsEntered sums (start_of es (stay_at stays k)).user
+  pub entered : (k : ℕ) → k < length stays → HasUser es sums.users (stay_at stays k)
+  pub few : length sums.users.entries ≤ length stays
   pub fits : (k : ℕ) → k < length stays → LengthFits (stay_at stays k)
 
 -- the track of a host, after the first n entries
@@ -161,20 +163,24 @@ pub record IsTrack (host : ℕ) (es : List Entry) (n : ℕ) (track : Track) : Ty
 abbrev pub IsNewTrack : Track → Type 0
 IsNewTrack track = (host : ℕ) (es : List Entry) → IsTrack host es 0 track
 
--- the stay that the entry at a place starts, while the clock is this
-abbrev pub started : List Entry → ℕ → ℤ → List TrackedStay
-started es at now = if starts_stay (event_of (entry_at es at).item) then record { entry = at; clock_at = now; ended = None } ∷ [] else []
+-- the stay that the entry at a place starts, while the clock is this, with its user's sum at a place
+abbrev pub started : List Entry → ℕ → ℤ → ℕ → List TrackedStay
+started es at now user = if starts_stay (event_of (entry_at es at).item) then record { entry = at; clock_at = now; ended = None; user = user } ∷ [] else []
 
 -- a login's line leads to its place, and all other lines to where they led
 abbrev pub LeadsTo : List (List ℕ × ℕ) → List (List ℕ × ℕ) → LoginRecord → ℕ → Type 0
 LeadsTo lines lines' r i =
     (line : List ℕ) → lookup (bytes_eq line) lines' ≡ (if is_login_event (event_of r) && bytes_eq r.line line then Some i else lookup (bytes_eq line) lines)
 
--- room for so many stays more
-pub record HasRoom (k : ℕ) (track : Track) : Type 0 where
+-- room for so many stays more and their users
+pub record CanStart (k : ℕ) (track : Track) : Type 0 where
   pub stays : vec_len track.stays + k ≤ vec_capacity track.stays
-  pub lines : k ≤ track.lines.spare
   pub users : k ≤ track.sums.users.spare
+
+-- and for their lines
+pub record HasRoom (k : ℕ) (track : Track) : Type 0 where
+  pub starts : CanStart k track
+  pub lines : k ≤ track.lines.spare
 
 -- the entries from n on are the host's
 abbrev pub AreOf : ℕ → List Entry → ℕ → Type 0

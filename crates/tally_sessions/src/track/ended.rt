@@ -1,9 +1,11 @@
 //! The lengths of sessions that have ended, summed as they end.
-ghost use Rattle.std.specs.Prelude.{◌≡◌, ◌≤◌, ◌<◌, ◌+◌, ◌^◌, ℕ, List, Option, Some, OnOk, if◌then◌else◌};
+ghost use Rattle.std.specs.Prelude.{◌≡◌, ◌≤◌, ◌<◌, ◌+◌, ◌^◌, ℕ, List, Option, Some, OnOk, if◌then◌else◌, length};
 ghost use Rattle.std.specs.Cmp.Lexicographic.{slice_cmp};
+ghost use Rattle.std.specs.Map.{keys_of};
 ghost use Rattle.std.specs.Ordering.{nat_cmp};
 ghost use Rattle.tally_sessions.specs.inside.Sums.{sum_at};
-ghost use Rattle.tally_sessions.specs.inside.Track.{covers, sum_of, IsEntered};
+ghost use Rattle.tally_sessions.specs.inside.Numbers.{StandsAt};
+ghost use Rattle.tally_sessions.specs.inside.Track.{covers, sum_of};
 
 use crate::sums::add;
 use crate::track::name_table::NameTable;
@@ -22,7 +24,8 @@ pub(crate) struct EndedSums {
 impl EndedSums {
     /// No session has ended.
     pub(crate) fn new(alloc: Global, keys: RandomState) -> EndedSums
-        ensures { (who : Option (List ℕ)) → sum_of result who ≡ 0 }
+        ensures sums { (who : Option (List ℕ)) → sum_of result who ≡ 0 }
+        ensures none { length result.users.entries ≡ 0 }
     {
         EndedSums {
             all: 0,
@@ -50,31 +53,30 @@ impl EndedSums {
         Ok(())
     }
 
-    /// Enters a user, with no seconds if it is new.
-    pub(crate) fn enter(&mut self, user: Key)
-        requires { 0 < self.old.users.spare }
+    /// Enters a user, with no seconds if it is new, and answers its place.
+    pub(crate) fn enter(&mut self, user: Key) -> u32
+        requires room { 0 < self.old.users.spare }
+        requires few { length self.old.users.entries < 2 ^ 32 }
         ensures sums { (who : Option (List ℕ)) → sum_of self.new who ≡ sum_of self.old who }
-        ensures kept { (name : List ℕ) → IsEntered self.old name → IsEntered self.new name }
-        ensures entered { IsEntered self.new user }
+        ensures entered { StandsAt self.new.users result user }
+        ensures kept { (place : ℕ) (name : List ℕ) → StandsAt self.old.users place name → StandsAt self.new.users place name }
+        ensures few { length self.new.users.entries ≤ length self.old.users.entries + 1 }
         ensures room { self.old.users.spare ≤ self.new.users.spare + 1 }
     {
-        if self.users.get(&user).is_none() {
-            self.users.set(user, 0);
-        }
+        self.users.enter(user) as u32
     }
 
-    /// Adds the length of a session of a user that was entered.
-    pub(crate) fn add(&mut self, user: Key, length: u32)
-        requires entered { IsEntered self.old user }
+    /// Adds the seconds of a session of the user at a place.
+    pub(crate) fn add(&mut self, user: u32, seconds: u32)
+        requires entered { user < length self.old.users.entries }
         requires fits { (who : Option (List ℕ)) → sum_of self.old who < 2 ^ 63 }
-        ensures sums { (who : Option (List ℕ)) → sum_of self.new who ≡ sum_of self.old who + (if covers who user then length else 0) }
-        ensures kept { (name : List ℕ) → IsEntered self.old name → IsEntered self.new name }
+        ensures sums { (name : List ℕ) → StandsAt self.old.users user name → (who : Option (List ℕ))
+            → sum_of self.new who ≡ sum_of self.old who + (if covers who name then seconds else 0) }
+        ensures kept { keys_of self.new.users.entries ≡ keys_of self.old.users.entries }
         ensures room { self.new.users.spare ≡ self.old.users.spare }
     {
-        self.all += u64::from(length);
-        if let Some(sum) = self.users.get(&user) {
-            self.users.set(user, sum + u64::from(length));
-        }
+        self.all += u64::from(seconds);
+        self.users.add_at(user as usize, u64::from(seconds));
     }
 
     /// Adds the sum of each user to another.

@@ -1,17 +1,18 @@
 //! Stays that have started, and what ends them.
-ghost use Rattle.std.specs.Prelude.{◌≡◌, ◌≤◌, ◌<◌, ◌+◌, ◌^◌, ℕ, List, Option, Some, true, length, map, slice_set, pos, neg_ℤ, ◌≤ℤ◌};
+ghost use Rattle.std.specs.Prelude.{◌≡◌, ◌≤◌, ◌<◌, ◌+◌, ◌^◌, ℕ, List, Option, Some, true, bytes_eq, length, map, slice_set, pos, neg_ℤ, ◌≤ℤ◌};
 ghost use Rattle.tally_records.specs.Event.{event_of};
 ghost use Rattle.tally_records.specs.declared.login.Event.TheVariants.{Login};
 ghost use Rattle.tally_sessions.specs.declared.track.ending.Ending.{Ending as Ended};
 ghost use Rattle.tally_sessions.specs.inside.Entries.{entry_at};
 ghost use Rattle.tally_sessions.specs.Stays.{ends_stay};
+ghost use Rattle.std.specs.Map.{keys_of, lookup};
+ghost use Rattle.tally_sessions.specs.inside.Numbers.{StandsAt};
 ghost use Rattle.tally_sessions.specs.inside.Track as spec;
 
 use crate::entries::list::EntryList;
 use crate::entry::End;
 use crate::sessions::ENTRY_LIMIT;
 use crate::track::ended::EndedSums;
-use crate::track::name_table::NameTable;
 use crate::track::rules::{begin_of, end_at, ends_every, ends_line, is_login, seconds_between};
 use tally_records::Event;
 
@@ -32,6 +33,8 @@ pub(crate) struct TrackedStay {
     pub(crate) ended: Option<Ending>,
     /// The place of the entry that started it.
     pub(crate) entry: u32,
+    /// Where the sum of a session's user stands.
+    pub(crate) user: u32,
 }
 
 /// The end of a stay at an event, where the clock moved so far between its start and this.
@@ -93,12 +96,12 @@ fn ended_by(
 /// Counts the length of a login's stay that goes from one state to the next, where it has ended.
 fn count(sums: &mut EndedSums, entries: &EntryList, before: TrackedStay, after: TrackedStay)
     requires placed { before.entry < length entries.now }
-    requires entered { event_of (spec.start_of entries.now before) ≡ Login → spec.IsEntered sums.old (spec.start_of entries.now before).user }
+    requires entered { event_of (spec.start_of entries.now before) ≡ Login → StandsAt sums.old.users before.user (spec.start_of entries.now before).user }
     requires room { (who : Option (List ℕ)) → spec.sum_of sums.old who < 2 ^ 63 }
     requires keeps { (e : Ended) → before.ended ≡ Some e → after.ended ≡ Some e }
     ensures sums { (who : Option (List ℕ)) → spec.sum_of sums.new who + spec.ended_length who entries.now before
         ≡ spec.sum_of sums.old who + spec.ended_length who entries.now (record before { ended = after.ended }) }
-    ensures kept { (name : List ℕ) → spec.IsEntered sums.old name → spec.IsEntered sums.new name }
+    ensures kept { keys_of sums.new.users.entries ≡ keys_of sums.old.users.entries }
     ensures spare { sums.new.users.spare ≡ sums.old.users.spare }
 {
     if before.ended.is_some() {
@@ -106,7 +109,7 @@ fn count(sums: &mut EndedSums, entries: &EntryList, before: TrackedStay, after: 
     }
     if let Some(ending) = after.ended {
         if is_login(entries.event(before.entry as usize)) {
-            sums.add(entries.user_key(before.entry as usize), ending.length);
+            sums.add(before.user, ending.length);
         }
     }
 }
@@ -168,12 +171,12 @@ fn sweep(
     }
 }
 
-/// Ends the pending stays that the entry at a place ends.
+/// Ends the pending stays that the entry at a place ends. The latest login on its line is known, where it can end it.
 pub(crate) fn end_pending(
     stays: &mut [TrackedStay],
     sums: &mut EndedSums,
     swept: usize,
-    lines: &NameTable,
+    latest: Option<u64>,
     entries: &EntryList,
     at: usize,
     clock: i64,
@@ -183,7 +186,8 @@ pub(crate) fn end_pending(
     requires at_in { at < length entries.now }
     requires few { length entries.now ≤ ENTRY_LIMIT }
     requires few_stays { length stays.old ≤ ENTRY_LIMIT }
-    requires tracked { spec.AreTracked entries.now at lines.now.entries swept stays.old }
+    requires tracked { (lines : List (List ℕ × ℕ)) × spec.AreTracked entries.now at lines swept stays.old
+        × (spec.ends_line_stay event ≡ true → latest ≡ lookup (bytes_eq (entry_at entries.now at).item.line) lines) }
     requires now { spec.IsWithin ENTRY_LIMIT clock }
     requires told { event ≡ event_of (entry_at entries.now at).item }
     requires sums { spec.HasSums entries.now sums.old stays.old }
@@ -194,8 +198,7 @@ pub(crate) fn end_pending(
     if ends_every(event) {
         sweep(stays, sums, swept, entries, clock, at, event);
     } else if ends_line(event) {
-        let line = entries.line_key(at);
-        if let Some(i) = lines.get(&line) {
+        if let Some(i) = latest {
             end_stay(stays, sums, i as usize, entries, clock, at, event);
         }
     }

@@ -1,12 +1,14 @@
 //! A table by names, which first looks where a name of the same mark was last found.
-ghost use Rattle.std.specs.Prelude.{◌≡◌, ◌≤◌, ◌<◌, ◌+◌, ℕ, List, Option, Some, None, IsSome, IfSome, IfNone, OnOk, bytes_eq, if◌then◌else◌, length, slice_get};
+ghost use Rattle.std.specs.Prelude.{◌≡◌, ◌≤◌, ◌<◌, ◌+◌, ◌^◌, ◌++◌, [], ◌∷◌, ℕ, List, Option, Some, None, IfSome, IfNone, OnOk, bytes_eq, if◌then◌else◌, length, slice_get, unwrap_or};
 ghost use Rattle.std.specs.List.{IsDistinct};
 ghost use Rattle.std.specs.Map.{keys_of, lookup};
+ghost use Rattle.tally_sessions.specs.inside.Numbers.{StandsAt};
 
 use indexmap::IndexMap;
 use std::alloc::Global;
 use std::hash::RandomState;
 use std::marker::Model;
+use std::mem;
 use tally_records::{Guesses, Key, Memory, Name};
 
 /// A number for each name, in the order in which the names came.
@@ -35,7 +37,7 @@ fn mark_of(name: &Key) -> usize {
 impl NameTable {
     /// No name has a number.
     pub(crate) fn new(alloc: Global, keys: RandomState) -> NameTable
-        ensures { (name : List ℕ) → lookup (bytes_eq name) result.entries ≡ None }
+        ensures { result.entries ≡ [] }
     {
         NameTable {
             numbers: IndexMap::with_hasher(alloc, keys),
@@ -84,7 +86,7 @@ impl NameTable {
 
     /// Where a name stands: where the names of its mark were last found, or where the table finds it.
     fn place_of(&self, name: &Key) -> Option<usize>
-        ensures found { IfSome result (λ i. slice_get (keys_of self.now.entries) i ≡ Some name.now) }
+        ensures found { IfSome result (λ i. StandsAt self.now i name.now) }
         ensures absent { IfNone result (lookup (bytes_eq name.now) self.now.entries ≡ None) }
     {
         let guess = self.guesses.get(mark_of(name));
@@ -103,32 +105,72 @@ impl NameTable {
         Some(*number)
     }
 
-    /// Gives a name this number, in the room that there is for it if it is new, and answers its place.
-    fn put(&mut self, name: Key, number: u64) -> usize
-        requires room { lookup (bytes_eq name) self.old.entries ≡ None → 0 < self.old.spare }
-        ensures set { (other : List ℕ) → lookup (bytes_eq other) self.new.entries ≡ (if bytes_eq name other then Some number else lookup (bytes_eq other) self.old.entries) }
-        ensures room { self.old.spare ≤ self.new.spare + 1 }
-        ensures held { IsSome (lookup (bytes_eq name) self.old.entries) → self.new.spare ≡ self.old.spare }
+    /// Where a name stands. From now on it is first looked for there.
+    fn find(&mut self, name: &Key) -> Option<usize>
+        ensures found { IfSome result (λ i. StandsAt self.old i name.now) }
+        ensures absent { IfNone result (lookup (bytes_eq name.now) self.old.entries ≡ None) }
+        ensures same { self.new ≡ self.old }
     {
-        if let Some(place) = self.place_of(&name) {
-            let (_, held) = self.numbers.pair_mut(place);
-            *held = number;
-            place
-        } else {
-            self.numbers.insert(name, number).unwrap();
-            self.numbers.len() - 1
-        }
+        let place = self.place_of(name)?;
+        self.guesses.set(mark_of(name), place);
+        Some(place)
     }
 
-    /// Gives a name this number, in the room that there is for it if it is new.
-    pub(crate) fn set(&mut self, name: Key, number: u64)
-        requires room { lookup (bytes_eq name) self.old.entries ≡ None → 0 < self.old.spare }
+    /// Enters a name that is new, in the room that there is for it, and answers its place.
+    fn push(&mut self, name: Key, number: u64) -> usize
+        requires room { 0 < self.old.spare }
+        requires new { lookup (bytes_eq name) self.old.entries ≡ None }
+        ensures place { result ≡ length self.old.entries }
+        ensures entries { self.new.entries ≡ self.old.entries ++ (name, number) ∷ [] }
         ensures set { (other : List ℕ) → lookup (bytes_eq other) self.new.entries ≡ (if bytes_eq name other then Some number else lookup (bytes_eq other) self.old.entries) }
         ensures room { self.old.spare ≤ self.new.spare + 1 }
-        ensures held { IsSome (lookup (bytes_eq name) self.old.entries) → self.new.spare ≡ self.old.spare }
     {
-        let mark = mark_of(&name);
-        let place = self.put(name, number);
-        self.guesses.set(mark, place);
+        let place = self.numbers.len();
+        self.guesses.set(mark_of(&name), place);
+        self.numbers.insert(name, number).unwrap();
+        place
+    }
+
+    /// The place of a name, which has 0 if it is new.
+    pub(crate) fn enter(&mut self, name: Key) -> usize
+        requires room { 0 < self.old.spare }
+        ensures place { StandsAt self.new result name }
+        ensures sums { (other : List ℕ) → unwrap_or (lookup (bytes_eq other) self.new.entries) 0 ≡ unwrap_or (lookup (bytes_eq other) self.old.entries) 0 }
+        ensures kept { (place : ℕ) (other : List ℕ) → StandsAt self.old place other → StandsAt self.new place other }
+        ensures few { length self.new.entries ≤ length self.old.entries + 1 }
+        ensures room { self.old.spare ≤ self.new.spare + 1 }
+    {
+        if let Some(place) = self.find(&name) {
+            return place;
+        }
+        self.push(name, 0)
+    }
+
+    /// Gives a name this number, in the room that there is for it if it is new, and answers the one that it had.
+    pub(crate) fn replace(&mut self, name: Key, number: u64) -> Option<u64>
+        requires room { 0 < self.old.spare }
+        ensures had { result ≡ lookup (bytes_eq name) self.old.entries }
+        ensures set { (other : List ℕ) → lookup (bytes_eq other) self.new.entries ≡ (if bytes_eq name other then Some number else lookup (bytes_eq other) self.old.entries) }
+        ensures room { self.old.spare ≤ self.new.spare + 1 }
+    {
+        if let Some(place) = self.find(&name) {
+            let (_, held) = self.numbers.pair_mut(place);
+            return Some(mem::replace(held, number));
+        }
+        self.push(name, number);
+        None
+    }
+
+    /// Adds to the number of the name at a place.
+    pub(crate) fn add_at(&mut self, place: usize, more: u64)
+        requires place { place < length self.old.entries }
+        requires fits { (name : List ℕ) → StandsAt self.old place name → unwrap_or (lookup (bytes_eq name) self.old.entries) 0 + more < 2 ^ 64 }
+        ensures set { (name : List ℕ) → StandsAt self.old place name → (other : List ℕ)
+            → lookup (bytes_eq other) self.new.entries ≡ (if bytes_eq name other then Some (unwrap_or (lookup (bytes_eq name) self.old.entries) 0 + more) else lookup (bytes_eq other) self.old.entries) }
+        ensures kept { keys_of self.new.entries ≡ keys_of self.old.entries }
+        ensures room { self.new.spare ≡ self.old.spare }
+    {
+        let (_, held) = self.numbers.pair_mut(place);
+        *held += more;
     }
 }

@@ -1,4 +1,7 @@
-use Rattle.std.proofs.Common.{rules, to_z, of_z, Some, unwrap_or, ◌≡◌, inl, inr, ◌+◌, ◌∙◌, ℤ, ◌+ℤ◌, map, sym, ap, subst, arith}
+use Rattle.std.proofs.Common.{rules, to_z, of_z, Some, unwrap_or, ◌≡◌, inl, inr, ◌+◌, ◌≤◌, length, ◌∙◌, ℤ, ◌+ℤ◌, map, sym, ap, subst, arith}
+use Rattle.std.specs.Vec.{vec_len, vec_capacity}
+use Rattle.std.proofs.lemmas.List.{length-map}
+use Rattle.tally_sessions.specs.declared.track.ended.EndedSums.{EndedSums}
 use Rattle.std.proofs.lemmas.Int.{ints, to_z-of_z}
 use Rattle.std.specs.Int.{w32}
 use Rattle.std.specs.Prelude.{FitsSigned}
@@ -9,56 +12,86 @@ use Rattle.tally_records.specs.Event.{event_of}
 use Rattle.tally_sessions.specs.Clock.{shift_at}
 use Rattle.tally_sessions.specs.inside.Tracking.{pending_at}
 use Rattle.tally_sessions.specs.inside.Entries.{entry_at}
-use Rattle.tally_sessions.specs.inside.Track.{after, ends_every_stay, HasSums, IsEntered, IsWithin}
-use Rattle.tally_sessions.proofs.track.TrackAdvance.{IsTrack-step, HasRoom-step}
+use Rattle.tally_sessions.specs.inside.Numbers.{Numbers, StandsAt}
+use Rattle.tally_sessions.specs.inside.Track.{after, ends_every_stay, CanStart, HasSums, IsTrack, IsWithin, LeadsTo}
+use Rattle.tally_sessions.specs.declared.track.Track.{Track}
+use Rattle.tally_sessions.proofs.track.TrackAdvance.{IsTrack-step, CanStart-swept}
 use Rattle.tally_sessions.proofs.track.TrackedAdvance.{IsWithin-all}
 use Rattle.tally_sessions.proofs.track.Track.advance.Goals as goal
 use Rattle.tally_sessions.proofs.track.Track.advance.Goals.{then-ends_every, else-ends_every}
 
 pub returns-clause-after : goal.returns-clause-after
 returns-clause-after c =
+    let l = c.latest_on_line-latest.ensures in
     let t = c.tick.ensures in
-    let before = c.requires.before in
     let es = c.args.entries.now in
     let n = c.args.at in
+    let lined : Track = c.latest_on_line-latest.new.self in
+    let old : c.args.self.now ≡ record lined { lines = c.args.self.now.lines } = λ i. record (sym l.rest i) { lines = c.args.self.now.lines } in
+    let before = subst (IsTrack (entry_at es n).host es n) old c.requires.before in
     let within : IsWithin (n + 1) c.tick.new.self.clock = t.moved n before.moved in
     let low = within.low in
     let high = within.high in
     let same : held c.tick.new.self.clock ≡ c.tick.new.self.clock = omega (arith, ints, c.requires.at_in, c.requires.few) in
-    let ended : c.end_pending.new.stays ≡ map (after es c.tick.new.self.clock (entry_at es n).item) c.args.self.now.stays.items =
+    let leads = subst (λ k. LeadsTo c.args.self.now.lines.entries lined.lines.entries (entry_at es n).item k) (ap (λ (a : Track). vec_len a.stays) (sym l.rest)) l.lines in
+    let ended : c.end_pending.new.stays ≡ map (after es c.tick.new.self.clock (entry_at es n).item) lined.stays.items =
     c.end_pending.ensures.stays
     ∙ ap (λ (z : ℤ). map (after es z (entry_at es n).item) c.deref_mut.result.now) same
     ∙ ap (map (after es c.tick.new.self.clock (entry_at es n).item)) c.deref_mut.ensures.value
     ∙ ap (λ v. map (after es c.tick.new.self.clock (entry_at es n).item) v.items) t.stays in
     let time_fits : FitsSigned w32 c.time.result = search rules in
     let time : to_z w32 (of_z w32 c.time.result) ≡ (entry_at es n).item.time = to_z-of_z w32 c.time.result time_fits ∙ c.time.ensures in
-    let clock_is = t.clock ∙ ap (λ (z : ℤ). c.args.self.now.clock +ℤ shift_at c.event-event.result c.args.self.now.old_time z) time ∙ ap (λ (e : Event). c.args.self.now.clock +ℤ shift_at e c.args.self.now.old_time (entry_at es n).item.time) c.event-event.ensures in
-    let old_time_is = t.old_time ∙ ap (λ (z : ℤ). pending_at c.event-event.result z c.args.self.now.old_time) time ∙ ap (λ (e : Event). pending_at e (entry_at es n).item.time c.args.self.now.old_time) c.event-event.ensures in
+    let clock_is = t.clock ∙ ap (λ (z : ℤ). lined.clock +ℤ shift_at c.event-event.result lined.old_time z) time ∙ ap (λ (e : Event). lined.clock +ℤ shift_at e lined.old_time (entry_at es n).item.time) c.event-event.ensures in
+    let old_time_is = t.old_time ∙ ap (λ (z : ℤ). pending_at c.event-event.result z lined.old_time) time ∙ ap (λ (e : Event). pending_at e (entry_at es n).item.time lined.old_time) c.event-event.ensures in
     let ended_sums : HasSums es c.end_pending.new.sums c.end_pending.new.stays = c.end_pending.ensures.sums in
-    let entered : event_of (entry_at es n).item ≡ Login → IsEntered c.start.new.self.sums (entry_at es n).item.user = λ login. c.start.ensures.entered (c.event-event.ensures ∙ login) in
+    let started = c.start.ensures.stays in
+    let entered : event_of (entry_at es n).item ≡ Login → StandsAt c.start.new.self.sums.users started.0 (entry_at es n).item.user = λ login. started.2 (c.event-event.ensures ∙ login) in
     elim c.if-ends_every.branch [
       | then-ends_every w ↦
-          IsTrack-step es n c.args.self.now c.tick.new.self c.if-ends_every.self c.start.new.self c.end_pending.new.stays c.end_pending.new.sums _ c.requires.at_in before clock_is t.moved old_time_is (t.first ∙ ap (λ (z : ℤ). Some (unwrap_or c.args.self.now.first z)) time) (t.last ∙ time) t.lines t.stays
-          ended w.self-is (inr (w.len-self.ensures ∙ ap (λ v. v.len) t.stays ∙ c.args.self.now.stays.ok.0, ap ends_every_stay (sym c.event-event.ensures) ∙ sym c.ends_every.ensures ∙ w.if-ends_every.true)) c.start.ensures.stays c.start.ensures.lines c.start.ensures.rest
-          ended_sums c.start.ensures.sums c.start.ensures.kept entered
+          IsTrack-step es n c.args.self.now.lines lined c.tick.new.self c.if-ends_every.self c.start.new.self c.end_pending.new.stays c.end_pending.new.sums _ started.0 c.requires.at_in before leads clock_is t.moved old_time_is (t.first ∙ ap (λ (z : ℤ). Some (unwrap_or lined.first z)) time) (t.last ∙ time) t.lines t.stays
+          ended w.self-is (inr (w.len-self.ensures ∙ ap (λ v. v.len) t.stays ∙ lined.stays.ok.0, ap ends_every_stay (sym c.event-event.ensures) ∙ sym c.ends_every.ensures ∙ w.if-ends_every.true)) started.1 c.start.ensures.rest
+          ended_sums c.start.ensures.sums c.start.ensures.kept entered c.start.ensures.few_users
       | else-ends_every w ↦
-          IsTrack-step es n c.args.self.now c.tick.new.self c.if-ends_every.self c.start.new.self c.end_pending.new.stays c.end_pending.new.sums _ c.requires.at_in before clock_is t.moved old_time_is (t.first ∙ ap (λ (z : ℤ). Some (unwrap_or c.args.self.now.first z)) time) (t.last ∙ time) t.lines t.stays
-          ended w.self-is (inl t.swept) c.start.ensures.stays c.start.ensures.lines c.start.ensures.rest
-          ended_sums c.start.ensures.sums c.start.ensures.kept entered
+          IsTrack-step es n c.args.self.now.lines lined c.tick.new.self c.if-ends_every.self c.start.new.self c.end_pending.new.stays c.end_pending.new.sums _ started.0 c.requires.at_in before leads clock_is t.moved old_time_is (t.first ∙ ap (λ (z : ℤ). Some (unwrap_or lined.first z)) time) (t.last ∙ time) t.lines t.stays
+          ended w.self-is (inl t.swept) started.1 c.start.ensures.rest
+          ended_sums c.start.ensures.sums c.start.ensures.kept entered c.start.ensures.few_users
     ]
 
 pub end_pending-requires-clause-now : goal.end_pending-requires-clause-now
 end_pending-requires-clause-now c =
-    let within : IsWithin (c.args.at + 1) c.tick.new.self.clock = c.tick.ensures.moved c.args.at c.requires.before.moved in
+    let moved : IsWithin c.args.at c.latest_on_line-latest.new.self.clock = subst (IsWithin c.args.at) (ap (λ (a : Track). a.clock) (sym c.latest_on_line-latest.ensures.rest)) c.requires.before.moved in
+    let within : IsWithin (c.args.at + 1) c.tick.new.self.clock = c.tick.ensures.moved c.args.at moved in
     let low = within.low in
     let high = within.high in
     let same : held c.tick.new.self.clock ≡ c.tick.new.self.clock = omega (arith, ints, c.requires.at_in, c.requires.few) in
     subst (IsWithin 1048576) (sym same) (IsWithin-all (c.args.at + 1) 1048576 c.tick.new.self.clock (omega (arith, c.requires.at_in, c.requires.few)) within)
 
+pub start-requires-clause-users : goal.start-requires-clause-users
+start-requires-clause-users c =
+    let l = c.latest_on_line-latest.ensures in
+    let few = c.end_pending.ensures.sums.few in
+    let ended = ap length c.end_pending.ensures.stays ∙ length-map c.deref_mut.result.now (after c.args.entries.now (held c.tick.new.self.clock) (entry_at c.args.entries.now c.args.at).item) in
+    let stays = ap length c.deref_mut.ensures.value ∙ ap (λ v. length v.items) (c.tick.ensures.stays ∙ ap (λ (a : Track). a.stays) l.rest) in
+    elim c.if-ends_every.branch [
+      | then-ends_every w ↦ omega (arith, few, ended, stays, c.requires.before.count, c.requires.at_in, c.requires.few, ap (λ (a : Track). length a.sums.users.entries) w.self-is)
+      | else-ends_every w ↦ omega (arith, few, ended, stays, c.requires.before.count, c.requires.at_in, c.requires.few, ap (λ (a : Track). length a.sums.users.entries) w.self-is)
+    ]
+
 pub returns-clause-room_left : goal.returns-clause-room_left
 returns-clause-room_left c k room =
+    let l = c.latest_on_line-latest.ensures in
     let t = c.tick.ensures in
+    let can : CanStart (k + 1) c.tick.new.self = record {
+      stays = subst (λ v. vec_len v + (k + 1) ≤ vec_capacity v) (sym (t.stays ∙ ap (λ (a : Track). a.stays) l.rest)) room.starts.stays;
+      users = subst (λ (s : EndedSums). k + 1 ≤ s.users.spare) (sym (t.sums ∙ ap (λ (a : Track). a.sums) l.rest)) room.starts.users;
+    } in
     elim c.if-ends_every.branch [
-      | then-ends_every w ↦ c.start.ensures.room_left k (HasRoom-step (k + 1) c.args.self.now c.tick.new.self c.if-ends_every.self c.end_pending.new.stays c.end_pending.new.sums _ room t.stays t.lines t.sums c.end_pending.ensures.spare w.self-is)
-      | else-ends_every w ↦ c.start.ensures.room_left k (HasRoom-step (k + 1) c.args.self.now c.tick.new.self c.if-ends_every.self c.end_pending.new.stays c.end_pending.new.sums _ room t.stays t.lines t.sums c.end_pending.ensures.spare w.self-is)
+      | then-ends_every w ↦ record {
+          starts = c.start.ensures.room_left k (CanStart-swept (k + 1) c.tick.new.self c.if-ends_every.self c.end_pending.new.stays c.end_pending.new.sums _ can c.end_pending.ensures.spare w.self-is);
+          lines = omega (arith, room.lines, l.room_left, ap (λ (a : Track). a.lines.spare) c.start.ensures.rest, ap (λ (a : Track). a.lines.spare) w.self-is, ap (λ (n : Numbers). n.spare) t.lines);
+        }
+      | else-ends_every w ↦ record {
+          starts = c.start.ensures.room_left k (CanStart-swept (k + 1) c.tick.new.self c.if-ends_every.self c.end_pending.new.stays c.end_pending.new.sums _ can c.end_pending.ensures.spare w.self-is);
+          lines = omega (arith, room.lines, l.room_left, ap (λ (a : Track). a.lines.spare) c.start.ensures.rest, ap (λ (a : Track). a.lines.spare) w.self-is, ap (λ (n : Numbers). n.spare) t.lines);
+        }
     ]

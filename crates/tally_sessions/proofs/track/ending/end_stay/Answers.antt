@@ -33,6 +33,6 @@ returns-clause-sums c =
     let after : TrackedStay = c.ended_by-after.result in
     let is = c.ended_by-after.ensures.value in
     let rebuilt : record before { ended = after.ended } ≡ after = ap (λ o. record before { ended = o }) (ap (λ (t : TrackedStay). t.ended) is) ∙ sym is in
-    HasSums-set es c.args.sums.now c.count.new.sums c.args.stays.now c.args.i before after c.requires.sums c.requires.i_in refl (ap (λ (t : TrackedStay). t.entry) is)
+    HasSums-set es c.args.sums.now c.count.new.sums c.args.stays.now c.args.i before after c.requires.sums c.requires.i_in refl (ap (λ (t : TrackedStay). t.entry) is) (ap (λ (t : TrackedStay). t.user) is)
     (λ who. c.count.ensures.sums who ∙ ap (λ t. sum_of c.args.sums.now who + ended_length who es t) rebuilt)
     c.count.ensures.kept (c.ended_by-after.ensures.fits (c.requires.sums.fits c.args.i c.requires.i_in))
