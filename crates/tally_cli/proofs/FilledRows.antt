@@ -52,11 +52,6 @@ filled_with_values : (id : Text) (how : Reading) (s : ValueSource) (values : Lis
 filled_with_values id how s values rows some h =
     filled_at_row id (more_values s values) _ (λ r filled. (omega (arith, filled, length-append r.values values), tt)) (some, tt) rows h
 
-filled_with_count : (id : Text) (how : Reading) (s : ValueSource) (n : ℕ) (rows : List Row) → AreFilled rows → AreFilled (with_count id how s n rows)
-filled_with_count id how s n rows h =
-    let changed : (r : Row) → 0 < length r.values → AreFilled (new_count s n r) = λ r filled. (omega (arith, filled, length-append r.values (count_text n ∷ [])), tt) in
-    filled_at_row id (new_count s n) (record { id = id; values = count_text n ∷ []; count = Some n; source = Some s; reading = how } ∷ []) changed (omega arith, tt) rows h
-
 -- ---- one use of an argument
 
 -- a use of the argument that passes has a value, or is a request for help

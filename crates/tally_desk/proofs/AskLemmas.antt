@@ -37,11 +37,6 @@ asks_more p q r xs ys first next =
     ∙ ap (λ (ds : List Deed). deeds p ++ ds) (sym (map-append Ask xs ys))
 
 module _ (p q r : PassState) (qs : List Question) (at : ℕ) (other : Question) (before : at < length qs) (first : Asks p q (take at qs)) where
-  -- the question at a place was answered
-  pub asks_next : deeds r ≡ deeds q ++ Ask (get_or qs at other) ∷ [] → Asks p r (take (at + 1) qs)
-  asks_next next =
-      asks_more p q r (take at qs) (get_or qs at other ∷ []) first next
-      ∙ ap (λ (l : List Question). deeds p ++ map Ask l) (sym (take_more qs at other before))
 
   -- it was refused
   pub stops_here : (f : AskFault) → deeds r ≡ deeds q → IsAskRefusal r.seen.callers (length r.seen.calls) (get_or qs at other) f → AskStops qs p r f

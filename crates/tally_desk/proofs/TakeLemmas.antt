@@ -8,15 +8,6 @@ use Rattle.tally_records.specs.declared.batch.Kind.TheVariants.{Login, Proc}
 use Rattle.tally_desk.specs.Blocks.{block_size}
 use Rattle.tally_desk.specs.Takings.{TakesAtMost}
 
-pub takes_nothing : (most : ℕ) (a : Option (List ℕ)) → TakesAtMost most a a
-takes_nothing most a = ([], Consumes-nil a, omega arith)
-
-pub takes_part : (most n : ℕ) (a b : Option (List ℕ)) (buffer : List ℕ) → Consumes a b (take n buffer) → length buffer ≤ most → TakesAtMost most a b
-takes_part most n a b buffer taken few = (take n buffer, taken, omega (arith, length-take n buffer))
-
-pub takes_kept : (most n : ℕ) (a b c : Option (List ℕ)) (buffer : List ℕ) → Consumes a b (take n buffer) → Keeps b c → length buffer ≤ most → TakesAtMost most a c
-takes_kept most n a b c buffer taken kept few = takes_part most n a c buffer (Consumes-kept a b c _ taken kept) few
-
 pub takes_more : (m n most : ℕ) (a b c : Option (List ℕ)) → TakesAtMost m a b → TakesAtMost n b c → m + n ≤ most → TakesAtMost most a c
 takes_more m n most a b c first second few =
     (first.0 ++ second.0, Consumes-trans a b c _ _ first.1 second.1, omega (arith, first.2, second.2, length-append first.0 second.0))

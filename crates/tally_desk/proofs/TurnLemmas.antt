@@ -81,9 +81,6 @@ module _ (kind : Kind) (turn : ℕ) (block : List ℕ) (n : ℕ) (within : n ≤
   some_left : (rest ys : List ℕ) → rest ≡ take n block ++ ys → 0 < length (take n block) → 0 < length rest
   some_left rest ys parts some = omega (arith, ap length parts, length-append (take n block) ys)
 
-  any_left : (rest ys : List ℕ) → 0 < n → rest ≡ take n block ++ ys → 0 < length rest
-  any_left rest ys any parts = some_left rest ys parts (omega (arith, filled_length block n (block_size kind) within few))
-
   -- its batch is that of the first block of the bytes to come
   pub takes_block : (rest : List ℕ) (left : Option (List ℕ)) (batch : Records) → 0 < n → Consumes (Some rest) left (take n block)
       → (n < block_size kind → IsAtEnd left)
@@ -102,15 +99,6 @@ module _ (kind : Kind) (turn : ℕ) (block : List ℕ) (n : ℕ) (within : n ≤
         left_is = ap Some (sym (back_is block n (block_size kind) within few rest ys taken end));
       }
 
-  -- nothing was filled, so nothing was to come
-  pub takes_none : (rest : List ℕ) (left : Option (List ℕ)) → n ≡ 0 → Consumes (Some rest) left (take n block)
-      → (n < block_size kind → IsAtEnd left) → rest ≡ []
-  takes_none rest None none taken end = absurd taken
-  takes_none rest (Some ys) none taken end =
-      let short : n < block_size kind = omega (arith, block_size_some kind) in
-      let empty : take n block ≡ [] = ap (λ m. take m block) none in
-      taken ∙ ap (λ l. l ++ ys) empty ∙ end short
-
   -- what a block of whole records has
   pub is_batch : (batch : Records) → 0 < n → length (take n block) % record_size kind ≡ 0 → batch ≡ records_in kind (take n block)
       → record_count batch ≡ length (take n block) / record_size kind → IsBatch kind batch
@@ -123,18 +111,6 @@ module _ (kind : Kind) (turn : ℕ) (block : List ℕ) (n : ℕ) (within : n ≤
         some = subst (λ m. 0 < m) (sym all) (some_records kind (length (take n block)) whole (omega arith));
         few = subst (λ m. m ≤ 1024) (sym all) (few_records kind (length (take n block)) short);
       }
-
-  pub turn_stops : (rest : List ℕ) (left : Option (List ℕ)) (f : FeedFault) → 0 < n → Consumes (Some rest) left (take n block)
-      → (n < block_size kind → IsAtEnd left) → IsBlockRefusal kind turn (take n block) f → TurnStops kind turn rest f
-  turn_stops rest None f any taken end refused = absurd taken
-  turn_stops rest (Some ys) Memory any taken end refused = tt
-  turn_stops rest (Some ys) Read any taken end refused = tt
-  turn_stops rest (Some ys) (Torn records torn) any taken end refused = (any_left rest ys any taken, same_fault rest ys taken end ∙ refused)
-  turn_stops rest (Some ys) TooLong any taken end refused = (any_left rest ys any taken, same_fault rest ys taken end ∙ refused)
-  turn_stops rest (Some ys) (Bad at fault) any taken end refused = (any_left rest ys any taken, same_fault rest ys taken end ∙ refused)
-  turn_stops rest (Some ys) (LoginsFull stored) any taken end refused = absurd refused
-  turn_stops rest (Some ys) (ProcsFull stored) any taken end refused = absurd refused
-  turn_stops rest (Some ys) CallsFull any taken end refused = absurd refused
 
 -- the turn after the last block
 pub last_turn_stops : (kind : Kind) (turn : ℕ) (rest : List ℕ) (f : FeedFault) → turn ≡ 1024 → (f ≡ Read) ⊎ (f ≡ TooLong)

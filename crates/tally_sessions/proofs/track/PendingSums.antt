@@ -112,9 +112,6 @@ module _ (who : Option (List ℕ)) (es : List Entry) (now time : ℤ) where
   now_sum-le ts le fits =
       sum_by-le now_length 4294967295 ts (λ k d lt. subst (λ t. now_length t ≤ 4294967295) (get_or_default ts k no_stay d lt) (now_few (stay_at ts k) le (fits k lt)))
 
-  pub pending_sum-le : (ts : List TrackedStay) → time ≤ℤ pos 2147483647 → ((k : ℕ) → k < length ts → LengthFits (stay_at ts k)) → pending_sum who es now time ts ≤ length ts * 4294967295
-  pending_sum-le ts le fits = let all = ended_and_pending ts in let few = now_sum-le ts le fits in omega arith
-
   -- what is pending is at the places that lines lead to
   pub lines_sum : (n : ℕ) (lines : List (List ℕ × ℕ)) (swept : ℕ) (ts : List TrackedStay) → AreTracked es n lines swept ts → IsDistinct bytes_eq (keys_of lines)
       → sum_by (λ (e : List ℕ × ℕ). pending_length who es now time (stay_at ts e.1)) lines ≡ pending_sum who es now time ts
