@@ -10,7 +10,6 @@ use Rattle.tally_records.specs.declared.login.LoginRecord.{LoginRecord}
 use Rattle.tally_records.specs.Event.{event_of}
 use Rattle.tally_sessions.specs.declared.entry.Entry.{Entry}
 use Rattle.tally_sessions.specs.declared.track.ended.EndedSums.{EndedSums}
-use Rattle.tally_sessions.specs.declared.track.ending.Ending.{Ending}
 use Rattle.tally_sessions.specs.declared.track.ending.TrackedStay.{TrackedStay}
 use Rattle.tally_sessions.specs.declared.track.Track.{Track}
 use Rattle.tally_sessions.specs.Clock.{pending_old_time}
@@ -19,7 +18,7 @@ use Rattle.tally_sessions.specs.inside.Entries.{no_entry}
 use Rattle.tally_sessions.specs.inside.Kept.{AreTracks}
 use Rattle.tally_sessions.specs.Stays.{starts_stay, last_time}
 use Rattle.tally_sessions.specs.inside.Numbers.{StandsAt}
-use Rattle.tally_sessions.specs.inside.Track.{no_stay, stay_at, start_of, ended_with, tracked_in, counts, ended_length, AreOf, AreTracked, HasSums, IsTrack, IsWithin}
+use Rattle.tally_sessions.specs.inside.Track.{length_of, no_stay, stay_at, start_of, ended_with, tracked_in, counts, ended_length, AreOf, AreTracked, HasSums, IsTrack, IsWithin}
 use Rattle.tally_sessions.specs.inside.Tracking.{Tracked, clock, tracked_from}
 use Rattle.tally_sessions.proofs.track.EndedSteps.{HasSums-same}
 use Rattle.tally_sessions.proofs.sessions.HostSteps.{of_host-take_other}
@@ -80,7 +79,7 @@ AreTracked-take es es' n lines swept stays same h = record {
 HasSums-take : (es es' : List Entry) (n : ℕ) (sums : EndedSums) (lines : List (List ℕ × ℕ)) (swept : ℕ) (stays : List TrackedStay) → take n es' ≡ take n es → AreTracked es n lines swept stays → HasSums es sums stays → HasSums es' sums stays
 HasSums-take es es' n sums lines swept stays same tracked h = record {
   at = λ who. h.at who ∙ sum_equal (ended_length who es) (ended_length who es') no_stay stays
-      (λ k lt. ap (λ (r : LoginRecord). cond (counts who r) (option_map_or (λ (e : Ending). e.length) (stay_at stays k).ended 0) 0) (sym (start_same es es' n (stay_at stays k) same (tracked.at k lt).placed)));
+      (λ k lt. ap (λ (r : LoginRecord). cond (counts who r) (option_map_or length_of (stay_at stays k).ended 0) 0) (sym (start_same es es' n (stay_at stays k) same (tracked.at k lt).placed)));
   entered = λ k lt login.
       let start = start_same es es' n (stay_at stays k) same (tracked.at k lt).placed in
       subst (λ (r : LoginRecord). StandsAt sums.users (stay_at stays k).user r.user) (sym start) (h.entered k lt (ap event_of (sym start) ∙ login));

@@ -14,17 +14,17 @@ use Rattle.tally_sessions.specs.declared.track.ended.EndedSums.{EndedSums}
 use Rattle.tally_sessions.specs.declared.track.ending.Ending.{Ending}
 use Rattle.tally_sessions.specs.declared.track.ending.TrackedStay.{TrackedStay}
 use Rattle.tally_sessions.specs.inside.Entries.{entry_at}
-use Rattle.tally_sessions.specs.inside.Track.{no_stay, stay_at, start_of, counts, ended_length, ended_sum, covers, is_login_event, sum_of, started, HasSums, HasUser, LengthFits}
+use Rattle.tally_sessions.specs.inside.Track.{length_of, no_stay, stay_at, start_of, counts, ended_length, ended_sum, covers, is_login_event, sum_of, started, HasSums, HasUser, LengthFits}
 use Rattle.tally_sessions.specs.inside.Numbers.{StandsAt}
 use Rattle.tally_sessions.specs.Stays.{starts_stay}
 use Rattle.tally_sessions.proofs.track.Places.{each-push}
 
 -- a login's stay that has ended counts for its user and for all
 pub counted : (who : Option (List ℕ)) (es : List Entry) (before : TrackedStay) (ending : Ending) (n n' : ℕ) → is_login_event (event_of (start_of es before)) ≡ true → before.ended ≡ None
-    → n' ≡ n + (if covers who (start_of es before).user then ending.length else 0) → n' + ended_length who es before ≡ n + ended_length who es (record before { ended = Some ending })
+    → n' ≡ n + (if covers who (start_of es before).user then length_of ending else 0) → n' + ended_length who es before ≡ n + ended_length who es (record before { ended = Some ending })
 counted who es before ending n n' login pending more =
     let nothing : ended_length who es before ≡ 0 = ap (λ o. ended_length who es (record before { ended = o })) pending ∙ none (counts who (start_of es before)) in
-    let own : ended_length who es (record before { ended = Some ending }) ≡ (if covers who (start_of es before).user then ending.length else 0) = ap (λ b. cond b ending.length 0) (alike who) in
+    let own : ended_length who es (record before { ended = Some ending }) ≡ (if covers who (start_of es before).user then length_of ending else 0) = ap (λ b. cond b (length_of ending) 0) (alike who) in
     omega (arith, more, nothing, own)
   where
     none : (b : Bool) → ◌≡◌ {A = ℕ} (cond b 0 0) 0
@@ -75,7 +75,7 @@ HasSums-set es sums sums' ts i before after h lt is same same_user moved kept fi
     by_fits k within (inr other) = subst LengthFits (sym (get_or-set_other ts i k after no_stay other)) (h.fits k within)
 
 -- a sum is below 2^52
-few_seconds : (b : Bool) (o : Option Ending) → ((e : Ending) → o ≡ Some e → e.length < 4294967296) → cond b (option_map_or (λ (e : Ending). e.length) o 0) 0 ≤ 4294967295
+few_seconds : (b : Bool) (o : Option Ending) → ((e : Ending) → o ≡ Some e → length_of e < 4294967296) → cond b (option_map_or length_of o 0) 0 ≤ 4294967295
 few_seconds false o h = omega arith
 few_seconds true None h = omega arith
 few_seconds true (Some e) h = let l = h e refl in omega arith

@@ -20,7 +20,7 @@ use Rattle.tally_sessions.specs.declared.entry.Stay.{Stay}
 use Rattle.tally_sessions.specs.declared.track.ending.Ending.{Ending}
 use Rattle.tally_sessions.specs.declared.track.ending.TrackedStay.{TrackedStay}
 use Rattle.tally_sessions.specs.Stays.{clamped, is_boot_event, seconds_between, starts_stay}
-use Rattle.tally_sessions.specs.inside.Track.{is_login_event, no_line, no_stay, stay_at, start_of, still_of, ending_now, stay_now, counts, ended_length, ended_sum, pending_length, pending_sum, AreTracked, LengthFits}
+use Rattle.tally_sessions.specs.inside.Track.{length_of, is_login_event, no_line, no_stay, stay_at, start_of, still_of, ending_now, stay_now, counts, ended_length, ended_sum, pending_length, pending_sum, AreTracked, LengthFits}
 use Rattle.tally_sessions.specs.inside.Totals.{counted, seconds_of}
 use Rattle.tally_sessions.proofs.track.TrackSteps.{is_login_of_event}
 use Rattle.tally_sessions.proofs.track.Lengths.{seconds_fit}
@@ -38,14 +38,14 @@ login_of (Some user) r h = is_login_of_event (event_of r) (first (is_login_event
 module _ (who : Option (List ℕ)) (es : List Entry) (now time : ℤ) where
   -- the length so far of a stay whose start counts
   abbrev pub now_length : TrackedStay → ℕ
-  now_length t = cond (counts who (start_of es t)) (ending_now es now time t).length 0
+  now_length t = cond (counts who (start_of es t)) (length_of (ending_now es now time t)) 0
 
   -- it has ended, or it is pending
   ended_or_pending : (t : TrackedStay) → ended_length who es t + pending_length who es now time t ≡ now_length t
   ended_or_pending t = by (counts who (start_of es t)) t.ended
     where
-      by : (b : Bool) (o : Option Ending) → cond b (option_map_or (λ (e : Ending). e.length) o 0) 0 + cond (not (is_some o) && b) (still_of (start_of es t) (now -ℤ t.clock_at) time).length 0
-          ≡ cond b (ending_now es now time (record t { ended = o })).length 0
+      by : (b : Bool) (o : Option Ending) → cond b (option_map_or length_of o 0) 0 + cond (not (is_some o) && b) (length_of (still_of (start_of es t) (now -ℤ t.clock_at) time)) 0
+          ≡ cond b (length_of (ending_now es now time (record t { ended = o }))) 0
       by true (Some e) = omega arith
       by true None = omega arith
       by false (Some e) = omega arith
@@ -85,8 +85,8 @@ module _ (who : Option (List ℕ)) (es : List Entry) (now time : ℤ) where
       ∙ sym (sum_by-cons now_length t ts)
     where
       one : (b d : Bool) → b ≡ d → (ss : List Stay) (n : ℕ) → sum_by (λ (s : Stay). s.length) ss ≡ n
-          → sum_by (λ (s : Stay). s.length) (cond b (stay_now host es now time t ∷ ss) ss) ≡ cond d (ending_now es now time t).length 0 + n
-      one true true e ss n h = sum_by-cons (λ (s : Stay). s.length) (stay_now host es now time t) ss ∙ ap (λ m. (ending_now es now time t).length + m) h
+          → sum_by (λ (s : Stay). s.length) (cond b (stay_now host es now time t ∷ ss) ss) ≡ cond d (length_of (ending_now es now time t)) 0 + n
+      one true true e ss n h = sum_by-cons (λ (s : Stay). s.length) (stay_now host es now time t) ss ∙ ap (λ m. (length_of (ending_now es now time t)) + m) h
       one false false e ss n h = h ∙ (let z : n ≡ 0 + n = omega arith in z)
       one true false e ss n h = absurd (false≢true (sym e))
       one false true e ss n h = absurd (false≢true e)
@@ -103,7 +103,7 @@ module _ (who : Option (List ℕ)) (es : List Entry) (now time : ℤ) where
   now_few : (t : TrackedStay) → time ≤ℤ pos 2147483647 → LengthFits t → now_length t ≤ 4294967295
   now_few t le fits = by (counts who (start_of es t)) t.ended fits
     where
-      by : (b : Bool) (o : Option Ending) → ((e : Ending) → o ≡ Some e → e.length < 4294967296) → cond b (ending_now es now time (record t { ended = o })).length 0 ≤ 4294967295
+      by : (b : Bool) (o : Option Ending) → ((e : Ending) → o ≡ Some e → length_of e < 4294967296) → cond b (length_of (ending_now es now time (record t { ended = o }))) 0 ≤ 4294967295
       by false o h = omega arith
       by true (Some e) h = let l = h e refl in omega arith
       by true None h = seconds_few ((start_of es t).time +ℤ (now -ℤ t.clock_at)) le
@@ -134,7 +134,7 @@ module _ (who : Option (List ℕ)) (es : List Entry) (now time : ℤ) where
       pending_found : (t : TrackedStay) (k : ℕ) → (t.ended ≡ None → event_of (start_of es t) ≡ Login → lookup (bytes_eq (start_of es t).line) lines ≡ Some k) → 0 < pending_length who es now time t → lookup (bytes_eq (start_of es t).line) lines ≡ Some k
       pending_found t k found lt = by t.ended refl (counts who (start_of es t)) refl lt
         where
-          by : (o : Option Ending) → t.ended ≡ o → (b : Bool) → counts who (start_of es t) ≡ b → 0 < cond (not (is_some o) && b) (still_of (start_of es t) (now -ℤ t.clock_at) time).length 0 → lookup (bytes_eq (start_of es t).line) lines ≡ Some k
+          by : (o : Option Ending) → t.ended ≡ o → (b : Bool) → counts who (start_of es t) ≡ b → 0 < cond (not (is_some o) && b) (length_of (still_of (start_of es t) (now -ℤ t.clock_at) time)) 0 → lookup (bytes_eq (start_of es t).line) lines ≡ Some k
           by (Some e) i b j l = absurd (omega (arith, l))
           by None i false j l = absurd (omega (arith, l))
           by None i true j l = found i (login_of who (start_of es t) j)

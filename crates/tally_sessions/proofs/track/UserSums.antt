@@ -11,7 +11,7 @@ use Rattle.std.specs.Prelude.{bytes_eq, sum_by}
 use Rattle.tally_records.specs.Event.{event_of}
 use Rattle.tally_sessions.specs.declared.entry.Entry.{Entry}
 use Rattle.tally_sessions.specs.declared.track.ending.TrackedStay.{TrackedStay}
-use Rattle.tally_sessions.specs.inside.Track.{is_login_event, pending_length, start_of, stay_at, still_of}
+use Rattle.tally_sessions.specs.inside.Track.{length_of, is_login_event, pending_length, start_of, stay_at, still_of}
 use Rattle.tally_sessions.proofs.track.Names.{same_both_ways}
 use Rattle.tally_sessions.proofs.track.PendingSums.{pending_at}
 
@@ -63,7 +63,7 @@ own_part name n = ap (λ b. cond b n 0) ((bytes_eq-Decides name name).1 refl)
 pub pending_of_user : (user : List ℕ) (es : List Entry) (now time : ℤ) (t : TrackedStay) → pending_length (Some user) es now time t ≡ cond (bytes_eq (start_of es t).user user) (pending_length None es now time t) 0
 pending_of_user user es now time t = by (is_some t.ended) (is_login_event (event_of (start_of es t))) (bytes_eq (start_of es t).user user)
   where
-    by : (ended login own : Bool) → cond (not ended && (login && own)) (still_of (start_of es t) (now -ℤ t.clock_at) time).length 0 ≡ cond own (cond (not ended && login) (still_of (start_of es t) (now -ℤ t.clock_at) time).length 0) 0
+    by : (ended login own : Bool) → cond (not ended && (login && own)) (length_of (still_of (start_of es t) (now -ℤ t.clock_at) time)) 0 ≡ cond own (cond (not ended && login) (length_of (still_of (start_of es t) (now -ℤ t.clock_at) time)) 0) 0
     by true login true = refl
     by true login false = refl
     by false true true = refl

@@ -33,13 +33,16 @@ stay_at stays i = get_or stays i no_stay
 abbrev pub start_of : List Entry → TrackedStay → LoginRecord
 start_of es t = (entry_at es t.entry).item
 
+-- the seconds between the start and the end
+abbrev pub length_of : Ending → ℕ
+length_of e = seconds_between e.begin e.end_time
+
 -- the end of a stay from one time to that of an event, where the clock moved by this sum between them
 abbrev pub ending_at : ℤ → ℤ → ℤ → Event → Ending
 ending_at start sum time event = record {
   begin = clamped (start +ℤ sum);
   end = end_at event;
   end_time = time;
-  length = seconds_between (clamped (start +ℤ sum)) time;
 }
 
 -- the end of a stay that started at a record's time, at another record's
@@ -73,7 +76,7 @@ ends_line_stay _ = false
 
 -- the stay of a record with this end
 abbrev pub ended_with : ℕ → LoginRecord → Ending → Stay
-ended_with host r e = stay_with host r e.begin e.end e.end_time e.length
+ended_with host r e = stay_with host r e.begin e.end e.end_time (length_of e)
 
 -- what is kept of a stay
 abbrev pub tracked_in : ℕ → List Entry → TrackedStay → Tracked
@@ -120,7 +123,7 @@ covers (Some name) user = bytes_eq user name
 
 -- the length of a stay whose start counts, once it has ended
 abbrev pub ended_length : Option (List ℕ) → List Entry → TrackedStay → ℕ
-ended_length who es t = if counts who (start_of es t) then option_map_or (λ e. e.length) t.ended 0 else 0
+ended_length who es t = if counts who (start_of es t) then option_map_or length_of t.ended 0 else 0
 
 -- the lengths of the sessions that have ended
 abbrev pub ended_sum : Option (List ℕ) → List Entry → List TrackedStay → ℕ
@@ -133,7 +136,7 @@ sum_of sums (Some user) = unwrap_or (lookup (bytes_eq user) sums.users.entries) 
 
 -- the length of a stay that has ended fits in 32 bits
 abbrev pub LengthFits : TrackedStay → Type 0
-LengthFits t = (e : Ending) → t.ended ≡ Some e → e.length < 2 ^ 32
+LengthFits t = (e : Ending) → t.ended ≡ Some e → length_of e < 2 ^ 32
 
 -- where the sum of a session's user stands
 abbrev pub HasUser : List Entry → Numbers → TrackedStay → Type 0
@@ -192,7 +195,6 @@ still_at start sum time = record {
   begin = clamped (start +ℤ sum);
   end = ends.Still;
   end_time = time;
-  length = seconds_between (clamped (start +ℤ sum)) time;
 }
 
 -- the end so far of a pending stay that started at a record's time
@@ -210,7 +212,7 @@ stay_now host es now time t = ended_with host (start_of es t) (ending_now es now
 -- the length so far of a stay whose start counts, while it is pending
 abbrev pub pending_length : Option (List ℕ) → List Entry → ℤ → ℤ → TrackedStay → ℕ
 pending_length who es now time t =
-    if not (is_some t.ended) && counts who (start_of es t) then (still_of (start_of es t) (now -ℤ t.clock_at) time).length else 0
+    if not (is_some t.ended) && counts who (start_of es t) then length_of (still_of (start_of es t) (now -ℤ t.clock_at) time) else 0
 
 -- what a read of a line gives past the end
 abbrev pub no_line : List ℕ × ℕ

@@ -22,7 +22,15 @@ pub(crate) struct Ending {
     pub(crate) begin: i32,
     pub(crate) end: End,
     pub(crate) end_time: i32,
-    pub(crate) length: u32,
+}
+
+impl Ending {
+    /// The seconds between the start and the end, and 0 where the end is earlier.
+    pub(crate) fn length(&self) -> u32
+        ensures { result ≡ spec.length_of self.now }
+    {
+        seconds_between(self.begin, self.end_time) as u32
+    }
 }
 
 /// A stay that has started.
@@ -42,14 +50,13 @@ fn ending_at(start: i32, moved: i64, by_time: i32, event: Event) -> Ending
     requires low { neg_ℤ (pos (2 ^ 62)) ≤ℤ moved }
     requires high { moved ≤ℤ pos (2 ^ 62) }
     ensures value { result ≡ spec.ending_at start moved by_time event }
-    ensures fits { result.length < 2 ^ 32 }
+    ensures fits { spec.length_of result < 2 ^ 32 }
 {
     let begin = begin_of(start, moved);
     Ending {
         begin,
         end: end_at(event),
         end_time: by_time,
-        length: seconds_between(begin, by_time) as u32,
     }
 }
 
@@ -57,14 +64,14 @@ fn ending_at(start: i32, moved: i64, by_time: i32, event: Event) -> Ending
 pub(crate) fn still(start: i32, moved: i64, time: i32) -> Ending
     requires low { neg_ℤ (pos (2 ^ 62)) ≤ℤ moved }
     requires high { moved ≤ℤ pos (2 ^ 62) }
-    ensures { result ≡ spec.still_at start moved time }
+    ensures value { result ≡ spec.still_at start moved time }
+    ensures fits { spec.length_of result < 2 ^ 32 }
 {
     let begin = begin_of(start, moved);
     Ending {
         begin,
         end: End::Still,
         end_time: time,
-        length: seconds_between(begin, time) as u32,
     }
 }
 
@@ -109,7 +116,7 @@ fn count(sums: &mut EndedSums, entries: &EntryList, before: TrackedStay, after: 
     }
     if let Some(ending) = after.ended {
         if is_login(entries.event(before.entry as usize)) {
-            sums.add(before.user, ending.length);
+            sums.add(before.user, ending.length());
         }
     }
 }

@@ -31,7 +31,7 @@ impl Track {
         requires before { spec.IsWithin ENTRY_LIMIT stay.clock_at }
         requires now { spec.IsWithin ENTRY_LIMIT self.now.clock }
         ensures value { result ≡ spec.ending_now (entries_in entries.entry) self.now.clock time stay }
-        ensures fits { result.length < 2 ^ 32 }
+        ensures fits { spec.length_of result < 2 ^ 32 }
     {
         match stay.ended {
             Some(ended) => ended,
@@ -69,7 +69,7 @@ impl Track {
             begin: ending.begin,
             end: ending.end,
             end_time: ending.end_time,
-            length: u64::from(ending.length),
+            length: u64::from(ending.length()),
         }
     }
 
@@ -152,7 +152,7 @@ impl Track {
         if stay.ended.is_some() || !is_counted(entries, stay.entry as usize, who) {
             return 0;
         }
-        u64::from(self.ending(entries, stay, time).length)
+        u64::from(self.ending(entries, stay, time).length())
     }
 
     /// The lengths of the host's sessions, of all users or of one. Each that is pending is the latest
