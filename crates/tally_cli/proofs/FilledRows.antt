@@ -6,10 +6,9 @@ use Rattle.std.specs.List.{list_all}
 use Rattle.std.specs.Str.{bytes_eq}
 use Rattle.clap.specs.Facts.{unwrap_or_range}
 use Rattle.clap.specs.Values.{is_request}
-use Rattle.clap.specs.Matches.{count_text}
 use Rattle.clap.specs.Kinds.{Kinds, or_else, range_kinds}
 use Rattle.clap.specs.Faults.{bundle_step_fault, flags_fault, option_fault, react_fault, settle_fault, short_fault, use_fault}
-use Rattle.clap.specs.Walk.{Held, Outcome, bundle_step, Row, Rule, Text, action_of, arg_by_id, arg_by_short, at_row, attached_value, bundle_met, default_rows, done, has_row, is_empty, more_values, most_values, new_count, option_met, reacted, reading_by, settled, short_met, takes_values, used, used_as, used_by_id, values_or_missing, with_count, with_default, with_values, without}
+use Rattle.clap.specs.Walk.{Held, Outcome, bundle_step, Row, Rule, Text, action_of, arg_by_id, arg_by_short, at_row, attached_value, bundle_met, default_rows, done, has_row, is_empty, more_values, most_values, option_met, reacted, reading_by, settled, short_met, takes_values, used, used_as, used_by_id, values_or_missing, with_default, with_values, without}
 use Rattle.clap.proofs.WalkLemmas.{both}
 use Rattle.clap.specs.declared.builder.action.ArgAction.{ArgAction}
 use Rattle.clap.specs.declared.builder.action.ArgAction.TheVariants as action

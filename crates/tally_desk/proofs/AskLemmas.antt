@@ -1,6 +1,6 @@
 -- Questions that are asked one after another, and in rounds.
 use Rattle.std.proofs.Common.{◌≡◌, ◌∙◌, ◌+◌, ◌-◌, ◌*◌, ◌<◌, ◌≤◌, ◌++◌, ◌∷◌, [], ℕ, suc, List, length, map, take, drop, get_or, replicate, ap, sym, arith, append_assoc}
-use Rattle.std.proofs.lemmas.List.{append-nil, drop_more, map-append, replicate-append-replicate, take-append-drop, take_more}
+use Rattle.std.proofs.lemmas.List.{append-nil, drop_more, map-append, replicate-append-replicate, take-append-drop}
 use Rattle.std.proofs.Math.Nat.{mul-le-mul_left}
 use Rattle.std.proofs.lemmas.List.Concat.{flat_map-append}
 use Rattle.std.specs.List.{flat_map}
@@ -37,7 +37,6 @@ asks_more p q r xs ys first next =
     ∙ ap (λ (ds : List Deed). deeds p ++ ds) (sym (map-append Ask xs ys))
 
 module _ (p q r : PassState) (qs : List Question) (at : ℕ) (other : Question) (before : at < length qs) (first : Asks p q (take at qs)) where
-
   -- it was refused
   pub stops_here : (f : AskFault) → deeds r ≡ deeds q → IsAskRefusal r.seen.callers (length r.seen.calls) (get_or qs at other) f → AskStops qs p r f
   stops_here f same cause = record {

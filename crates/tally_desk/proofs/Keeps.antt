@@ -6,7 +6,7 @@ use mathlib.Core.Option.{Option, none, some, some-injective, some-ne-none}
 use native.Mathlib.Decide.{ℕ_discrete}
 use lib.ListN.{get_elem?}
 use lib.Seq.{set-get_or}
-use Rattle.atomic_table.specs.Table.{State, Act, keeps, takes, gives, step, Allows, homes_after, carried_after}
+use Rattle.atomic_table.specs.Table.{Act, keeps, takes, gives, step, Allows, homes_after, carried_after}
 use Rattle.atomic_table.proofs.Lists.{at_set, set_here, set_again, one_turn}
 use Rattle.tally_book.specs.declared.history.Call.{Call}
 use Rattle.tally_book.specs.Contents.{Contents}

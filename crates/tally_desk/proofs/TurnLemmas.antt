@@ -9,10 +9,10 @@ use Rattle.tally_desk.specs.Batches.{record_size, records_in}
 use Rattle.tally_records.specs.declared.batch.Kind.{Kind}
 use Rattle.tally_records.specs.declared.batch.Kind.TheVariants.{Login, Proc}
 use Rattle.tally_desk.specs.Blocks.{block_fault, block_size}
-use Rattle.tally_desk.specs.inside.Turns.{Gives, IsBatch, IsBlockRefusal, IsReadFault, TakesBlock, TurnStops}
+use Rattle.tally_desk.specs.inside.Turns.{Gives, IsBatch, IsReadFault, TakesBlock, TurnStops}
 use Rattle.tally_desk.specs.declared.fault.FeedFault.{FeedFault}
 use Rattle.tally_desk.specs.declared.fault.FeedFault.TheVariants.{Memory, Read, Torn, TooLong, Bad, LoginsFull, ProcsFull, CallsFull}
-use Rattle.tally_desk.proofs.BlockLemmas.{any_total, block_size_some, block_size_whole}
+use Rattle.tally_desk.proofs.BlockLemmas.{any_total, block_size_whole}
 
 -- a block of `size` bytes was filled up to n
 module _ (block : List ℕ) (n size : ℕ) (within : n ≤ length block) (few : n ≤ size) where

@@ -1,4 +1,4 @@
-use Rattle.std.proofs.Common.{◌∙◌, ◌≡◌, ◌++◌, ◌<◌, ap, arith, refl, subst}
+use Rattle.std.proofs.Common.{◌∙◌, ◌≡◌, ◌<◌, arith, refl, subst}
 use Rattle.std.proofs.lemmas.Result.{err_from_is_err_and}
 use Rattle.std.specs.Io.KnownBytes.{IsAtEnd}
 use Rattle.tally_records.specs.Records.{record_count}

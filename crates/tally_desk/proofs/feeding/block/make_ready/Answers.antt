@@ -1,4 +1,4 @@
-use Rattle.std.proofs.Common.{◌≤◌, length, arith}
+use Rattle.std.proofs.Common.{arith}
 use Rattle.tally_desk.proofs.Fills.{grown_front}
 use Rattle.tally_desk.proofs.feeding.block.make_ready.Goals as goal
 

@@ -1,4 +1,4 @@
-use Rattle.std.proofs.Common.{◌<◌, ◌≡◌, ◌≤◌, ℕ, List, Option, arith, length, subst, sym, take}
+use Rattle.std.proofs.Common.{◌<◌, ◌≤◌, ℕ, List, Option, arith, length, subst, sym, take}
 use Rattle.std.specs.Io.KnownBytes.{Consumes, IsAtEnd}
 use Rattle.std.proofs.lemmas.Result.{err_from_is_err_and}
 use Rattle.tally_desk.specs.Blocks.{block_size}

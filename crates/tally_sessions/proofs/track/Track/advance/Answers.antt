@@ -87,11 +87,11 @@ returns-clause-room_left c k room =
     } in
     elim c.if-ends_every.branch [
       | then-ends_every w ↦ record {
-          starts = c.start.ensures.room_left k (CanStart-swept (k + 1) c.tick.new.self c.if-ends_every.self c.end_pending.new.stays c.end_pending.new.sums _ can c.end_pending.ensures.spare w.self-is);
-          lines = omega (arith, room.lines, l.room_left, ap (λ (a : Track). a.lines.spare) c.start.ensures.rest, ap (λ (a : Track). a.lines.spare) w.self-is, ap (λ (n : Numbers). n.spare) t.lines);
-        }
+        starts = c.start.ensures.room_left k (CanStart-swept (k + 1) c.tick.new.self c.if-ends_every.self c.end_pending.new.stays c.end_pending.new.sums _ can c.end_pending.ensures.spare w.self-is);
+        lines = omega (arith, room.lines, l.room_left, ap (λ (a : Track). a.lines.spare) c.start.ensures.rest, ap (λ (a : Track). a.lines.spare) w.self-is, ap (λ (n : Numbers). n.spare) t.lines);
+      }
       | else-ends_every w ↦ record {
-          starts = c.start.ensures.room_left k (CanStart-swept (k + 1) c.tick.new.self c.if-ends_every.self c.end_pending.new.stays c.end_pending.new.sums _ can c.end_pending.ensures.spare w.self-is);
-          lines = omega (arith, room.lines, l.room_left, ap (λ (a : Track). a.lines.spare) c.start.ensures.rest, ap (λ (a : Track). a.lines.spare) w.self-is, ap (λ (n : Numbers). n.spare) t.lines);
-        }
+        starts = c.start.ensures.room_left k (CanStart-swept (k + 1) c.tick.new.self c.if-ends_every.self c.end_pending.new.stays c.end_pending.new.sums _ can c.end_pending.ensures.spare w.self-is);
+        lines = omega (arith, room.lines, l.room_left, ap (λ (a : Track). a.lines.spare) c.start.ensures.rest, ap (λ (a : Track). a.lines.spare) w.self-is, ap (λ (n : Numbers). n.spare) t.lines);
+      }
     ]
