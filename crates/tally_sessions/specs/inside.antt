@@ -4,6 +4,7 @@ pub mod Entries
 pub mod Joined
 pub mod Kept
 pub mod Numbers
+pub mod Parts
 pub mod Sums
 pub mod Totals
 pub mod Track

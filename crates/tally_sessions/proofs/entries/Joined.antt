@@ -1,5 +1,5 @@
 -- Hosts beside their records.
-use Rattle.std.proofs.Common.{◌≡◌, ◌⊎◌, inl, inr, ℕ, zero, suc, List, [], ◌∷◌, ◌++◌, length, take, replicate, slice_get, Some, None, IsSome, Option, option_map, ◌<◌, refl, sym, ap, ◌∙◌, subst, arith}
+use Rattle.std.proofs.Common.{◌≡◌, ◌⊎◌, inl, inr, ℕ, zero, suc, List, [], ◌∷◌, ◌++◌, get_or, length, take, replicate, slice_get, Some, None, IsSome, Option, option_map, ◌<◌, refl, sym, ap, ◌∙◌, subst, arith}
 use Rattle.tally_records.specs.declared.login.LoginRecord.{LoginRecord}
 use Rattle.tally_sessions.specs.declared.entry.Entry.{Entry}
 use Rattle.tally_sessions.specs.inside.Entries.{entry_at}
@@ -70,6 +70,18 @@ value_at f hs rs es i o x e view l found is = some_same x (f (entry_at es i).ite
 
 pub length-view : (hs : List ℕ) (rs : List LoginRecord) (es : List Entry) → length hs ≡ length rs → joined hs rs ≡ es → length hs ≡ length es
 length-view hs rs es e view = sym (length-joined hs rs e) ∙ ap length view
+
+-- the host of an entry
+pub host-joined : (hs : List ℕ) (rs : List LoginRecord) (i : ℕ) → length hs ≡ length rs → i < length hs → get_or hs i 0 ≡ (entry_at (joined hs rs) i).host
+unfolding joined
+host-joined [] rs i e l = absurd (omega arith)
+host-joined (h ∷ hs) [] i e l = absurd (omega arith)
+host-joined (h ∷ hs) (r ∷ rs) zero e l = refl
+host-joined (h ∷ hs) (r ∷ rs) (suc i) e l = host-joined hs rs i (omega arith) (omega arith)
+
+pub host-view : (hs : List ℕ) (rs : List LoginRecord) (es : List Entry) (i : ℕ) → length hs ≡ length rs → joined hs rs ≡ es → i < length es → get_or hs i 0 ≡ (entry_at es i).host
+host-view hs rs es i e view l =
+    host-joined hs rs i e (omega (arith, length-view hs rs es e view)) ∙ ap (λ (xs : List Entry). (entry_at xs i).host) view
 
 pub joined-nil : (rs : List LoginRecord) → joined [] rs ≡ []
 unfolding joined

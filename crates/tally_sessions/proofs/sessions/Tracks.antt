@@ -14,11 +14,11 @@ use Rattle.tally_sessions.specs.declared.track.ending.TrackedStay.{TrackedStay}
 use Rattle.tally_sessions.specs.declared.track.Track.{Track}
 use Rattle.tally_sessions.specs.Clock.{pending_old_time}
 use Rattle.tally_sessions.specs.Hosts.{of_host}
-use Rattle.tally_sessions.specs.inside.Entries.{no_entry}
+use Rattle.tally_sessions.specs.inside.Entries.{AreOf, no_entry}
 use Rattle.tally_sessions.specs.inside.Kept.{AreTracks}
 use Rattle.tally_sessions.specs.Stays.{starts_stay, last_time}
 use Rattle.tally_sessions.specs.inside.Numbers.{StandsAt}
-use Rattle.tally_sessions.specs.inside.Track.{length_of, no_stay, stay_at, start_of, ended_with, tracked_in, counts, ended_length, AreOf, AreTracked, HasSums, IsTrack, IsWithin}
+use Rattle.tally_sessions.specs.inside.Track.{length_of, no_stay, stay_at, start_of, ended_with, tracked_in, counts, ended_length, AreTracked, HasSums, IsTrack, IsWithin}
 use Rattle.tally_sessions.specs.inside.Tracking.{Tracked, clock, tracked_from}
 use Rattle.tally_sessions.proofs.track.EndedSteps.{HasSums-same}
 use Rattle.tally_sessions.proofs.sessions.HostSteps.{of_host-take_other}
@@ -109,17 +109,17 @@ IsTrack-take host es es' n a same h =
     kept r t = record { start = r; clock_at = t.clock_at; ended = option_map (ended_with host r) t.ended }
 
 -- entries of another host
-of_host-others : (h host : ℕ) (es : List Entry) (n k : ℕ) → h ≢ host → AreOf host es n → n + k ≤ length es → of_host h (take (n + k) es) ≡ of_host h (take n es)
+of_host-others : (h host : ℕ) (es : List Entry) (n k : ℕ) → h ≢ host → AreOf host es n (n + k) → n + k ≤ length es → of_host h (take (n + k) es) ≡ of_host h (take n es)
 of_host-others h host es n zero other of le = ap (λ j. of_host h (take j es)) (omega arith)
 of_host-others h host es n (suc k) other of le =
     ap (λ j. of_host h (take j es)) (omega arith)
     ∙ of_host-take_other h es (n + k) (omega arith) (λ e. other (sym e ∙ of (n + k) (omega arith) (omega arith)))
-    ∙ of_host-others h host es n k other of (omega arith)
+    ∙ of_host-others h host es n k other (λ j from lt. of j from (omega arith)) (omega arith)
 
-pub IsTrack-others : (h host : ℕ) (es : List Entry) (n m : ℕ) (a : Track) → h ≢ host → AreOf host es n → n ≤ m → m ≤ length es → IsTrack h es n a → IsTrack h es m a
+pub IsTrack-others : (h host : ℕ) (es : List Entry) (n m : ℕ) (a : Track) → h ≢ host → AreOf host es n m → n ≤ m → m ≤ length es → IsTrack h es n a → IsTrack h es m a
 IsTrack-others h host es n m a other of le within t =
     let place : n + (m - n) ≡ m = omega arith in
-    let rs : of_host h (take n es) ≡ of_host h (take m es) = sym (of_host-others h host es n (m - n) other of (omega arith)) ∙ ap (λ j. of_host h (take j es)) place in record {
+    let rs : of_host h (take n es) ≡ of_host h (take m es) = sym (of_host-others h host es n (m - n) other (λ k from lt. of k from (omega arith)) (omega arith)) ∙ ap (λ j. of_host h (take j es)) place in record {
       stays = t.stays ∙ ap (tracked_from h []) rs;
       clock = t.clock ∙ ap clock rs;
       moved = IsWithin-all n m a.clock le t.moved;
@@ -157,7 +157,7 @@ pub AreTracks-take : (es es' : List Entry) (n : ℕ) (tracks : List Track) → t
 AreTracks-take es es' n tracks same h = record { count = h.count; at = λ host d lt. IsTrack-take host es es' n (get_or tracks host d) same (h.at host d lt) }
 
 -- one host went on
-pub AreTracks-advance : (es : List Entry) (n m : ℕ) (tracks : List Track) (host : ℕ) (t : Track) → AreTracks es n tracks → host < 128 → AreOf host es n → n ≤ m → m ≤ length es → IsTrack host es m t → AreTracks es m (set tracks host t)
+pub AreTracks-advance : (es : List Entry) (n m : ℕ) (tracks : List Track) (host : ℕ) (t : Track) → AreTracks es n tracks → host < 128 → AreOf host es n m → n ≤ m → m ≤ length es → IsTrack host es m t → AreTracks es m (set tracks host t)
 AreTracks-advance es n m tracks host t h lt of le within is = record {
   count = length-set tracks host t ∙ h.count;
   at = λ k d few. by k d few (cases_eq k host);

@@ -1,5 +1,5 @@
 -- Stored entries by place.
-use Rattle.std.specs.Prelude.{ℕ, List, [], get_or, pos}
+use Rattle.std.specs.Prelude.{◌≡◌, ◌≤◌, ◌<◌, ℕ, List, [], get_or, pos}
 use Rattle.tally_sessions.specs.declared.entry.Entry.{Entry}
 
 -- what a read of an entry gives past the end
@@ -9,3 +9,7 @@ no_entry = record { host = 0; item = record { kind = 0; line = []; user = []; re
 -- the entry at a place
 abbrev pub entry_at : List Entry → ℕ → Entry
 entry_at es i = get_or es i no_entry
+
+-- the entries from n up to m are the host's
+abbrev pub AreOf : ℕ → List Entry → ℕ → ℕ → Type 0
+AreOf host es n m = (k : ℕ) → n ≤ k → k < m → (entry_at es k).host ≡ host

@@ -1,5 +1,5 @@
 -- The fields of the sessions. Behind the stored entries stand those that are prepared.
-use Rattle.std.specs.Prelude.{◌≡◌, ◌≤◌, ◌<◌, ℕ, All, List, map, take, drop, length, get_or, Some, option_map}
+use Rattle.std.specs.Prelude.{◌≡◌, ◌≤◌, ◌<◌, ◌+◌, ℕ, All, List, map, take, drop, length, get_or, Some, option_map}
 use Rattle.tally_sessions.specs.declared.sessions.TheConstants.{ENTRY_LIMIT, HOST_LIMIT}
 use Rattle.tally_sessions.specs.declared.entry.Entry.{Entry}
 use Rattle.tally_sessions.specs.declared.sessions.Sessions.TheInside.{Inside}
@@ -25,10 +25,15 @@ pub record AreTracks (es : List Entry) (n : ℕ) (tracks : List Track) : Type 0 
   pub count : length tracks ≡ HOST_LIMIT
   pub at : (host : ℕ) (d : Track) → host < HOST_LIMIT → IsTrack host es n (get_or tracks host d)
 
--- a track for each host, without entries
-pub record AreNewTracks (tracks : List Track) : Type 0 where
-  pub count : length tracks ≡ HOST_LIMIT
-  pub at : (host : ℕ) (d : Track) → host < HOST_LIMIT → IsNewTrack (get_or tracks host d)
+-- so many tracks without entries
+pub record AreNewTracks (count : ℕ) (tracks : List Track) : Type 0 where
+  pub count_is : length tracks ≡ count
+  pub at : (k : ℕ) (d : Track) → k < count → IsNewTrack (get_or tracks k d)
+
+-- the tracks of so many hosts from one on, after the first n entries
+pub record AreTracksFrom (first count : ℕ) (es : List Entry) (n : ℕ) (tracks : List Track) : Type 0 where
+  pub count_is : length tracks ≡ count
+  pub at : (k : ℕ) (d : Track) → k < count → IsTrack (first + k) es n (get_or tracks k d)
 
 -- the fields belong together: each track is that of its host after the stored entries, with room for the prepared ones
 pub record IsSound (a : Inside) : Type 0 where

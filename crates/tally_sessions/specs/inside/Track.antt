@@ -185,10 +185,6 @@ pub record HasRoom (k : ℕ) (track : Track) : Type 0 where
   pub starts : CanStart k track
   pub lines : k ≤ track.lines.spare
 
--- the entries from n on are the host's
-abbrev pub AreOf : ℕ → List Entry → ℕ → Type 0
-AreOf host es n = (k : ℕ) → n ≤ k → k < length es → (entry_at es k).host ≡ host
-
 -- the end so far of a pending stay, counted from one time to another
 abbrev pub still_at : ℤ → ℤ → ℤ → Ending
 still_at start sum time = record {

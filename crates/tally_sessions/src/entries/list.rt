@@ -1,14 +1,15 @@
 //! Stored login records and their hosts, in little memory.
-ghost use Rattle.std.specs.Prelude.{◌≡◌, ◌≤◌, ◌<◌, ◌+◌, ◌++◌, [], length, replicate, slice_get, take, vec_len, vec_capacity, IsTrue, OnOk, OnErr, ◌↔◌};
+ghost use Rattle.std.specs.Prelude.{◌≡◌, ◌≤◌, ◌<◌, ◌+◌, ◌++◌, ℕ, [], length, replicate, slice_get, slice_index, take, vec_len, vec_capacity, IsTrue, OnOk, OnErr, ◌↔◌};
 ghost use Rattle.tally_records.specs.Event.{event_of};
-ghost use Rattle.tally_sessions.specs.inside.Entries.{entry_at};
+ghost use Rattle.tally_records.specs.Records.{IsLogins, logins_in, record_count};
+ghost use Rattle.tally_sessions.specs.inside.Entries.{AreOf, entry_at};
 ghost use Rattle.tally_sessions.specs.Hosts.{posted_by};
 
 use crate::entry::Entry;
-use crate::sessions::ENTRY_LIMIT;
+use crate::sessions::{ENTRY_LIMIT, HOST_LIMIT};
 use std::alloc::Global;
 use std::marker::Model;
-use tally_records::{Event, Key, LoginRecord, Logins, Memory, Name};
+use tally_records::{BATCH_LIMIT, Batch, Event, Key, LoginRecord, Logins, Memory, Name};
 
 /// Stored entries, handed out.
 #[derive(Drop)]
@@ -36,6 +37,24 @@ fn host_at(hosts: &[u8], index: usize) -> Option<u8>
     hosts.get(index).copied()
 }
 
+/// Where a run of one host ends that begins at a place, and that is no longer than a batch.
+fn run_end(hosts: &[u8], from: usize) -> usize
+    requires { from < length hosts.now }
+    ensures further { from < result }
+    ensures within { result ≤ length hosts.now }
+    ensures short { result ≤ from + BATCH_LIMIT }
+    ensures same { (k : ℕ) → from ≤ k → k < result → slice_index hosts.now k ≡ slice_index hosts.now from }
+{
+    let host = hosts[from];
+    let end = hosts.len().min(from + BATCH_LIMIT);
+    for i in from + 1..end {
+        if hosts[i] != host {
+            return i;
+        }
+    }
+    end
+}
+
 /// Adds the host so many times.
 fn push_times(hosts: &mut Vec<u8>, host: u8, count: usize)
     requires { vec_len hosts.old + count ≤ vec_capacity hosts.old }
@@ -48,7 +67,7 @@ fn push_times(hosts: &mut Vec<u8>, host: u8, count: usize)
 
 impl EntryList {
     /// No entries, which take no memory.
-    pub(crate) fn new(alloc: Global) -> EntryList
+    pub fn new(alloc: Global) -> EntryList
         ensures { result ≡ [] }
     {
         EntryList {
@@ -81,6 +100,25 @@ impl EntryList {
             host: u32::from(host),
             item,
         })
+    }
+
+    /// The host of the entry at a place.
+    pub(crate) fn host(&self, at: usize) -> u32
+        requires { at < length self.now }
+        ensures { result ≡ (entry_at self.now at).host }
+    {
+        u32::from(self.hosts[at])
+    }
+
+    /// Where the entries of one host end that stand together from a place on, a batch at most.
+    pub(crate) fn run_end(&self, from: usize) -> usize
+        requires { from < length self.now }
+        ensures further { from < result }
+        ensures within { result ≤ length self.now }
+        ensures short { result ≤ from + BATCH_LIMIT }
+        ensures same { AreOf (entry_at self.now from).host self.now from result }
+    {
+        run_end(self.hosts.as_slice(), from)
     }
 
     /// When the record at a place was written.
@@ -132,8 +170,8 @@ impl EntryList {
     }
 
     /// Adds records as those of a host, or none.
-    pub(crate) fn append(&mut self, host: u32, records: &Logins) -> Result<(), Memory>
-        requires host_in { host < 256 }
+    fn append(&mut self, host: u32, records: &Logins) -> Result<(), Memory>
+        requires host_in { host < HOST_LIMIT }
         requires room { length self.old + length records.now ≤ ENTRY_LIMIT }
         ensures added { OnOk result (self.new ≡ self.old ++ posted_by host records.now) }
         ensures refused { OnErr result (self.new ≡ self.old) }
@@ -143,6 +181,20 @@ impl EntryList {
         self.logins.append(records)?;
         push_times(&mut self.hosts, host as u8, count);
         Ok(())
+    }
+
+    /// Adds the login records of a batch as those of a host, or none.
+    pub fn append_batch(&mut self, host: u32, b: &Batch) -> Result<(), Memory>
+        requires kind { IsLogins b.now }
+        requires host_in { host < HOST_LIMIT }
+        requires room { length self.old + record_count b.now ≤ ENTRY_LIMIT }
+        ensures stored { OnOk result (self.new ≡ self.old ++ posted_by host (logins_in b.now)) }
+        ensures refused { OnErr result (self.new ≡ self.old) }
+    {
+        match b.login_records() {
+            Some(records) => self.append(host, records),
+            None => Ok(()),
+        }
     }
 
     /// Keeps the first so many entries.
