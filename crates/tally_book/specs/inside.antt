@@ -1,3 +1,5 @@
 -- What no public contract cites.
 pub mod Kept
+pub mod LoginStates
+pub mod LoginStores
 pub mod Refusals

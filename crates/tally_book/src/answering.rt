@@ -1,7 +1,7 @@
 //! Answers of sessions and a summary to questions.
-ghost use Rattle.std.specs.Prelude.{◌≡◌, ◌≢◌, ◌<◌, IfOk, IfErr};
+ghost use Rattle.std.specs.Prelude.{◌≡◌, ◌≢◌, ◌<◌, IfOk, IfErr, OnOk};
 ghost use Rattle.tally_book.specs.Answers.{answer_of, HasDays, IsAskable, NamesHostBelow};
-ghost use Rattle.tally_book.specs.inside.Refusals.{IsUnanswered};
+ghost use Rattle.tally_book.specs.inside.Refusals.{IsNoSuchHost};
 
 use crate::connect::connect_rows;
 use crate::fault::AskFault;
@@ -9,6 +9,17 @@ use crate::question::{Answer, Question};
 use std::alloc::Global;
 use tally_sessions::Sessions;
 use tally_usage::Summary;
+
+/// Sees that a question's host is one of so many.
+pub(crate) fn check_host(hosts: u32, question: &Question) -> Result<(), AskFault>
+    ensures host { OnOk result (NamesHostBelow hosts question.now) }
+    ensures cause { IfErr result (IsNoSuchHost hosts question.now) }
+{
+    match *question {
+        Question::Last { host, .. } if host >= hosts => Err(AskFault::NoSuchHost(host)),
+        _ => Ok(()),
+    }
+}
 
 /// The answer to a question.
 #[tactic(auto, unfolding(crate::specs::Answers::answer_of))]
@@ -20,14 +31,13 @@ pub(crate) fn answer(
     question: &Question,
 ) -> Result<Answer, AskFault>
     requires hosts { hosts ≡ sessions.now.hosts }
+    requires host { NamesHostBelow hosts question.now }
     requires askable { IsAskable question.now }
     ensures value { IfOk result (λ a. a ≡ answer_of question.now sessions.now.entries summary.now.entries) }
     ensures days { IfOk result HasDays }
-    ensures host { IfOk result (λ _. NamesHostBelow hosts question.now) }
-    ensures cause { IfErr result (IsUnanswered hosts question.now) }
+    ensures cause { IfErr result (λ f. f ≡ AskFault.Memory) }
 {
     match *question {
-        Question::Last { host, .. } if host >= hosts => Err(AskFault::NoSuchHost(host)),
         Question::Last { host, limit, until } => Ok(Answer::Last {
             rows: sessions.stays(alloc, host, limit, until)?,
             first: sessions.first(host),

@@ -8,15 +8,17 @@ ghost use Rattle.tally_usage.specs.Entries.{entries_in};
 ghost use Rattle.tally_usage.specs.Summary.{entries_of};
 ghost use Rattle.tally_records.specs.Records.{logins_in, procs_in, record_count};
 
-use crate::answering::answer;
+use crate::answering::{answer, check_host};
 use crate::fault::{AskFault, PostFault};
 use crate::history::{Call, Counts, Receipt, Served};
+use crate::logins::LoginStore;
 use crate::question::Question;
 use std::alloc::Global;
 use std::hash::RandomState;
 use std::marker::Model;
+use std::thread::Threads;
 use tally_records::{BATCH_LIMIT, Batch, Kind, Memory};
-use tally_sessions::{ENTRY_LIMIT as LOGIN_LIMIT, Entries, EntryList, HOST_LIMIT, Sessions};
+use tally_sessions::{ENTRY_LIMIT as LOGIN_LIMIT, Entries, EntryList, HOST_LIMIT};
 use tally_usage::{ENTRY_LIMIT as PROC_LIMIT, ProcEntries, ProcList, Summary};
 
 /// The most calls of a history.
@@ -27,7 +29,7 @@ pub const CALL_LIMIT: usize = 65_536;
 #[derive(Drop)]
 pub struct Book {
     callers: u32,
-    sessions: Sessions,
+    logins: LoginStore,
     summary: Summary,
     calls: Vec<Call>,
 }
@@ -45,12 +47,12 @@ impl Model for Book {
 }
 
 /// How many records are stored.
-fn counts(sessions: &Sessions, summary: &Summary) -> Counts
-    ensures logins { result.logins ≡ length sessions.now.entries }
+fn counts(logins: &LoginStore, summary: &Summary) -> Counts
+    ensures logins { result.logins ≡ length logins.now.entries }
     ensures procs { result.procs ≡ length summary.now.entries }
 {
     Counts {
-        logins: sessions.entries().len() as u64,
+        logins: logins.entries().len() as u64,
         procs: summary.entries().len() as u64,
     }
 }
@@ -88,23 +90,20 @@ fn check_room(stored: Counts, calls: usize, batch: &Batch) -> Result<(), PostFau
 
 /// Stores a batch as the host's, or nothing of it.
 fn store(
-    sessions: &mut Sessions,
+    logins: &mut LoginStore,
     summary: &mut Summary,
     host: u32,
     batch: &Batch,
 ) -> Result<(), Memory>
-    requires host { host < sessions.old.hosts }
-    requires logins { length sessions.old.entries + length (logins_in batch.now) ≤ LOGIN_LIMIT }
+    requires host { host < logins.old.hosts }
+    requires logins { length logins.old.entries + length (logins_in batch.now) ≤ LOGIN_LIMIT }
     requires procs { length summary.old.entries + length (procs_in batch.now) ≤ PROC_LIMIT }
-    ensures hosts { sessions.new.hosts ≡ sessions.old.hosts }
-    ensures logins { sessions.new.entries ≡ (if is_ok result then sessions.old.entries ++ posted_by host (logins_in batch.now) else sessions.old.entries) }
+    ensures hosts { logins.new.hosts ≡ logins.old.hosts }
+    ensures logins { logins.new.entries ≡ (if is_ok result then logins.old.entries ++ posted_by host (logins_in batch.now) else logins.old.entries) }
     ensures procs { summary.new.entries ≡ (if is_ok result then summary.old.entries ++ entries_of host (procs_in batch.now) else summary.old.entries) }
 {
     match batch.kind() {
-        Kind::Login => {
-            sessions.prepare(host, batch)?;
-            sessions.add(host, batch);
-        }
+        Kind::Login => logins.store(host, batch)?,
         Kind::Proc => {
             summary.prepare(host, batch)?;
             summary.add(host, batch);
@@ -133,7 +132,7 @@ impl Book {
     {
         Ok(Book {
             callers,
-            sessions: Sessions::new(alloc, keys, callers)?,
+            logins: LoginStore::new(alloc, keys, callers),
             summary: Summary::new(alloc, keys),
             calls: Vec::new(alloc),
         })
@@ -150,7 +149,7 @@ impl Book {
     pub fn logins(&self) -> Entries<'_>
         ensures { lent_logins result ≡ self.now.logins }
     {
-        self.sessions.entries()
+        self.logins.entries()
     }
 
     /// The stored process entries, in stored order.
@@ -175,11 +174,11 @@ impl Book {
     {
         let Book {
             callers: _,
-            sessions,
+            logins,
             summary,
             calls,
         } = self;
-        (sessions.into_entries(), summary.into_entries(), calls)
+        (logins.into_entries(), summary.into_entries(), calls)
     }
 
     /// Stores a batch as the caller's. Refused, nothing has changed: for records that do not fit,
@@ -192,11 +191,11 @@ impl Book {
         ensures cause { IfErr result (IsPostRefusal (counts_of self.old) (length self.old.calls) batch.now) }
         ensures legal { IsLegal self.new }
     {
-        let before = counts(&self.sessions, &self.summary);
+        let before = counts(&self.logins, &self.summary);
         check_room(before, self.calls.len(), batch)?;
         self.calls.reserve(1)?;
-        store(&mut self.sessions, &mut self.summary, caller, batch)?;
-        let after = counts(&self.sessions, &self.summary);
+        store(&mut self.logins, &mut self.summary, caller, batch)?;
+        let after = counts(&self.logins, &self.summary);
         let posted = Call::Posted {
             caller,
             before,
@@ -208,6 +207,19 @@ impl Book {
             before,
             after,
         })
+    }
+
+    /// Sees that the sessions of what is stored are kept, by so many threads at most, so that no question has to wait
+    /// for them. No contract sees it.
+    pub fn count_sessions<R: Threads + Sync>(
+        &mut self,
+        rt: &R,
+        alloc: Global,
+        threads: u32,
+    ) -> Result<(), Memory>
+        ensures same { self.new ≡ self.old }
+    {
+        self.logins.count_by(rt, alloc, threads)
     }
 
     /// Answers a question over all that is stored. Refused, nothing has changed: for calls, for a
@@ -230,8 +242,13 @@ impl Book {
         if self.calls.len() >= CALL_LIMIT {
             return Err(AskFault::CallsFull);
         }
-        let at = counts(&self.sessions, &self.summary);
-        let answer = answer(alloc, &self.sessions, self.callers, &self.summary, question)?;
+        check_host(self.callers, question)?;
+        self.logins.count(alloc)?;
+        let Some(sessions) = self.logins.sessions() else {
+            unreachable!()
+        };
+        let at = counts(&self.logins, &self.summary);
+        let answer = answer(alloc, sessions, self.callers, &self.summary, question)?;
         let kept = answer.try_copy(alloc)?;
         self.calls.reserve(1)?;
         let asked = Call::Asked {

@@ -7,6 +7,7 @@ mod connect;
 mod fault;
 mod history;
 mod laws;
+mod logins;
 mod question;
 
 pub use book::{Book, CALL_LIMIT};

@@ -234,7 +234,8 @@ pub fn run<R: Threads + Wait + Sync, I: Input + Send, G: Gate + Sync, O: Output>
 {
     let callers = callers_of(sources.len(), job.askers)?;
     let kinds = kinds_of(alloc, sources.as_slice())?;
-    let book = feed_all(rt, alloc, keys, job, callers, sources, gate)?;
+    let mut book = feed_all(rt, alloc, keys, job, callers, sources, gate)?;
+    book.count_sessions(rt, alloc, job.feeders)?;
     host_order_is_enough();
     report(alloc, job, kinds.as_slice(), book, out)?;
     finish(out)

@@ -8,12 +8,12 @@ use Rattle.tally_book.specs.Contents.{Contents}
 abbrev pub contents_of : Inside → Contents
 contents_of b = record {
   callers = b.callers;
-  logins = b.sessions.entries;
+  logins = b.logins.entries;
   procs = b.summary.entries;
   calls = b.calls.items;
 }
 
 -- what every book keeps
 pub record IsSound (b : Inside) : Type 0 where
-  pub hosts : b.sessions.hosts ≡ b.callers
+  pub hosts : b.logins.hosts ≡ b.callers
   pub legal : IsLegal (contents_of b)
