@@ -175,11 +175,12 @@ fn kinds_of<I>(alloc: Global, sources: &[Source<I>]) -> Result<Vec<Kind>, AllocE
 }
 
 /// Prints the job's report of the book, of which each file is a host.
-fn report<O: Output>(
+fn report<R: Threads + Sync, O: Output>(
+    rt: &R,
     alloc: Global,
     job: &Job,
     kinds: &[Kind],
-    book: Book,
+    mut book: Book,
     out: &mut O,
 ) -> Result<(), RunFault>
     requires runnable { IsRunnable job.now }
@@ -192,6 +193,7 @@ fn report<O: Output>(
         (report_text job.now kinds.now book.logins book.procs) }
     ensures cause { IfErr result IsPrintFault }
 {
+    book.count_sessions(rt, alloc, job.feeders)?;
     let questions = questions_of(alloc, job, kinds)?;
     let answers = answers_to(alloc, book, questions.as_slice())?;
     print_answers(alloc, job, answers.as_slice(), out)?;
@@ -234,9 +236,8 @@ pub fn run<R: Threads + Wait + Sync, I: Input + Send, G: Gate + Sync, O: Output>
 {
     let callers = callers_of(sources.len(), job.askers)?;
     let kinds = kinds_of(alloc, sources.as_slice())?;
-    let mut book = feed_all(rt, alloc, keys, job, callers, sources, gate)?;
-    book.count_sessions(rt, alloc, job.feeders)?;
+    let book = feed_all(rt, alloc, keys, job, callers, sources, gate)?;
     host_order_is_enough();
-    report(alloc, job, kinds.as_slice(), book, out)?;
+    report(rt, alloc, job, kinds.as_slice(), book, out)?;
     finish(out)
 }
