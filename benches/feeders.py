@@ -79,8 +79,10 @@ def main():
                 runs[name, '8 programs, %d at a time' % at_once] = apart(binary, eight, at_once)
             for feeders in ('1', '4', '64'):
                 runs[name, '40 files of 5,000, --feeders ' + feeders] = program([binary, 'ac', '--feeders', feeders] + forty)
-            runs[name, '40 files of 5,000, 64 feeders, 64 askers'] = program(
-                [binary, 'all', '--feeders', '64', '--askers', '64'] + ['w:' + file for file in forty])
+            every = ['w:' + file for file in forty]
+            runs[name, '40 files of 5,000, all, 1 feeder'] = program([binary, 'all', '--feeders', '1'] + every)
+            runs[name, '40 files of 5,000, all, 64 feeders, 64 askers'] = program(
+                [binary, 'all', '--feeders', '64', '--askers', '64'] + every)
             runs[name, '10 records'] = program([binary, 'ac'] + ten)
         busy = [subprocess.Popen([sys.executable, '-c', 'while True: pass']) for _ in range(load)]
         try:
@@ -93,7 +95,7 @@ def main():
                 other.kill()
     for (name, what), times in taken.items():
         walls = [wall for wall, _ in times]
-        print('%-10s %-42s wall %.4f, %.4f  processor %.4f' % (
+        print('%-10s %-46s wall %.4f, %.4f  processor %.4f' % (
             name[-10:], what, min(walls), statistics.median(walls), min(cpu for _, cpu in times)))
 
 

@@ -1,7 +1,6 @@
 //! Sessions of entries that are stored already, counted by one thread or by several.
-ghost use Rattle.std.specs.Prelude.{◌≡◌, ◌≤◌, ◌<◌, ◌+◌, ◌-◌, ◌⊎◌, All, IfErr, IfOk, MatchOption, length};
-ghost use Rattle.tally_sessions.specs.inside.Kept.{AreTracks, AreTracksFrom};
-ghost use Rattle.tally_sessions.specs.inside.Parts.{first_of};
+ghost use Rattle.std.specs.Prelude.{◌≡◌, ◌≤◌, ◌<◌, ◌+◌, ◌⊎◌, All, IfErr, IfOk, MatchOption, length};
+ghost use Rattle.tally_sessions.specs.inside.Kept.{AreTracks, AreTracksFrom, AreTracksOfPart};
 
 use crate::entries::list::EntryList;
 use crate::sessions::cut::Cut;
@@ -63,7 +62,7 @@ fn tracks_of_part(
 ) -> Result<Vec<Track>, Memory>
     requires few { length entries.now ≤ ENTRY_LIMIT }
     requires part_in { part < cut.parts }
-    ensures { IfOk result (λ tracks. AreTracksFrom (first_of cut.parts cut.size part) (first_of cut.parts cut.size (part + 1) - first_of cut.parts cut.size part) entries.now (length entries.now) tracks.items) }
+    ensures { IfOk result (λ tracks. AreTracksOfPart cut.parts cut.size part entries.now (length entries.now) tracks.items) }
 {
     let first = cut.first(part);
     tracks_of(alloc, keys, entries, first, cut.first(part + 1) - first)
@@ -87,7 +86,7 @@ fn tracks_by<R: Threads + Sync>(
         count,
         &|part: usize| -> Result<Vec<Track>, Memory>
             requires { (part < cut.parts) × (length entries.now ≤ ENTRY_LIMIT) }
-            ensures { IfOk result (λ tracks. AreTracksFrom (first_of cut.parts cut.size part) (first_of cut.parts cut.size (part + 1) - first_of cut.parts cut.size part) entries.entry.now (length entries.entry.now) tracks.items) }
+            ensures { IfOk result (λ tracks. AreTracksOfPart cut.parts cut.size part entries.entry.now (length entries.entry.now) tracks.items) }
         { tracks_of_part(alloc, keys, entries, cut, part as u32) },
     )?;
     let mut all = Vec::with_capacity(alloc, HOST_LIMIT as usize)?;
