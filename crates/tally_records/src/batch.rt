@@ -1,3 +1,4 @@
+ghost use Rattle.std.specs.Arc.{arc_value};
 ghost use Rattle.std.specs.Prelude.{◌≡◌, ◌≤◌, ◌<◌, ◌+◌, ◌/◌, ◌%◌, MatchOption, MatchResult, OnOk, IfOk, IfErr, IfSome, All, Ok, Err, [], length, vec_len, vec_capacity};
 ghost use Rattle.tally_records.specs.Decoding.{decoded};
 ghost use Rattle.tally_records.specs.PackedProc.{unpacked};
@@ -5,13 +6,14 @@ ghost use Rattle.tally_records.specs.ProcRecord.{IsBounded, proc_result};
 ghost use Rattle.tally_records.specs.Records.{NamesRecordBelow};
 ghost use Rattle.tally_records.specs.inside.Lengths.{IsWrongLength};
 
-use crate::fault::BatchFault;
+use crate::fault::{BatchFault, Memory};
 use crate::login::logins::Logins;
 use crate::login::{LOGIN_SIZE, LoginRecord};
 use crate::process::packed::{PackedProc, pack};
 use crate::process::{PROC_SIZE, ProcRecord};
 use std::alloc::Global;
 use std::marker::Model;
+use std::sync::Arc;
 
 /// The most records that a batch holds.
 pub const BATCH_LIMIT: usize = 1024;
@@ -27,7 +29,7 @@ pub enum Kind {
 
 #[derive(Drop)]
 enum Items {
-    Logins(Logins),
+    Logins(Arc<Logins, Global>),
     Procs(Vec<PackedProc>),
 }
 
@@ -99,9 +101,12 @@ impl Batch {
     {
         count_records(bytes, LOGIN_SIZE)?;
         let (blocks, _) = bytes.as_chunks::<LOGIN_SIZE>();
-        Ok(Batch {
-            items: Items::Logins(Logins::read(alloc, blocks)?),
-        })
+        match Arc::new(alloc, Logins::read(alloc, blocks)?) {
+            Ok(records) => Ok(Batch {
+                items: Items::Logins(records),
+            }),
+            Err(_) => Err(BatchFault::Memory),
+        }
     }
 
     /// The process records of these bytes, `PROC_SIZE` bytes each. An empty slice is an empty batch.
@@ -153,13 +158,13 @@ impl Batch {
         }
     }
 
-    /// Its login records, where it is a batch of these.
-    pub fn login_records(&self) -> Option<&Logins>
-        ensures { MatchOption result (kind_of self.now ≡ Proc) (λ records. self.now ≡ as_logins records.now) }
+    /// Its login records, where it is a batch of these, shared with it. It errs where memory runs out.
+    pub fn share_logins(&self) -> Result<Option<Arc<Logins, Global>>, Memory>
+        ensures { IfOk result (λ shared. MatchOption shared (kind_of self.now ≡ Proc) (λ records. self.now ≡ as_logins (arc_value records))) }
     {
         match &self.items {
-            Items::Logins(records) => Some(records),
-            Items::Procs(_) => None,
+            Items::Logins(records) => Ok(Some(Arc::try_clone(records)?)),
+            Items::Procs(_) => Ok(None),
         }
     }
 

@@ -24,7 +24,7 @@ pub use crate::guesses::Guesses;
 pub use crate::laws::{ordered_items_are_all, ordered_items_ascend};
 pub use crate::list::List;
 pub use crate::login::key::Key;
-pub use crate::login::logins::{LOGINS_LIMIT, Logins};
+pub use crate::login::logins::Logins;
 pub use crate::login::{Event, LOGIN_SIZE, LoginRecord, read_login};
 pub use crate::process::compressed::comp;
 pub use crate::process::packed::PackedProc;

@@ -177,26 +177,20 @@ fn a_batch_shows_records_as_they_are_read(rt: HostRuntime) -> Result<(), Fail> {
 }
 
 #[test]
-fn an_appended_list_follows_and_a_truncated_one_is_its_front(rt: HostRuntime) -> Result<(), Fail> {
+fn parts_of_records_are_read_alone(rt: HostRuntime) -> Result<(), Fail> {
     let blocks = three_records();
-    let more = Logins::read(rt.alloc(), &blocks)?;
-    let mut logins = Logins::new(rt.alloc());
-    logins.append(&more)?;
-    logins.truncate(2);
-    if logins.len() <= 3 {
-        logins.append(&more)?;
-    }
-    assert_eq!(rt; logins.len(), 5);
+    let logins = Logins::read(rt.alloc(), &blocks)?;
+    assert_eq!(rt; logins.len(), 3);
     let down = read_login(&blocks[2])?;
-    assert_eq!(rt; logins.get(4), Some(down));
+    assert_eq!(rt; logins.get(2), Some(down));
     assert_eq!(rt;
-        (logins.time(4), logins.event(4)),
+        (logins.time(2), logins.event(2)),
         (Some(7), Some(Event::Down))
     );
-    assert_eq!(rt; logins.user(4), Some(down.user));
-    assert!(rt; logins.line_key(2) == Some(Key::of(&read_login(&blocks[0])?.line)));
-    assert!(rt; logins.user_key(2) != logins.user_key(4));
-    assert_eq!(rt; logins.get(5), None);
+    assert_eq!(rt; logins.user(2), Some(down.user));
+    assert!(rt; logins.line_key(0) == Some(Key::of(&read_login(&blocks[0])?.line)));
+    assert!(rt; logins.user_key(0) != logins.user_key(2));
+    assert_eq!(rt; logins.get(3), None);
     Ok(())
 }
 

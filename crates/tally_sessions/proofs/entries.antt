@@ -1,3 +1,4 @@
 -- Stored entries.
-pub mod Joined
+pub mod Cutting
 pub mod Lending
+pub mod Stored

@@ -1,10 +1,10 @@
 -- What no public contract cites.
 pub mod Changes
 pub mod Entries
-pub mod Joined
 pub mod Kept
 pub mod Numbers
 pub mod Parts
+pub mod Stored
 pub mod Sums
 pub mod Totals
 pub mod Track

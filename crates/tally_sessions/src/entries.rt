@@ -4,6 +4,7 @@ ghost use Rattle.tally_records.specs.Event.{event_of};
 ghost use Rattle.tally_sessions.specs.inside.Entries.{entry_at};
 ghost use Rattle.tally_sessions.specs.Lent.{entries_in};
 
+pub(crate) mod batches;
 pub(crate) mod iter;
 pub(crate) mod list;
 

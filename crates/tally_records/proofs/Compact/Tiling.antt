@@ -28,11 +28,6 @@ Tiles-moved (h ∷ hs) base from end t =
     let assoc : base + (from + size h) ≡ base + from + size h = omega arith in
     (ap (λ (n : ℕ). base + n) t.0, subst (λ (n : ℕ). Tiles n (map (moved base) hs) (base + end)) assoc (Tiles-moved hs base (from + size h) end t.1))
 
-pub Tiles-take : (hs : List Head) (from end k : ℕ) (d : Head) → Tiles from hs end → k < length hs → Tiles from (take k hs) (get_or hs k d).start
-Tiles-take [] from end k d t l = absurd (omega arith)
-Tiles-take (h ∷ hs) from end zero d t l = sym t.0
-Tiles-take (h ∷ hs) from end (suc k) d t l = (t.0, Tiles-take hs (from + size h) end k d t.1 (omega arith))
-
 -- words that follow change no part
 part-grown : (words more : List ℕ) (start count : ℕ) → start + count ≤ length words → part start count (words ++ more) ≡ part start count words
 part-grown words more start count l =
@@ -70,18 +65,6 @@ records-moved : (words more : List ℕ) (hs : List Head) → records (map (moved
 records-moved words more [] = refl
 records-moved words more (h ∷ hs) = λ i. record_at-moved words more h i ∷ records-moved words more hs i
 
--- no record has more than 40 words
-few_words : (hs : List Head) (from end : ℕ) → Tiles from hs end → All IsHead hs → end ≤ from + 40 * length hs
-few_words [] from end t all = omega arith
-few_words (h ∷ hs) from end t all =
-    let small : IsHead h = all 0 h (omega arith) in
-    let a : h.line ≤ 4 = small.line in let b : h.user ≤ 4 = small.user in let d : h.remote ≤ 32 = small.remote in
-    let next : end ≤ from + size h + 40 * length hs = few_words hs (from + size h) end t.1 (λ k d l. all (suc k) d (omega arith)) in
-    omega arith
-
-pub Covers-few : (hs : List Head) (words : List ℕ) → Covers hs words → length words ≤ 40 * length hs
-Covers-few hs words c = omega (arith, few_words hs 0 (length words) c.tiles c.heads)
-
 -- the words of the head at a place
 pub Covers-get : (hs : List Head) (words : List ℕ) (k : ℕ) (h : Head) → Covers hs words → slice_get hs k ≡ Some h → h.start + size h ≤ length words
 Covers-get hs words k h c e =
@@ -100,24 +83,6 @@ records-append hs more words others c =
     map-append (record_at (words ++ others)) hs (map (moved (length words)) more)
     ∙ (λ i. records-grown words others hs 0 c.tiles i ++ records-moved words others more i)
 
--- the first k heads, and the words before the head at place k
-cut_len : (hs : List Head) (words : List ℕ) (k : ℕ) (h : Head) → Covers hs words → slice_get hs k ≡ Some h → length (take h.start words) ≡ h.start
-cut_len hs words k h c e = let within : h.start + size h ≤ length words = Covers-get hs words k h c e in length-take-le h.start words (omega arith)
-
-cut_tiles : (hs : List Head) (words : List ℕ) (k : ℕ) (h : Head) → Covers hs words → slice_get hs k ≡ Some h → Tiles 0 (take k hs) (length (take h.start words))
-cut_tiles hs words k h c e =
-    subst (λ (n : ℕ). Tiles 0 (take k hs) n) (ap (λ (g : Head). g.start) (get_or_from_slice_get hs k h h e) ∙ sym (cut_len hs words k h c e))
-    (Tiles-take hs 0 (length words) k h c.tiles (slice_get_within hs k h e))
-
-pub Covers-take : (hs : List Head) (words : List ℕ) (k : ℕ) (h : Head) → Covers hs words → slice_get hs k ≡ Some h → Covers (take k hs) (take h.start words)
-Covers-take hs words k h c e = record { tiles = cut_tiles hs words k h c e; heads = All-take IsHead k hs c.heads }
-
-pub records-take : (hs : List Head) (words : List ℕ) (k : ℕ) (h : Head) → Covers hs words → slice_get hs k ≡ Some h → records (take k hs) (take h.start words) ≡ take k (records hs words)
-records-take hs words k h c e =
-    sym (records-grown (take h.start words) (drop h.start words) (take k hs) 0 (cut_tiles hs words k h c e))
-    ∙ ap (λ (ws : List ℕ). records (take k hs) ws) (take-append-drop h.start words)
-    ∙ sym (take-map (record_at words) k hs)
-
 pub records-get : (hs : List Head) (words : List ℕ) (k : ℕ) → slice_get (records hs words) k ≡ option_map (record_at words) (slice_get hs k)
 records-get hs words k = slice_get-map (record_at words) hs k
 
@@ -129,23 +94,6 @@ appended hs more hs' words others words' base c d b e f =
       subst (λ (gs : List Head). Covers gs words') (sym g) (subst (λ (ws : List ℕ). Covers (hs ++ map (moved (length words)) more) ws) (sym f) (Covers-append hs more words others c d)),
       (λ i. records (g i) (f i)) ∙ records-append hs more words others c,
     )
-
--- what a truncation leaves
-pub truncated : (hs hs' : List Head) (words words' : List ℕ) (k : ℕ) (h : Head) → Covers hs words → slice_get hs k ≡ Some h
-    → hs' ≡ take k hs → words' ≡ take h.start words → Covers hs' words' × (records hs' words' ≡ take k (records hs words))
-truncated hs hs' words words' k h c at e f = (
-  subst (λ (gs : List Head). Covers gs words') (sym e) (subst (λ (ws : List ℕ). Covers (take k hs) ws) (sym f) (Covers-take hs words k h c at)),
-  (λ i. records (e i) (f i)) ∙ records-take hs words k h c at,
-)
-
--- how many words there are, by the records
-pub few_by_view : (hs : List Head) (words : List ℕ) (rs : List LoginRecord) → Covers hs words → records hs words ≡ rs → length words ≤ 40 * length rs
-few_by_view hs words rs c e = omega (arith, Covers-few hs words c, length-map hs (record_at words), ap length e)
-
--- moved heads fit
-pub start_fits : (hs gs : List Head) (words : List ℕ) (base : ℕ) → Covers hs words → gs ≡ hs → base + length words < 4294967296 → All (λ h. base + h.start < 4294967296) gs
-start_fits hs gs words base c e few =
-    subst (λ (fs : List Head). All (λ h. base + h.start < 4294967296) fs) (sym e) (λ k d l. omega (arith, Tiles-at hs 0 (length words) k d c.tiles l))
 
 -- the head at a place is within its limits
 pub Covers-small : (hs : List Head) (words : List ℕ) (k : ℕ) (h : Head) → Covers hs words → slice_get hs k ≡ Some h → IsHead h

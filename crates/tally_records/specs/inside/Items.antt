@@ -1,4 +1,5 @@
 -- What a batch keeps, as records.
+use Rattle.std.specs.Arc.{arc_value}
 use Rattle.std.specs.Prelude.{ℕ, ◌≤◌, All, length, vec_len}
 use Rattle.tally_records.specs.declared.batch.TheConstants.{BATCH_LIMIT}
 use Rattle.tally_records.specs.declared.batch.Items.{Items}
@@ -9,12 +10,12 @@ use Rattle.tally_records.specs.Records.{Records, Logins, Procs, procs_in}
 
 -- the records of either list
 abbrev pub records_of : Items → Records
-records_of (kept.Logins records) = Logins records
+records_of (kept.Logins records) = Logins (arc_value records)
 records_of (kept.Procs v) = Procs (unpacked v.items)
 
 -- how many there are
 abbrev pub count_of : Items → ℕ
-count_of (kept.Logins records) = length records
+count_of (kept.Logins records) = length (arc_value records)
 count_of (kept.Procs v) = vec_len v
 
 -- what every batch keeps

@@ -1,7 +1,6 @@
 ghost use Rattle.std.specs.Prelude.{◌≡◌, ◌≤◌, ◌<◌, ◌+◌, ◌*◌, ◌++◌, ◌^◌, All, drop, length, map, slice_get, take, vec_len, vec_capacity, OnOk, OnErr};
 ghost use Rattle.tally_records.specs.inside.Compact.Layout.{IsHead, bytes_of, field_of, moved, part, record_at, size};
 
-use crate::fault::Memory;
 use crate::field::Name;
 use crate::login::LoginRecord;
 
@@ -100,48 +99,4 @@ pub(crate) fn record(words: &[u64], head: Head) -> LoginRecord
         remote: unpack(remote_words(words, head)),
         time: head.time,
     }
-}
-
-/// Adds the heads, their words so much further on.
-fn push_moved(heads: &mut Vec<Head>, base: u32, more: &[Head])
-    requires room { vec_len heads.old + length more.now ≤ vec_capacity heads.old }
-    requires fits { All (λ h. base + h.start < 2 ^ 32) more.now }
-    ensures { heads.new.items ≡ heads.old.items ++ map (moved base) more.now }
-{
-    for head in more {
-        heads.push_reserved(Head {
-            start: base + head.start,
-            ..*head
-        });
-    }
-}
-
-/// Adds heads and their words, or none.
-pub(crate) fn append_parts(
-    heads: &mut Vec<Head>,
-    words: &mut Vec<u64>,
-    more_heads: &[Head],
-    more_words: &[u64],
-) -> Result<(), Memory>
-    requires few { length words.old.items < 2 ^ 32 }
-    requires fits { All (λ h. length words.old.items + h.start < 2 ^ 32) more_heads.now }
-    ensures heads { OnOk result (heads.new.items ≡ heads.old.items ++ map (moved (length words.old.items)) more_heads.now) }
-    ensures words { OnOk result (words.new.items ≡ words.old.items ++ more_words.now) }
-    ensures heads_kept { OnErr result (heads.new.items ≡ heads.old.items) }
-    ensures words_kept { OnErr result (words.new.items ≡ words.old.items) }
-{
-    heads.reserve(more_heads.len())?;
-    let base = words.len() as u32;
-    words.extend_from_slice(more_words)?;
-    push_moved(heads, base, more_heads);
-    Ok(())
-}
-
-/// Keeps so many heads, and the words before the next one's.
-pub(crate) fn keep_before(heads: &mut Vec<Head>, words: &mut Vec<u64>, count: usize, next: Head)
-    ensures heads { heads.new.items ≡ take count heads.old.items }
-    ensures words { words.new.items ≡ take next.start words.old.items }
-{
-    words.truncate(next.start as usize);
-    heads.truncate(count);
 }

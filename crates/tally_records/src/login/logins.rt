@@ -6,20 +6,15 @@ ghost use Rattle.tally_records.specs.Records.{NamesRecordBelow};
 ghost use Rattle.tally_records.specs.inside.Compact.Layout.{IsHead, record_at, size};
 
 use crate::batch::BATCH_LIMIT;
-use crate::fault::{BatchFault, Memory};
+use crate::fault::BatchFault;
 use crate::field::Name;
 use crate::login::decode::{RECORD_WORDS, decode_all};
 use crate::login::events::event_at;
-use crate::login::head::{
-    Head, append_parts, head_at, keep_before, line_words, record, user_of, user_words,
-};
+use crate::login::head::{Head, head_at, line_words, record, user_of, user_words};
 use crate::login::key::Key;
 use crate::login::{Event, LOGIN_SIZE, LoginRecord};
 use std::alloc::Global;
 use std::marker::Model;
-
-/// The most login records.
-pub const LOGINS_LIMIT: usize = 1_048_576;
 
 /// Login records, kept without the zeros after their texts.
 #[derive(Drop)]
@@ -42,16 +37,6 @@ impl Model for Logins {
 }
 
 impl Logins {
-    /// No records, which take no memory.
-    pub fn new(alloc: Global) -> Logins
-        ensures { result ≡ [] }
-    {
-        Logins {
-            heads: Vec::new(alloc),
-            words: Vec::new(alloc),
-        }
-    }
-
     /// The records of the blocks, or the first block that is none.
     pub fn read(alloc: Global, blocks: &[[u8; LOGIN_SIZE]]) -> Result<Logins, BatchFault>
         requires { length blocks.now ≤ BATCH_LIMIT }
@@ -66,7 +51,10 @@ impl Logins {
             return Err(BatchFault::Memory);
         };
         decode_all(&mut heads, &mut words, blocks)?;
-        Ok(Logins { heads, words })
+        match Vec::from_slice(alloc, words.as_slice()) {
+            Ok(words) => Ok(Logins { heads, words }),
+            Err(_) => Err(BatchFault::Memory),
+        }
     }
 
     /// How many there are.
@@ -134,31 +122,5 @@ impl Logins {
     {
         let (words, head) = self.part(index)?;
         Some(Key::of_words(user_words(words, head)))
-    }
-
-    /// Adds the records of another, or none.
-    pub fn append(&mut self, more: &Logins) -> Result<(), Memory>
-        requires { length self.old + length more.now ≤ LOGINS_LIMIT }
-        ensures added { OnOk result (self.new ≡ self.old ++ more.now) }
-        ensures refused { OnErr result (self.new ≡ self.old) }
-    {
-        let heads = more.heads.as_slice();
-        append_parts(
-            &mut self.heads,
-            &mut self.words,
-            heads,
-            more.words.as_slice(),
-        )?;
-        Ok(())
-    }
-
-    /// Keeps the first so many records.
-    pub fn truncate(&mut self, count: usize)
-        ensures { self.new ≡ take count self.old }
-    {
-        let Some(head) = head_at(self.heads.as_slice(), count) else {
-            return;
-        };
-        keep_before(&mut self.heads, &mut self.words, count, head);
     }
 }

@@ -1,68 +1,40 @@
-//! Stored login records and their hosts, in little memory.
-ghost use Rattle.std.specs.Prelude.{◌≡◌, ◌≤◌, ◌<◌, ◌+◌, ◌++◌, ℕ, [], length, replicate, slice_get, slice_index, take, vec_len, vec_capacity, IsTrue, OnOk, OnErr, ◌↔◌};
+//! Stored login records and their hosts, each batch as it came.
+ghost use Rattle.std.specs.Arc.{arc_value};
+ghost use Rattle.std.specs.Prelude.{◌≡◌, ◌≤◌, ◌<◌, ◌+◌, ◌++◌, [], Some, length, slice_get, take, IsTrue, OnOk, OnErr, ◌↔◌};
 ghost use Rattle.tally_records.specs.Event.{event_of};
 ghost use Rattle.tally_records.specs.Records.{IsLogins, logins_in, record_count};
 ghost use Rattle.tally_sessions.specs.inside.Entries.{AreOf, entry_at};
+ghost use Rattle.tally_sessions.specs.inside.Stored.{Holds};
 ghost use Rattle.tally_sessions.specs.Hosts.{posted_by};
 
+use crate::entries::batches::{ENTRIES_FOR_A_MARK, StoredBatch, batch_of, cut, push_times};
 use crate::entry::Entry;
 use crate::sessions::{ENTRY_LIMIT, HOST_LIMIT};
 use std::alloc::Global;
 use std::marker::Model;
-use tally_records::{BATCH_LIMIT, Batch, Event, Key, LoginRecord, Logins, Memory, Name};
+use std::ops::Deref;
+use std::sync::Arc;
+use tally_records::{Batch, Event, Key, LoginRecord, Logins, Memory, Name};
 
 /// Stored entries, handed out.
 #[derive(Drop)]
 pub struct EntryList {
-    hosts: Vec<u8>,
-    logins: Logins,
+    batches: Vec<StoredBatch>,
+    /// For each so many entries the number of a batch that begins at the first of them or earlier.
+    marks: Vec<usize>,
+    count: usize,
 }
 
 impl Model for EntryList {
-    ghost use Rattle.std.specs.Prelude.{◌≡◌, List, length};
+    ghost use Rattle.std.specs.Prelude.{List};
     ghost use Rattle.tally_sessions.specs.declared.entry.Entry.{Entry as Item};
-    ghost use Rattle.tally_sessions.specs.inside.Joined.{joined};
+    ghost use Rattle.tally_sessions.specs.inside.Stored.{IsSound, kept};
 
     ghost Value = { List Item };
 
-    ghost view = { λ list. joined list.hosts.items list.logins };
+    ghost view = { kept };
 
-    ghost invariant = { λ list. length list.hosts.items ≡ length list.logins };
-}
-
-/// The host at a place.
-fn host_at(hosts: &[u8], index: usize) -> Option<u8>
-    ensures { result ≡ slice_get hosts.now index }
-{
-    hosts.get(index).copied()
-}
-
-/// Where a run of one host ends that begins at a place, and that is no longer than a batch.
-fn run_end(hosts: &[u8], from: usize) -> usize
-    requires { from < length hosts.now }
-    ensures further { from < result }
-    ensures within { result ≤ length hosts.now }
-    ensures short { result ≤ from + BATCH_LIMIT }
-    ensures same { (k : ℕ) → from ≤ k → k < result → slice_index hosts.now k ≡ slice_index hosts.now from }
-{
-    let host = hosts[from];
-    let end = hosts.len().min(from + BATCH_LIMIT);
-    for i in from + 1..end {
-        if hosts[i] != host {
-            return i;
-        }
-    }
-    end
-}
-
-/// Adds the host so many times.
-fn push_times(hosts: &mut Vec<u8>, host: u8, count: usize)
-    requires { vec_len hosts.old + count ≤ vec_capacity hosts.old }
-    ensures { hosts.new.items ≡ hosts.old.items ++ replicate count host }
-{
-    for _time in 0..count {
-        hosts.push_reserved(host);
-    }
+    ghost invariant = { IsSound };
 }
 
 impl EntryList {
@@ -71,8 +43,9 @@ impl EntryList {
         ensures { result ≡ [] }
     {
         EntryList {
-            hosts: Vec::new(alloc),
-            logins: Logins::new(alloc),
+            batches: Vec::new(alloc),
+            marks: Vec::new(alloc),
+            count: 0,
         }
     }
 
@@ -80,7 +53,7 @@ impl EntryList {
     pub fn len(&self) -> usize
         ensures { result ≡ length self.now }
     {
-        self.hosts.len()
+        self.count
     }
 
     /// Whether it holds none.
@@ -90,15 +63,37 @@ impl EntryList {
         self.len() == 0
     }
 
+    /// The batch of the entry at a place.
+    fn batch(&self, at: usize) -> &StoredBatch
+        requires { at < length self.now }
+        ensures held { Holds self.now result.now }
+        ensures from { result.now.first ≤ at }
+        ensures to { at < result.now.first + result.now.count }
+        ensures few { result.now.first + result.now.count ≤ ENTRY_LIMIT }
+    {
+        let batches = self.batches.as_slice();
+        &batches[batch_of(batches, self.marks.as_slice(), at)]
+    }
+
+    /// The records of the batch of the entry at a place, and its place among them.
+    fn part(&self, at: usize) -> (&Logins, usize)
+        requires { at < length self.now }
+        ensures { slice_get result.0.now result.1 ≡ Some (entry_at self.now at).item }
+    {
+        let batch = self.batch(at);
+        (batch.records.deref(), at - batch.first)
+    }
+
     /// The entry at a place, counted from 0.
     pub fn get(&self, index: usize) -> Option<Entry>
         ensures { result ≡ slice_get self.now index }
     {
-        let host = host_at(self.hosts.as_slice(), index)?;
-        let item = self.logins.get(index)?;
+        if index >= self.count {
+            return None;
+        }
         Some(Entry {
-            host: u32::from(host),
-            item,
+            host: self.host(index),
+            item: self.record(index),
         })
     }
 
@@ -107,18 +102,18 @@ impl EntryList {
         requires { at < length self.now }
         ensures { result ≡ (entry_at self.now at).host }
     {
-        u32::from(self.hosts[at])
+        self.batch(at).host
     }
 
-    /// Where the entries of one host end that stand together from a place on, a batch at most.
-    pub(crate) fn run_end(&self, from: usize) -> usize
-        requires { from < length self.now }
-        ensures further { from < result }
+    /// Where the batch of the entry at a place ends. Its entries are of one host.
+    pub(crate) fn batch_end(&self, at: usize) -> usize
+        requires { at < length self.now }
+        ensures further { at < result }
         ensures within { result ≤ length self.now }
-        ensures short { result ≤ from + BATCH_LIMIT }
-        ensures same { AreOf (entry_at self.now from).host self.now from result }
+        ensures same { AreOf (entry_at self.now at).host self.now at result }
     {
-        run_end(self.hosts.as_slice(), from)
+        let batch = self.batch(at);
+        batch.first + batch.count
     }
 
     /// When the record at a place was written.
@@ -126,7 +121,8 @@ impl EntryList {
         requires { at < length self.now }
         ensures { result ≡ (entry_at self.now at).item.time }
     {
-        self.logins.time(at).unwrap()
+        let (records, place) = self.part(at);
+        records.time(place).unwrap()
     }
 
     /// The event of the record at a place.
@@ -134,7 +130,8 @@ impl EntryList {
         requires { at < length self.now }
         ensures { result ≡ event_of (entry_at self.now at).item }
     {
-        self.logins.event(at).unwrap()
+        let (records, place) = self.part(at);
+        records.event(place).unwrap()
     }
 
     /// The line of the record at a place.
@@ -142,7 +139,8 @@ impl EntryList {
         requires { at < length self.now }
         ensures { result ≡ (entry_at self.now at).item.line }
     {
-        self.logins.line_key(at).unwrap()
+        let (records, place) = self.part(at);
+        records.line_key(place).unwrap()
     }
 
     /// The user of the record at a place.
@@ -150,7 +148,8 @@ impl EntryList {
         requires { at < length self.now }
         ensures { result ≡ (entry_at self.now at).item.user }
     {
-        self.logins.user_key(at).unwrap()
+        let (records, place) = self.part(at);
+        records.user_key(place).unwrap()
     }
 
     /// The record at a place.
@@ -158,7 +157,8 @@ impl EntryList {
         requires { at < length self.now }
         ensures { result ≡ (entry_at self.now at).item }
     {
-        self.logins.get(at).unwrap()
+        let (records, place) = self.part(at);
+        records.get(place).unwrap()
     }
 
     /// The name of the user of the record at a place.
@@ -166,24 +166,37 @@ impl EntryList {
         requires { at < length self.now }
         ensures { result ≡ (entry_at self.now at).item.user }
     {
-        self.logins.user(at).unwrap()
+        let (records, place) = self.part(at);
+        records.user(place).unwrap()
     }
 
     /// Adds records as those of a host, or none.
-    fn append(&mut self, host: u32, records: &Logins) -> Result<(), Memory>
-        requires host_in { host < HOST_LIMIT }
-        requires room { length self.old + length records.now ≤ ENTRY_LIMIT }
-        ensures added { OnOk result (self.new ≡ self.old ++ posted_by host records.now) }
+    fn append(&mut self, host: u32, records: Arc<Logins, Global>) -> Result<(), Memory>
+        requires room { length self.old + length (arc_value records) ≤ ENTRY_LIMIT }
+        ensures added { OnOk result (self.new ≡ self.old ++ posted_by host (arc_value records)) }
         ensures refused { OnErr result (self.new ≡ self.old) }
     {
         let count = records.len();
-        self.hosts.reserve(count)?;
-        self.logins.append(records)?;
-        push_times(&mut self.hosts, host as u8, count);
+        // No batch is empty, so that few begin between two marks.
+        if count == 0 {
+            return Ok(());
+        }
+        let end = self.count + count;
+        let marks = end.div_ceil(ENTRIES_FOR_A_MARK).saturating_sub(self.marks.len());
+        self.marks.reserve(marks)?;
+        self.batches.reserve(1)?;
+        push_times(&mut self.marks, self.batches.len(), marks);
+        self.batches.push_reserved(StoredBatch {
+            host,
+            first: self.count,
+            count,
+            records,
+        });
+        self.count = end;
         Ok(())
     }
 
-    /// Adds the login records of a batch as those of a host, or none.
+    /// Adds the login records of a batch as those of a host, or none. The list and the batch share them.
     pub fn append_batch(&mut self, host: u32, b: &Batch) -> Result<(), Memory>
         requires kind { IsLogins b.now }
         requires host_in { host < HOST_LIMIT }
@@ -191,7 +204,7 @@ impl EntryList {
         ensures stored { OnOk result (self.new ≡ self.old ++ posted_by host (logins_in b.now)) }
         ensures refused { OnErr result (self.new ≡ self.old) }
     {
-        match b.login_records() {
+        match b.share_logins()? {
             Some(records) => self.append(host, records),
             None => Ok(()),
         }
@@ -201,7 +214,11 @@ impl EntryList {
     pub(crate) fn truncate(&mut self, count: usize)
         ensures { self.new ≡ take count self.old }
     {
-        self.hosts.truncate(count);
-        self.logins.truncate(count);
+        if count >= self.count {
+            return;
+        }
+        let number = batch_of(self.batches.as_slice(), self.marks.as_slice(), count);
+        cut(&mut self.batches, &mut self.marks, number, count);
+        self.count = count;
     }
 }

@@ -43,7 +43,7 @@ fn tracks_of(
     let mut at = 0;
     while at < entries.len() {
         let host = entries.host(at);
-        let end = entries.run_end(at);
+        let end = entries.batch_end(at);
         if let Some(place) = place_among(host, first, count) {
             tracks[place].go_over(host, entries, at, end)?;
         }

@@ -12,7 +12,7 @@ loop-at-init c = record {
 
 pub go_over-requires-clause-of_host : goal.go_over-requires-clause-of_host
 go_over-requires-clause-of_host c =
-    subst (λ h. AreOf h c.args.entries.now c.loop-at.at c.run_end-end.result) (sym c.host-host.ensures) c.run_end-end.ensures.same
+    subst (λ h. AreOf h c.args.entries.now c.loop-at.at c.batch_end-end.result) (sym c.host-host.ensures) c.batch_end-end.ensures.same
 
 pub go_over-requires-clause-before : goal.go_over-requires-clause-before
 go_over-requires-clause-before c =
@@ -24,17 +24,17 @@ pub loop-at-preserved-in_ok-go_over : goal.loop-at-preserved-in_ok-go_over
 loop-at-preserved-in_ok-go_over c =
     let es = c.args.entries.now in
     let place = c.in-Some.ensures in
-    let of = subst (λ h. AreOf h es c.loop-at.at c.run_end-end.result) (sym c.host-host.ensures) c.run_end-end.ensures.same in record {
-      within = c.run_end-end.ensures.within;
-      tracks = AreTracksFrom-advance c.args.first c.args.count es c.loop-at.at c.run_end-end.result c.loop-at.tracks.items c.host-host.result c.in-Some.place c.go_over.new.self c.loop-at.invariant.tracks place.0 place.1 of
-          (let f = c.run_end-end.ensures.further in omega arith) c.run_end-end.ensures.within c.in_ok-go_over.ensures;
+    let of = subst (λ h. AreOf h es c.loop-at.at c.batch_end-end.result) (sym c.host-host.ensures) c.batch_end-end.ensures.same in record {
+      within = c.batch_end-end.ensures.within;
+      tracks = AreTracksFrom-advance c.args.first c.args.count es c.loop-at.at c.batch_end-end.result c.loop-at.tracks.items c.host-host.result c.in-Some.place c.go_over.new.self c.loop-at.invariant.tracks place.0 place.1 of
+          (let f = c.batch_end-end.ensures.further in omega arith) c.batch_end-end.ensures.within c.in_ok-go_over.ensures;
     }
 
 pub loop-at-preserved : goal.loop-at-preserved
 loop-at-preserved c =
     let es = c.args.entries.now in
-    let of = subst (λ h. AreOf h es c.loop-at.at c.run_end-end.result) (sym c.host-host.ensures) c.run_end-end.ensures.same in record {
-      within = c.run_end-end.ensures.within;
-      tracks = AreTracksFrom-others c.args.first c.args.count es c.loop-at.at c.run_end-end.result c.loop-at.tracks.items c.host-host.result c.loop-at.invariant.tracks c.in_default.ensures of
-          (let f = c.run_end-end.ensures.further in omega arith) c.run_end-end.ensures.within;
+    let of = subst (λ h. AreOf h es c.loop-at.at c.batch_end-end.result) (sym c.host-host.ensures) c.batch_end-end.ensures.same in record {
+      within = c.batch_end-end.ensures.within;
+      tracks = AreTracksFrom-others c.args.first c.args.count es c.loop-at.at c.batch_end-end.result c.loop-at.tracks.items c.host-host.result c.loop-at.invariant.tracks c.in_default.ensures of
+          (let f = c.batch_end-end.ensures.further in omega arith) c.batch_end-end.ensures.within;
     }
