@@ -1,16 +1,17 @@
 //! Stored entries, lent.
 ghost use Rattle.std.specs.Prelude.{◌≡◌, ◌<◌, ◌↔◌, [], length, slice_get, take, IsTrue};
-ghost use Rattle.tally_records.specs.Event.{event_of};
-ghost use Rattle.tally_sessions.specs.inside.Entries.{entry_at};
+ghost use Rattle.tally_sessions.specs.inside.Entries.{entry_at, record_in};
 ghost use Rattle.tally_sessions.specs.Lent.{entries_in};
 
 pub(crate) mod batches;
 pub(crate) mod iter;
 pub(crate) mod list;
+mod reads;
+pub(crate) mod stored;
 
 use crate::entries::list::EntryList;
+use crate::entries::stored::StoredRecord;
 use crate::entry::Entry;
-use tally_records::{Event, Key, LoginRecord, Name};
 
 /// The first of some stored entries, lent.
 #[derive(Clone, Copy)]
@@ -52,49 +53,13 @@ impl<'a> Entries<'a> {
         self.list.get(index)
     }
 
-    /// When the record at a place was written.
+    /// The record of the entry at a place.
     #[tactic(auto, using(crate::proofs::entries::Lending::read_lent))]
-    pub(crate) fn time(self, at: usize) -> i32
+    pub(crate) fn record(self, at: usize) -> StoredRecord<'a>
         requires { at < length (entries_in self) }
-        ensures { result ≡ (entry_at (entries_in self.entry) at).item.time }
-    {
-        self.list.time(at)
-    }
-
-    /// The event of the record at a place.
-    #[tactic(auto, using(crate::proofs::entries::Lending::read_lent))]
-    pub(crate) fn event(self, at: usize) -> Event
-        requires { at < length (entries_in self) }
-        ensures { result ≡ event_of (entry_at (entries_in self.entry) at).item }
-    {
-        self.list.event(at)
-    }
-
-    /// The user of the record at a place.
-    #[tactic(auto, using(crate::proofs::entries::Lending::read_lent))]
-    pub(crate) fn user_key(self, at: usize) -> Key
-        requires { at < length (entries_in self) }
-        ensures { result ≡ (entry_at (entries_in self.entry) at).item.user }
-    {
-        self.list.user_key(at)
-    }
-
-    /// The record at a place.
-    #[tactic(auto, using(crate::proofs::entries::Lending::read_lent))]
-    pub(crate) fn record(self, at: usize) -> LoginRecord
-        requires { at < length (entries_in self) }
-        ensures { result ≡ (entry_at (entries_in self.entry) at).item }
+        ensures { record_in result ≡ (entry_at (entries_in self.entry) at).item }
     {
         self.list.record(at)
-    }
-
-    /// The name of the user of the record at a place.
-    #[tactic(auto, using(crate::proofs::entries::Lending::read_lent))]
-    pub(crate) fn user(self, at: usize) -> Name
-        requires { at < length (entries_in self) }
-        ensures { result ≡ (entry_at (entries_in self.entry) at).item.user }
-    {
-        self.list.user(at)
     }
 }
 

@@ -1,7 +1,7 @@
 -- What heads that tile the words say.
 use Rattle.std.proofs.Common.{◌≡◌, ℕ, ◌+◌, ◌*◌, ◌<◌, ◌≤◌, zero, suc, List, [], ◌∷◌, ◌++◌, length, map, take, drop, get_or, slice_get, All, Option, Some, option_map, length-append, refl, sym, ap, subst, ◌∙◌, arith}
-use Rattle.std.proofs.lemmas.List.{length-drop, length-map, drop-append-le, take-append-le, take-append-drop, length-take-le, map-append, take-map}
-use Rattle.std.proofs.lemmas.List.Elements.{All-append, All-map, All-take}
+use Rattle.std.proofs.lemmas.List.{length-drop, drop-append-le, take-append-le, map-append}
+use Rattle.std.proofs.lemmas.List.Elements.{All-append, All-map}
 use Rattle.std.proofs.lemmas.Option.{get_or_from_slice_get, slice_get-map, slice_get_within}
 use Rattle.std.proofs.Math.Seq.{drop-append-add}
 use Rattle.tally_records.specs.declared.login.LoginRecord.{LoginRecord}
@@ -64,6 +64,18 @@ records-grown words more (h ∷ hs) from t =
 records-moved : (words more : List ℕ) (hs : List Head) → records (map (moved (length words)) hs) (words ++ more) ≡ records hs more
 records-moved words more [] = refl
 records-moved words more (h ∷ hs) = λ i. record_at-moved words more h i ∷ records-moved words more hs i
+
+-- no record has more than 40 words
+few_words : (hs : List Head) (from end : ℕ) → Tiles from hs end → All IsHead hs → end ≤ from + 40 * length hs
+few_words [] from end t all = omega arith
+few_words (h ∷ hs) from end t all =
+    let small : IsHead h = all 0 h (omega arith) in
+    let a : h.line ≤ 4 = small.line in let b : h.user ≤ 4 = small.user in let d : h.remote ≤ 32 = small.remote in
+    let next : end ≤ from + size h + 40 * length hs = few_words hs (from + size h) end t.1 (λ k d l. all (suc k) d (omega arith)) in
+    omega arith
+
+pub Covers-few : (hs : List Head) (words : List ℕ) → Covers hs words → length words ≤ 40 * length hs
+Covers-few hs words c = omega (arith, few_words hs 0 (length words) c.tiles c.heads)
 
 -- the words of the head at a place
 pub Covers-get : (hs : List Head) (words : List ℕ) (k : ℕ) (h : Head) → Covers hs words → slice_get hs k ≡ Some h → h.start + size h ≤ length words

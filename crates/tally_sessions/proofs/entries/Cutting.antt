@@ -10,8 +10,7 @@ use Rattle.tally_sessions.specs.declared.entries.batches.StoredBatch.{StoredBatc
 use Rattle.tally_sessions.specs.declared.entry.Entry.{Entry}
 use Rattle.tally_sessions.specs.Hosts.{posted_by}
 use Rattle.tally_sessions.specs.inside.Stored.{AreMarked, IsMark, IsPlaced, all_of, count_before, entries_of}
-
-use Rattle.tally_sessions.proofs.entries.Stored.{all-last, all-split, before-le, before-more, front-of, length-entries_of}
+use Rattle.tally_sessions.proofs.entries.BatchLemmas.{all-last, all-split, before-le, before-more, front-of, length-entries_of}
 
 module _ (bs : List StoredBatch) (number count rest : ℕ) (b : StoredBatch) (there : number < length bs) (is : b ≡ get_or bs number b) (placed : IsPlaced bs number b) (from : b.first ≤ count) (left : rest ≡ count - b.first) (part : rest < b.count) where
   abbrev less : StoredBatch
@@ -27,7 +26,7 @@ module _ (bs : List StoredBatch) (number count rest : ℕ) (b : StoredBatch) (th
       let one : LoginRecord → Entry = λ r. record { host = b.host; item = r } in
       (λ i. take (at i) (split i)) ∙ take-append-add before (entries_of b ++ after) rest
       ∙ ap (λ (es : List Entry). before ++ es)
-        (take-append-le rest (entries_of b) after own ∙ take-map one rest (take b.count (arc_value b.records)) ∙ ap (map one) (front-of (arc_value b.records) rest b.count (omega (arith, part))))
+      (take-append-le rest (entries_of b) after own ∙ take-map one rest (take b.count (arc_value b.records)) ∙ ap (map one) (front-of (arc_value b.records) rest b.count (omega (arith, part))))
 
   -- the batches that are left: those before it, and the rest of it, if there is any
   module _ (bs' : List StoredBatch) (m : ℕ) (left_are : bs' ≡ take m (set bs number less)) (either : ((rest ≡ 0) × (m ≡ number)) ⊎ (m ≡ number + 1)) where
@@ -83,6 +82,7 @@ module _ (bs : List StoredBatch) (number count rest : ℕ) (b : StoredBatch) (th
           where
             long : length (take number bs) ≡ number
             long = length-take-le number bs (omega (arith, there))
+
             each : (k < number) ⊎ (number ≤ k) → IsPlaced bs' k (get_or bs' k d)
             each (inl within) =
                 let old = h.placed k d (omega (arith, within, there)) in
@@ -92,12 +92,14 @@ module _ (bs : List StoredBatch) (number count rest : ℕ) (b : StoredBatch) (th
                 let at : length (take number bs) ≡ k = omega (arith, after, lt, ap length some, length-append (take number bs) (less ∷ []), long) in
                 subst (IsPlaced bs' k) (sym (ap (λ (xs : List StoredBatch). get_or xs k d) some ∙ ap (λ (i : ℕ). get_or (take number bs ++ less ∷ []) i d) (sym at) ∙ get_or-append_seam (take number bs) less [] d))
                 (record { first = placed.first ∙ ap (count_before bs) (sym long ∙ at) ∙ sym (before-kept k (omega (arith, at, long))); stored = omega (arith, part, placed.stored) })
+
         at_most : (j : ℕ) → IsMark bs j (get_or ms j 0) → 16 * j < count → get_or ms j 0 ≤ number
         at_most j mark early = each (cases_lt number (get_or ms j 0))
           where
             each : (number < get_or ms j 0) ⊎ (get_or ms j 0 ≤ number) → get_or ms j 0 ≤ number
             each (inl more) = absurd (omega (arith, mark.early, early, to, before-more bs (number + 1) (get_or ms j 0) (omega (arith, more))))
             each (inr le) = le
+
         named : (mark : ℕ) → mark ≤ number → count_before bs mark < count → Left → mark < length bs'
         named mark le early (inl none) = each (cases_lt mark number)
           where

@@ -24,7 +24,7 @@ impl Track {
         requires track { spec.IsTrack host (entries_in entries) (length (entries_in entries)) self.now }
         ensures { result ≡ (spec.start_of (entries_in entries.entry) (spec.stay_at self.now.stays.items i)).user }
     {
-        entries.user(self.stays[i].entry as usize)
+        entries.record(self.stays[i].entry as usize).user()
     }
 
     /// Adds the lengths of the host's sessions. Each that is pending is the latest login on its line.

@@ -44,7 +44,12 @@ pub(crate) fn push_times(marks: &mut Vec<usize>, mark: usize, count: usize)
 }
 
 /// Keeps so many entries, the batch of the next of which has this number.
-pub(crate) fn cut(batches: &mut Vec<StoredBatch>, marks: &mut Vec<usize>, number: usize, count: usize)
+pub(crate) fn cut(
+    batches: &mut Vec<StoredBatch>,
+    marks: &mut Vec<usize>,
+    number: usize,
+    count: usize,
+)
     requires marked { AreMarked batches.old.items marks.old.items }
     requires of { IsBatchOf batches.old.items count number }
     ensures marked { AreMarked batches.new.items marks.new.items }

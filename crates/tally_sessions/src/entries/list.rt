@@ -1,20 +1,20 @@
 //! Stored login records and their hosts, each batch as it came.
 ghost use Rattle.std.specs.Arc.{arc_value};
-ghost use Rattle.std.specs.Prelude.{◌≡◌, ◌≤◌, ◌<◌, ◌+◌, ◌++◌, [], Some, length, slice_get, take, IsTrue, OnOk, OnErr, ◌↔◌};
-ghost use Rattle.tally_records.specs.Event.{event_of};
+ghost use Rattle.std.specs.Prelude.{◌≡◌, ◌≤◌, ◌<◌, ◌+◌, ◌++◌, [], length, slice_get, take, IsTrue, OnOk, OnErr, ◌↔◌};
 ghost use Rattle.tally_records.specs.Records.{IsLogins, logins_in, record_count};
-ghost use Rattle.tally_sessions.specs.inside.Entries.{AreOf, entry_at};
+ghost use Rattle.tally_sessions.specs.inside.Entries.{AreOf, IsRecordOf, entry_at, record_in};
 ghost use Rattle.tally_sessions.specs.inside.Stored.{Holds};
 ghost use Rattle.tally_sessions.specs.Hosts.{posted_by};
 
 use crate::entries::batches::{ENTRIES_FOR_A_MARK, StoredBatch, batch_of, cut, push_times};
+use crate::entries::stored::StoredRecord;
 use crate::entry::Entry;
 use crate::sessions::{ENTRY_LIMIT, HOST_LIMIT};
 use std::alloc::Global;
 use std::marker::Model;
 use std::ops::Deref;
 use std::sync::Arc;
-use tally_records::{Batch, Event, Key, LoginRecord, Logins, Memory, Name};
+use tally_records::{Batch, Logins, Memory};
 
 /// Stored entries, handed out.
 #[derive(Drop)]
@@ -75,13 +75,19 @@ impl EntryList {
         &batches[batch_of(batches, self.marks.as_slice(), at)]
     }
 
-    /// The records of the batch of the entry at a place, and its place among them.
-    fn part(&self, at: usize) -> (&Logins, usize)
+    /// The record of the entry at a place.
+    pub(crate) fn record(&self, at: usize) -> StoredRecord<'_>
         requires { at < length self.now }
-        ensures { slice_get result.0.now result.1 ≡ Some (entry_at self.now at).item }
+        ensures of { IsRecordOf self.now result }
+        ensures at { result.at ≡ at }
+        ensures is { record_in result ≡ (entry_at self.now at).item }
     {
         let batch = self.batch(at);
-        (batch.records.deref(), at - batch.first)
+        StoredRecord {
+            at,
+            records: batch.records.deref(),
+            place: at - batch.first,
+        }
     }
 
     /// The entry at a place, counted from 0.
@@ -93,7 +99,7 @@ impl EntryList {
         }
         Some(Entry {
             host: self.host(index),
-            item: self.record(index),
+            item: self.record(index).whole(),
         })
     }
 
@@ -116,60 +122,6 @@ impl EntryList {
         batch.first + batch.count
     }
 
-    /// When the record at a place was written.
-    pub(crate) fn time(&self, at: usize) -> i32
-        requires { at < length self.now }
-        ensures { result ≡ (entry_at self.now at).item.time }
-    {
-        let (records, place) = self.part(at);
-        records.time(place).unwrap()
-    }
-
-    /// The event of the record at a place.
-    pub(crate) fn event(&self, at: usize) -> Event
-        requires { at < length self.now }
-        ensures { result ≡ event_of (entry_at self.now at).item }
-    {
-        let (records, place) = self.part(at);
-        records.event(place).unwrap()
-    }
-
-    /// The line of the record at a place.
-    pub(crate) fn line_key(&self, at: usize) -> Key
-        requires { at < length self.now }
-        ensures { result ≡ (entry_at self.now at).item.line }
-    {
-        let (records, place) = self.part(at);
-        records.line_key(place).unwrap()
-    }
-
-    /// The user of the record at a place.
-    pub(crate) fn user_key(&self, at: usize) -> Key
-        requires { at < length self.now }
-        ensures { result ≡ (entry_at self.now at).item.user }
-    {
-        let (records, place) = self.part(at);
-        records.user_key(place).unwrap()
-    }
-
-    /// The record at a place.
-    pub(crate) fn record(&self, at: usize) -> LoginRecord
-        requires { at < length self.now }
-        ensures { result ≡ (entry_at self.now at).item }
-    {
-        let (records, place) = self.part(at);
-        records.get(place).unwrap()
-    }
-
-    /// The name of the user of the record at a place.
-    pub(crate) fn user(&self, at: usize) -> Name
-        requires { at < length self.now }
-        ensures { result ≡ (entry_at self.now at).item.user }
-    {
-        let (records, place) = self.part(at);
-        records.user(place).unwrap()
-    }
-
     /// Adds records as those of a host, or none.
     fn append(&mut self, host: u32, records: Arc<Logins, Global>) -> Result<(), Memory>
         requires room { length self.old + length (arc_value records) ≤ ENTRY_LIMIT }
@@ -182,7 +134,9 @@ impl EntryList {
             return Ok(());
         }
         let end = self.count + count;
-        let marks = end.div_ceil(ENTRIES_FOR_A_MARK).saturating_sub(self.marks.len());
+        let marks = end
+            .div_ceil(ENTRIES_FOR_A_MARK)
+            .saturating_sub(self.marks.len());
         self.marks.reserve(marks)?;
         self.batches.reserve(1)?;
         push_times(&mut self.marks, self.batches.len(), marks);

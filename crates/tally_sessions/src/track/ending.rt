@@ -3,13 +3,14 @@ ghost use Rattle.std.specs.Prelude.{◌≡◌, ◌≤◌, ◌<◌, ◌+◌, ◌^
 ghost use Rattle.tally_records.specs.Event.{event_of};
 ghost use Rattle.tally_records.specs.declared.login.Event.TheVariants.{Login};
 ghost use Rattle.tally_sessions.specs.declared.track.ending.Ending.{Ending as Ended};
-ghost use Rattle.tally_sessions.specs.inside.Entries.{entry_at};
+ghost use Rattle.tally_sessions.specs.inside.Entries.{IsRecordOf, entry_at};
 ghost use Rattle.tally_sessions.specs.Stays.{ends_stay};
 ghost use Rattle.std.specs.Map.{keys_of, lookup};
 ghost use Rattle.tally_sessions.specs.inside.Numbers.{StandsAt};
 ghost use Rattle.tally_sessions.specs.inside.Track as spec;
 
 use crate::entries::list::EntryList;
+use crate::entries::stored::StoredRecord;
 use crate::entry::End;
 use crate::sessions::ENTRY_LIMIT;
 use crate::track::ended::EndedSums;
@@ -80,23 +81,23 @@ fn ended_by(
     stay: TrackedStay,
     entries: &EntryList,
     clock: i64,
-    at: usize,
+    stored: StoredRecord<'_>,
     event: Event,
 ) -> TrackedStay
     requires placed { stay.entry < length entries.now }
-    requires at_in { at < length entries.now }
+    requires of { IsRecordOf entries.now stored }
     requires before { spec.IsWithin ENTRY_LIMIT stay.clock_at }
     requires now { spec.IsWithin ENTRY_LIMIT clock }
-    requires told { event ≡ event_of (entry_at entries.now at).item }
-    requires ends { ends_stay (spec.start_of entries.now stay) (entry_at entries.now at).item ≡ true }
-    ensures value { result ≡ spec.after entries.now clock (entry_at entries.now at).item stay }
+    requires told { event ≡ event_of (entry_at entries.now stored.at).item }
+    requires ends { ends_stay (spec.start_of entries.now stay) (entry_at entries.now stored.at).item ≡ true }
+    ensures value { result ≡ spec.after entries.now clock (entry_at entries.now stored.entry.at).item stay }
     ensures fits { spec.LengthFits stay → spec.LengthFits result }
 {
     if stay.ended.is_some() {
         return stay;
     }
-    let start = entries.time(stay.entry as usize);
-    let ended = Some(ending_at(start, clock - stay.clock_at, entries.time(at), event));
+    let start = entries.record(stay.entry as usize).time();
+    let ended = Some(ending_at(start, clock - stay.clock_at, stored.time(), event));
     TrackedStay { ended, ..stay }
 }
 
@@ -115,7 +116,7 @@ fn count(sums: &mut EndedSums, entries: &EntryList, before: TrackedStay, after: 
         return;
     }
     if let Some(ending) = after.ended {
-        if is_login(entries.event(before.entry as usize)) {
+        if is_login(entries.record(before.entry as usize).event()) {
             sums.add(before.user, ending.length());
         }
     }
@@ -128,24 +129,24 @@ fn end_stay(
     i: usize,
     entries: &EntryList,
     clock: i64,
-    at: usize,
+    stored: StoredRecord<'_>,
     event: Event,
 )
     requires i_in { i < length stays.old }
     requires few { length stays.old ≤ ENTRY_LIMIT }
     requires placed { (spec.stay_at stays.old i).entry < length entries.now }
-    requires at_in { at < length entries.now }
+    requires of { IsRecordOf entries.now stored }
     requires before { spec.IsWithin ENTRY_LIMIT (spec.stay_at stays.old i).clock_at }
     requires now { spec.IsWithin ENTRY_LIMIT clock }
-    requires told { event ≡ event_of (entry_at entries.now at).item }
-    requires ends { ends_stay (spec.start_of entries.now (spec.stay_at stays.old i)) (entry_at entries.now at).item ≡ true }
+    requires told { event ≡ event_of (entry_at entries.now stored.at).item }
+    requires ends { ends_stay (spec.start_of entries.now (spec.stay_at stays.old i)) (entry_at entries.now stored.at).item ≡ true }
     requires sums { spec.HasSums entries.now sums.old stays.old }
-    ensures stays { stays.new ≡ slice_set stays.old i (spec.after entries.now clock (entry_at entries.now at).item (spec.stay_at stays.old i)) }
+    ensures stays { stays.new ≡ slice_set stays.old i (spec.after entries.now clock (entry_at entries.now stored.entry.at).item (spec.stay_at stays.old i)) }
     ensures sums { spec.HasSums entries.now sums.new stays.new }
     ensures spare { sums.new.users.spare ≡ sums.old.users.spare }
 {
     let before = stays[i];
-    let after = ended_by(before, entries, clock, at, event);
+    let after = ended_by(before, entries, clock, stored, event);
     count(sums, entries, before, after);
     stays[i] = after;
 }
@@ -157,24 +158,24 @@ fn sweep(
     from: usize,
     entries: &EntryList,
     clock: i64,
-    at: usize,
+    stored: StoredRecord<'_>,
     event: Event,
 )
     requires from_in { from ≤ length stays.old }
     requires few { length stays.old ≤ ENTRY_LIMIT }
     requires placed { spec.ArePlaced (length entries.now) stays.old }
-    requires at_in { at < length entries.now }
+    requires of { IsRecordOf entries.now stored }
     requires now { spec.IsWithin ENTRY_LIMIT clock }
-    requires told { event ≡ event_of (entry_at entries.now at).item }
-    requires ends { (k : ℕ) → k < length stays.old → ends_stay (spec.start_of entries.now (spec.stay_at stays.old k)) (entry_at entries.now at).item ≡ true }
-    requires ended { (k : ℕ) → k < from → spec.after entries.now clock (entry_at entries.now at).item (spec.stay_at stays.old k) ≡ spec.stay_at stays.old k }
+    requires told { event ≡ event_of (entry_at entries.now stored.at).item }
+    requires ends { (k : ℕ) → k < length stays.old → ends_stay (spec.start_of entries.now (spec.stay_at stays.old k)) (entry_at entries.now stored.at).item ≡ true }
+    requires ended { (k : ℕ) → k < from → spec.after entries.now clock (entry_at entries.now stored.at).item (spec.stay_at stays.old k) ≡ spec.stay_at stays.old k }
     requires sums { spec.HasSums entries.now sums.old stays.old }
-    ensures stays { stays.new ≡ map (spec.after entries.now clock (entry_at entries.now at).item) stays.old }
+    ensures stays { stays.new ≡ map (spec.after entries.now clock (entry_at entries.now stored.entry.at).item) stays.old }
     ensures sums { spec.HasSums entries.now sums.new stays.new }
     ensures spare { sums.new.users.spare ≡ sums.old.users.spare }
 {
     for i in from..stays.len() {
-        end_stay(stays, sums, i, entries, clock, at, event);
+        end_stay(stays, sums, i, entries, clock, stored, event);
     }
 }
 
@@ -185,28 +186,28 @@ pub(crate) fn end_pending(
     swept: usize,
     latest: Option<u64>,
     entries: &EntryList,
-    at: usize,
+    stored: StoredRecord<'_>,
     clock: i64,
     event: Event,
 )
     requires swept_in { swept ≤ length stays.old }
-    requires at_in { at < length entries.now }
+    requires of { IsRecordOf entries.now stored }
     requires few { length entries.now ≤ ENTRY_LIMIT }
     requires few_stays { length stays.old ≤ ENTRY_LIMIT }
-    requires tracked { (lines : List (List ℕ × ℕ)) × spec.AreTracked entries.now at lines swept stays.old
-        × (spec.ends_line_stay event ≡ true → latest ≡ lookup (bytes_eq (entry_at entries.now at).item.line) lines) }
+    requires tracked { (lines : List (List ℕ × ℕ)) × spec.AreTracked entries.now stored.at lines swept stays.old
+        × (spec.ends_line_stay event ≡ true → latest ≡ lookup (bytes_eq (entry_at entries.now stored.at).item.line) lines) }
     requires now { spec.IsWithin ENTRY_LIMIT clock }
-    requires told { event ≡ event_of (entry_at entries.now at).item }
+    requires told { event ≡ event_of (entry_at entries.now stored.at).item }
     requires sums { spec.HasSums entries.now sums.old stays.old }
-    ensures stays { stays.new ≡ map (spec.after entries.now clock (entry_at entries.now at).item) stays.old }
+    ensures stays { stays.new ≡ map (spec.after entries.now clock (entry_at entries.now stored.entry.at).item) stays.old }
     ensures sums { spec.HasSums entries.now sums.new stays.new }
     ensures spare { sums.new.users.spare ≡ sums.old.users.spare }
 {
     if ends_every(event) {
-        sweep(stays, sums, swept, entries, clock, at, event);
+        sweep(stays, sums, swept, entries, clock, stored, event);
     } else if ends_line(event) {
         if let Some(i) = latest {
-            end_stay(stays, sums, i as usize, entries, clock, at, event);
+            end_stay(stays, sums, i as usize, entries, clock, stored, event);
         }
     }
 }

@@ -36,7 +36,7 @@ impl Track {
         match stay.ended {
             Some(ended) => ended,
             None => {
-                let start = entries.time(stay.entry as usize);
+                let start = entries.record(stay.entry as usize).time();
                 still(start, self.clock - stay.clock_at, time)
             }
         }
@@ -51,17 +51,18 @@ impl Track {
         ensures fits { result.length < 2 ^ 32 }
     {
         let stay = self.stays[i];
+        let record = entries.record(stay.entry as usize);
         let LoginRecord {
             kind: _,
             line,
             user,
             remote,
             time: start,
-        } = entries.record(stay.entry as usize);
+        } = record.whole();
         let ending = self.ending(entries, stay, time);
         Stay {
             host,
-            is_boot: is_boot(entries.event(stay.entry as usize)),
+            is_boot: is_boot(record.event()),
             user,
             line,
             remote,
@@ -112,13 +113,13 @@ impl Track {
         ensures none { IfNone result (sessions_among (spec.stay_now host (entries_in entries.entry) self.now.clock (unwrap_or until self.now.last) (spec.stay_at self.now.stays.items i) ∷ []) ≡ []) }
     {
         let stay = self.stays[i];
-        let at = stay.entry as usize;
-        if !is_login(entries.event(at)) {
+        let ending = self.ending(entries, stay, self.time_now(until));
+        let record = entries.record(stay.entry as usize);
+        if !is_login(record.event()) {
             return None;
         }
-        let ending = self.ending(entries, stay, self.time_now(until));
         Some(Session {
-            user: entries.user(at),
+            user: record.user(),
             begin: ending.begin,
             end_time: ending.end_time,
         })

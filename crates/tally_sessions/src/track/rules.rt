@@ -64,9 +64,10 @@ pub(crate) fn is_counted(entries: Entries<'_>, at: usize, who: &Option<Key>) -> 
     requires { at < length (entries_in entries) }
     ensures { result ≡ counts who.now (entry_at (entries_in entries.entry) at).item }
 {
-    is_login(entries.event(at))
+    let record = entries.record(at);
+    is_login(record.event())
         && match who {
-            Some(user) => entries.user_key(at) == *user,
+            Some(user) => record.user_key() == *user,
             None => true,
         }
 }

@@ -2,7 +2,7 @@ use Rattle.std.proofs.Common.{◌≡◌, ◌≤◌, ◌<◌, ◌+◌, ◌-◌, �
 use Rattle.std.proofs.lemmas.Grind.{div_ceil_times}
 use Rattle.tally_sessions.specs.declared.entries.batches.StoredBatch.{StoredBatch}
 use Rattle.tally_sessions.specs.inside.Stored.{AreMarked, IsPlaced, all_of}
-use Rattle.tally_sessions.proofs.entries.Stored.{batch-from, batch-to}
+use Rattle.tally_sessions.proofs.entries.BatchLemmas.{batch-from, batch-to}
 use Rattle.tally_sessions.proofs.entries.Cutting.{cut-all, cut-marked}
 use Rattle.tally_sessions.proofs.entries.batches.cut.Goals.{then-batch-eq0, else-batch-eq0}
 use Rattle.tally_sessions.proofs.entries.batches.cut.Goals as goal
@@ -23,8 +23,8 @@ after c =
     elim c.if-batch-eq0.branch [ then-batch-eq0 w ↦ inl (w.if-batch-eq0.true, w.kept-is) | else-batch-eq0 w ↦ inr w.kept-is ] in
     let marks = div_ceil_times n 16 (omega arith) in (
       cut-marked bs k n (n - b.first) b of.names is placed from refl part c.truncate.new.self.items c.if-batch-eq0.kept c.truncate.ensures.items kept
-      c.args.marks.now.items c.truncate-2.new.self.items c.div_ceil.result c.requires.marked of.to c.truncate-2.ensures.items
-      (omega (arith, marks, c.div_ceil.ensures)) (omega (arith, marks, c.div_ceil.ensures)),
+          c.args.marks.now.items c.truncate-2.new.self.items c.div_ceil.result c.requires.marked of.to c.truncate-2.ensures.items
+          (omega (arith, marks, c.div_ceil.ensures)) (omega (arith, marks, c.div_ceil.ensures)),
       cut-all bs k n (n - b.first) b of.names is placed from refl part c.truncate.new.self.items c.if-batch-eq0.kept c.truncate.ensures.items kept,
     )
 

@@ -1,4 +1,4 @@
-use Rattle.std.proofs.Common.{rules, to_z, of_z, Some, unwrap_or, ◌≡◌, inl, inr, ◌+◌, ◌≤◌, length, ◌∙◌, ℤ, ◌+ℤ◌, map, sym, ap, subst, arith}
+use Rattle.std.proofs.Common.{rules, to_z, of_z, Some, unwrap_or, ◌≡◌, inl, inr, ◌+◌, ◌≤◌, length, ◌∙◌, ◌++◌, ℤ, ◌+ℤ◌, map, sym, ap, subst, arith}
 use Rattle.std.specs.Vec.{vec_len, vec_capacity}
 use Rattle.std.proofs.lemmas.List.{length-map}
 use Rattle.tally_sessions.specs.declared.track.ended.EndedSums.{EndedSums}
@@ -7,13 +7,14 @@ use Rattle.std.specs.Int.{w32}
 use Rattle.std.specs.Prelude.{FitsSigned}
 use Rattle.tally_sessions.proofs.track.Lengths.{held}
 use Rattle.tally_records.specs.declared.login.Event.{Event}
+use Rattle.tally_records.specs.declared.login.LoginRecord.{LoginRecord}
 use Rattle.tally_records.specs.declared.login.Event.TheVariants.{Login}
 use Rattle.tally_records.specs.Event.{event_of}
 use Rattle.tally_sessions.specs.Clock.{shift_at}
 use Rattle.tally_sessions.specs.inside.Tracking.{pending_at}
-use Rattle.tally_sessions.specs.inside.Entries.{entry_at}
+use Rattle.tally_sessions.specs.inside.Entries.{entry_at, record_in}
 use Rattle.tally_sessions.specs.inside.Numbers.{Numbers, StandsAt}
-use Rattle.tally_sessions.specs.inside.Track.{after, ends_every_stay, CanStart, HasSums, IsTrack, IsWithin, LeadsTo}
+use Rattle.tally_sessions.specs.inside.Track.{after, ends_every_stay, started_by, CanStart, HasSums, IsTrack, IsWithin, LeadsTo}
 use Rattle.tally_sessions.specs.declared.track.Track.{Track}
 use Rattle.tally_sessions.proofs.track.TrackAdvance.{IsTrack-step, CanStart-swept}
 use Rattle.tally_sessions.proofs.track.TrackedAdvance.{IsWithin-all}
@@ -25,56 +26,62 @@ returns-clause-after c =
     let l = c.latest_on_line-latest.ensures in
     let t = c.tick.ensures in
     let es = c.args.entries.now in
-    let n = c.args.at in
+    let n = c.args.stored.at in
+    let x : record_in c.args.stored ≡ (entry_at es n).item = c.requires.of.is in
+    let event : c.event-event.result ≡ event_of (entry_at es n).item = c.event-event.ensures ∙ ap event_of x in
     let lined : Track = c.latest_on_line-latest.new.self in
     let old : c.args.self.now ≡ record lined { lines = c.args.self.now.lines } = λ i. record (sym l.rest i) { lines = c.args.self.now.lines } in
     let before = subst (IsTrack (entry_at es n).host es n) old c.requires.before in
     let within : IsWithin (n + 1) c.tick.new.self.clock = t.moved n before.moved in
     let low = within.low in
     let high = within.high in
-    let same : held c.tick.new.self.clock ≡ c.tick.new.self.clock = omega (arith, ints, c.requires.at_in, c.requires.few) in
-    let leads = subst (λ k. LeadsTo c.args.self.now.lines.entries lined.lines.entries (entry_at es n).item k) (ap (λ (a : Track). vec_len a.stays) (sym l.rest)) l.lines in
+    let same : held c.tick.new.self.clock ≡ c.tick.new.self.clock = omega (arith, ints, c.requires.of.within, c.requires.few) in
+    let leads =
+    subst (λ k. LeadsTo c.args.self.now.lines.entries lined.lines.entries (entry_at es n).item k) (ap (λ (a : Track). vec_len a.stays) (sym l.rest))
+    (subst (λ r. LeadsTo c.args.self.now.lines.entries lined.lines.entries r (vec_len c.args.self.now.stays)) x l.lines) in
     let ended : c.end_pending.new.stays ≡ map (after es c.tick.new.self.clock (entry_at es n).item) lined.stays.items =
     c.end_pending.ensures.stays
     ∙ ap (λ (z : ℤ). map (after es z (entry_at es n).item) c.deref_mut.result.now) same
     ∙ ap (map (after es c.tick.new.self.clock (entry_at es n).item)) c.deref_mut.ensures.value
     ∙ ap (λ v. map (after es c.tick.new.self.clock (entry_at es n).item) v.items) t.stays in
     let time_fits : FitsSigned w32 c.time.result = search rules in
-    let time : to_z w32 (of_z w32 c.time.result) ≡ (entry_at es n).item.time = to_z-of_z w32 c.time.result time_fits ∙ c.time.ensures in
-    let clock_is = t.clock ∙ ap (λ (z : ℤ). lined.clock +ℤ shift_at c.event-event.result lined.old_time z) time ∙ ap (λ (e : Event). lined.clock +ℤ shift_at e lined.old_time (entry_at es n).item.time) c.event-event.ensures in
-    let old_time_is = t.old_time ∙ ap (λ (z : ℤ). pending_at c.event-event.result z lined.old_time) time ∙ ap (λ (e : Event). pending_at e (entry_at es n).item.time lined.old_time) c.event-event.ensures in
+    let time : to_z w32 (of_z w32 c.time.result) ≡ (entry_at es n).item.time = to_z-of_z w32 c.time.result time_fits ∙ c.time.ensures ∙ ap (λ (r : LoginRecord). r.time) x in
+    let clock_is = t.clock ∙ ap (λ (z : ℤ). lined.clock +ℤ shift_at c.event-event.result lined.old_time z) time ∙ ap (λ (e : Event). lined.clock +ℤ shift_at e lined.old_time (entry_at es n).item.time) event in
+    let old_time_is = t.old_time ∙ ap (λ (z : ℤ). pending_at c.event-event.result z lined.old_time) time ∙ ap (λ (e : Event). pending_at e (entry_at es n).item.time lined.old_time) event in
     let ended_sums : HasSums es c.end_pending.new.sums c.end_pending.new.stays = c.end_pending.ensures.sums in
     let started = c.start.ensures.stays in
-    let entered : event_of (entry_at es n).item ≡ Login → StandsAt c.start.new.self.sums.users started.0 (entry_at es n).item.user = λ login. started.2 (c.event-event.ensures ∙ login) in
+    let started_is = started.1 ∙ ap (λ (r : LoginRecord). c.if-ends_every.self.stays.items ++ started_by r n c.if-ends_every.self.clock started.0) x in
+    let entered : event_of (entry_at es n).item ≡ Login → StandsAt c.start.new.self.sums.users started.0 (entry_at es n).item.user =
+    λ login. subst (λ (r : LoginRecord). StandsAt c.start.new.self.sums.users started.0 r.user) x (started.2 (event ∙ login)) in
     elim c.if-ends_every.branch [
       | then-ends_every w ↦
-          IsTrack-step es n c.args.self.now.lines lined c.tick.new.self c.if-ends_every.self c.start.new.self c.end_pending.new.stays c.end_pending.new.sums _ started.0 c.requires.at_in before leads clock_is t.moved old_time_is (t.first ∙ ap (λ (z : ℤ). Some (unwrap_or lined.first z)) time) (t.last ∙ time) t.lines t.stays
-          ended w.self-is (inr (w.len-self.ensures ∙ ap (λ v. v.len) t.stays ∙ lined.stays.ok.0, ap ends_every_stay (sym c.event-event.ensures) ∙ sym c.ends_every.ensures ∙ w.if-ends_every.true)) started.1 c.start.ensures.rest
+          IsTrack-step es n c.args.self.now.lines lined c.tick.new.self c.if-ends_every.self c.start.new.self c.end_pending.new.stays c.end_pending.new.sums _ started.0 c.requires.of.within before leads clock_is t.moved old_time_is (t.first ∙ ap (λ (z : ℤ). Some (unwrap_or lined.first z)) time) (t.last ∙ time) t.lines t.stays
+          ended w.self-is (inr (w.len-self.ensures ∙ ap (λ v. v.len) t.stays ∙ lined.stays.ok.0, ap ends_every_stay (sym event) ∙ sym c.ends_every.ensures ∙ w.if-ends_every.true)) started_is c.start.ensures.rest
           ended_sums c.start.ensures.sums c.start.ensures.kept entered c.start.ensures.few_users
       | else-ends_every w ↦
-          IsTrack-step es n c.args.self.now.lines lined c.tick.new.self c.if-ends_every.self c.start.new.self c.end_pending.new.stays c.end_pending.new.sums _ started.0 c.requires.at_in before leads clock_is t.moved old_time_is (t.first ∙ ap (λ (z : ℤ). Some (unwrap_or lined.first z)) time) (t.last ∙ time) t.lines t.stays
-          ended w.self-is (inl t.swept) started.1 c.start.ensures.rest
+          IsTrack-step es n c.args.self.now.lines lined c.tick.new.self c.if-ends_every.self c.start.new.self c.end_pending.new.stays c.end_pending.new.sums _ started.0 c.requires.of.within before leads clock_is t.moved old_time_is (t.first ∙ ap (λ (z : ℤ). Some (unwrap_or lined.first z)) time) (t.last ∙ time) t.lines t.stays
+          ended w.self-is (inl t.swept) started_is c.start.ensures.rest
           ended_sums c.start.ensures.sums c.start.ensures.kept entered c.start.ensures.few_users
     ]
 
 pub end_pending-requires-clause-now : goal.end_pending-requires-clause-now
 end_pending-requires-clause-now c =
-    let moved : IsWithin c.args.at c.latest_on_line-latest.new.self.clock = subst (IsWithin c.args.at) (ap (λ (a : Track). a.clock) (sym c.latest_on_line-latest.ensures.rest)) c.requires.before.moved in
-    let within : IsWithin (c.args.at + 1) c.tick.new.self.clock = c.tick.ensures.moved c.args.at moved in
+    let moved : IsWithin c.args.stored.at c.latest_on_line-latest.new.self.clock = subst (IsWithin c.args.stored.at) (ap (λ (a : Track). a.clock) (sym c.latest_on_line-latest.ensures.rest)) c.requires.before.moved in
+    let within : IsWithin (c.args.stored.at + 1) c.tick.new.self.clock = c.tick.ensures.moved c.args.stored.at moved in
     let low = within.low in
     let high = within.high in
-    let same : held c.tick.new.self.clock ≡ c.tick.new.self.clock = omega (arith, ints, c.requires.at_in, c.requires.few) in
-    subst (IsWithin 1048576) (sym same) (IsWithin-all (c.args.at + 1) 1048576 c.tick.new.self.clock (omega (arith, c.requires.at_in, c.requires.few)) within)
+    let same : held c.tick.new.self.clock ≡ c.tick.new.self.clock = omega (arith, ints, c.requires.of.within, c.requires.few) in
+    subst (IsWithin 1048576) (sym same) (IsWithin-all (c.args.stored.at + 1) 1048576 c.tick.new.self.clock (omega (arith, c.requires.of.within, c.requires.few)) within)
 
 pub start-requires-clause-users : goal.start-requires-clause-users
 start-requires-clause-users c =
     let l = c.latest_on_line-latest.ensures in
     let few = c.end_pending.ensures.sums.few in
-    let ended = ap length c.end_pending.ensures.stays ∙ length-map c.deref_mut.result.now (after c.args.entries.now (held c.tick.new.self.clock) (entry_at c.args.entries.now c.args.at).item) in
+    let ended = ap length c.end_pending.ensures.stays ∙ length-map c.deref_mut.result.now (after c.args.entries.now (held c.tick.new.self.clock) (entry_at c.args.entries.now c.args.stored.at).item) in
     let stays = ap length c.deref_mut.ensures.value ∙ ap (λ v. length v.items) (c.tick.ensures.stays ∙ ap (λ (a : Track). a.stays) l.rest) in
     elim c.if-ends_every.branch [
-      | then-ends_every w ↦ omega (arith, few, ended, stays, c.requires.before.count, c.requires.at_in, c.requires.few, ap (λ (a : Track). length a.sums.users.entries) w.self-is)
-      | else-ends_every w ↦ omega (arith, few, ended, stays, c.requires.before.count, c.requires.at_in, c.requires.few, ap (λ (a : Track). length a.sums.users.entries) w.self-is)
+      | then-ends_every w ↦ omega (arith, few, ended, stays, c.requires.before.count, c.requires.of.within, c.requires.few, ap (λ (a : Track). length a.sums.users.entries) w.self-is)
+      | else-ends_every w ↦ omega (arith, few, ended, stays, c.requires.before.count, c.requires.of.within, c.requires.few, ap (λ (a : Track). length a.sums.users.entries) w.self-is)
     ]
 
 pub returns-clause-room_left : goal.returns-clause-room_left

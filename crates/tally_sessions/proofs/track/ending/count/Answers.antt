@@ -9,7 +9,7 @@ pub returns-then-is_login-clause-sums : goal.returns-then-is_login-clause-sums
 returns-then-is_login-clause-sums c who =
     let es = c.args.entries.now in
     let before = c.args.before in
-    let login : is_login_event (event_of (start_of es before)) ≡ true = ap is_login_event (sym c.event.ensures) ∙ sym c.is_login.ensures ∙ c.if-is_login.true in
+    let login : is_login_event (event_of (start_of es before)) ≡ true = ap is_login_event (sym (c.event.ensures ∙ ap event_of c.record.ensures.is)) ∙ sym c.is_login.ensures ∙ c.if-is_login.true in
     let there = c.requires.entered (is_login_of_event (event_of (start_of es before)) login) in
     let pending : before.ended ≡ None = none_from before.ended (sym c.is_some.ensures ∙ c.if-is_some.false) in
     counted who es before c.in-Some.ending (sum_of c.args.sums.now who) (sum_of c.add.new.self who) login pending

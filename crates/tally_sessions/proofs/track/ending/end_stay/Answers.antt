@@ -19,12 +19,12 @@ count-requires-clause-room c who =
 
 pub count-requires-clause-keeps : goal.count-requires-clause-keeps
 count-requires-clause-keeps c e h =
-    ap (λ (t : TrackedStay). t.ended) c.ended_by-after.ensures.value ∙ after-keeps c.args.entries.now (held c.args.clock) (entry_at c.args.entries.now c.args.at).item (stay_at c.args.stays.now c.args.i) e h
+    ap (λ (t : TrackedStay). t.ended) c.ended_by-after.ensures.value ∙ after-keeps c.args.entries.now (held c.args.clock) (entry_at c.args.entries.now c.args.stored.at).item (stay_at c.args.stays.now c.args.i) e h
 
 pub returns-clause-stays : goal.returns-clause-stays
 returns-clause-stays c =
     let same = to_z-of_z w64 c.args.clock c.ranges.clock in
-    ap (λ t. set c.args.stays.now c.args.i t) (c.ended_by-after.ensures.value ∙ ap (λ (z : ℤ). after c.args.entries.now z (entry_at c.args.entries.now c.args.at).item (stay_at c.args.stays.now c.args.i)) same)
+    ap (λ t. set c.args.stays.now c.args.i t) (c.ended_by-after.ensures.value ∙ ap (λ (z : ℤ). after c.args.entries.now z (entry_at c.args.entries.now c.args.stored.at).item (stay_at c.args.stays.now c.args.i)) same)
 
 pub returns-clause-sums : goal.returns-clause-sums
 returns-clause-sums c =

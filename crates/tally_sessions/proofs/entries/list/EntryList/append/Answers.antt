@@ -3,7 +3,7 @@ use Rattle.std.proofs.lemmas.Grind.{div_ceil_times}
 use Rattle.std.specs.Arc.{arc_value}
 use Rattle.tally_sessions.specs.declared.entries.batches.StoredBatch.{StoredBatch}
 use Rattle.tally_sessions.specs.inside.Stored.{AreMarked, all_of, entries_of}
-use Rattle.tally_sessions.proofs.entries.Stored.{all-last, length-entries_of, one-more}
+use Rattle.tally_sessions.proofs.entries.BatchLemmas.{all-last, length-entries_of, one-more}
 use Rattle.tally_sessions.proofs.entries.list.EntryList.append.Goals as goal
 
 pub invariant_of-self-2 : goal.invariant_of-self-2

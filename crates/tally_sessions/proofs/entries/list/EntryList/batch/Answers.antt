@@ -2,7 +2,7 @@ use Rattle.std.proofs.Common.{◌≡◌, List, get_or, ap, sym, subst, ◌∙◌
 use Rattle.tally_sessions.specs.declared.entries.batches.StoredBatch.{StoredBatch}
 use Rattle.tally_sessions.specs.declared.entry.Entry.{Entry}
 use Rattle.tally_sessions.specs.inside.Stored.{Holds, IsBatchOf, IsPlaced, all_of}
-use Rattle.tally_sessions.proofs.entries.Stored.{placed-holds}
+use Rattle.tally_sessions.proofs.entries.BatchLemmas.{placed-holds}
 use Rattle.tally_sessions.proofs.entries.list.EntryList.batch.Goals as goal
 
 here : (c : goal.After-index-batches-batch_of) → Holds (all_of c.self.inside.batches.items) c.index-batches-batch_of.result

@@ -110,6 +110,7 @@ one-more bs ms b number n h last first fits reach = record {
         let at : length bs ≡ k = omega (arith, new, lt, length-append bs (b ∷ [])) in
         subst (λ (i : ℕ). IsPlaced (bs ++ b ∷ []) i (get_or (bs ++ b ∷ []) i d)) at
         (subst (IsPlaced (bs ++ b ∷ []) (length bs)) (sym (get_or-append_seam bs b [] d)) (record { first = first ∙ sym (last-before bs b); stored = fits }))
+
     marked : (j : ℕ) → j < length (ms ++ replicate n number) → (j < length ms) ⊎ (length ms ≤ j) → IsMark (bs ++ b ∷ []) j (get_or (ms ++ replicate n number) j 0)
     marked j lt (inl old) =
         let old_is = h.mark j old in
