@@ -209,8 +209,8 @@ impl Book {
         })
     }
 
-    /// Sees that the sessions of what is stored are kept, by so many threads at most, so that no question has to wait
-    /// for them. No contract sees it.
+    /// Counts the sessions of what is stored by so many threads at most, so that no question has to wait for that. What the book
+    /// holds stays the same, also where memory is refused.
     pub fn count_sessions<R: Threads + Sync>(
         &mut self,
         rt: &R,

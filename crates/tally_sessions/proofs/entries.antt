@@ -1,4 +1,4 @@
 -- Stored entries.
 pub mod BatchLemmas
-pub mod Cutting
+pub mod Front
 pub mod Lending

@@ -1,6 +1,7 @@
 //! Sessions of login records: what ends each, how long it was, and what clock changes move.
 //!
-//! `entries` keeps the records: `list` stores them in batches, `batches` finds that of a place, `iter` goes over them.
+//! `entries` keeps the records: `list` stores them in batches, `batches` finds that of a place, `stored` is one of them as it
+//! is kept, `reads` reads it, `iter` goes over all.
 //! `track` goes forward over those of one host: `rules` says what a record means, `ending` ends stays, `ended` sums those that have ended, `name_table`
 //! finds lines and users, `questions` answers. `connect` has the rows of connect time: `walk` goes over all
 //! sessions, `user_sums` sums by user, `day_sums` by day, `day_user_rows` by both; `sums` is what rows and tracks

@@ -9,31 +9,32 @@ use Rattle.std.specs.Prelude.{bytes_eq, slice_get, sum_by}
 use Rattle.std.proofs.lemmas.Map.Entries.{length-keys_of}
 use Rattle.tally_records.specs.declared.login.Event.TheVariants.{Login}
 use Rattle.tally_records.specs.Event.{event_of}
+use Rattle.tally_records.specs.declared.login.LoginRecord.{LoginRecord}
 use Rattle.tally_sessions.specs.declared.entry.Entry.{Entry}
 use Rattle.tally_sessions.specs.declared.track.ended.EndedSums.{EndedSums}
 use Rattle.tally_sessions.specs.declared.track.ending.Ending.{Ending}
 use Rattle.tally_sessions.specs.declared.track.ending.TrackedStay.{TrackedStay}
 use Rattle.tally_sessions.specs.inside.Entries.{entry_at}
-use Rattle.tally_sessions.specs.inside.Track.{length_of, no_stay, stay_at, start_of, counts, ended_length, ended_sum, covers, is_login_event, sum_of, started, HasSums, HasUser, LengthFits}
+use Rattle.tally_sessions.specs.inside.Track.{length_of, no_stay, stay_at, start_of, counts, ended_from, ended_length, ended_sum, covers, is_login_event, sum_of, started, HasSums, HasUser, LengthFits}
 use Rattle.tally_sessions.specs.inside.Numbers.{StandsAt}
 use Rattle.tally_sessions.specs.Stays.{starts_stay}
 use Rattle.tally_sessions.proofs.track.Places.{each-push}
 
 -- a login's stay that has ended counts for its user and for all
-pub counted : (who : Option (List ℕ)) (es : List Entry) (before : TrackedStay) (ending : Ending) (n n' : ℕ) → is_login_event (event_of (start_of es before)) ≡ true → before.ended ≡ None
-    → n' ≡ n + (if covers who (start_of es before).user then length_of ending else 0) → n' + ended_length who es before ≡ n + ended_length who es (record before { ended = Some ending })
-counted who es before ending n n' login pending more =
-    let nothing : ended_length who es before ≡ 0 = ap (λ o. ended_length who es (record before { ended = o })) pending ∙ none (counts who (start_of es before)) in
-    let own : ended_length who es (record before { ended = Some ending }) ≡ (if covers who (start_of es before).user then length_of ending else 0) = ap (λ b. cond b (length_of ending) 0) (alike who) in
+pub counted : (who : Option (List ℕ)) (start : LoginRecord) (before : TrackedStay) (ending : Ending) (n n' : ℕ) → is_login_event (event_of start) ≡ true → before.ended ≡ None
+    → n' ≡ n + (if covers who start.user then length_of ending else 0) → n' + ended_from who start before ≡ n + ended_from who start (record before { ended = Some ending })
+counted who start before ending n n' login pending more =
+    let nothing : ended_from who start before ≡ 0 = ap (λ o. ended_from who start (record before { ended = o })) pending ∙ none (counts who start) in
+    let own : ended_from who start (record before { ended = Some ending }) ≡ (if covers who start.user then length_of ending else 0) = ap (λ b. cond b (length_of ending) 0) (alike who) in
     omega (arith, more, nothing, own)
   where
     none : (b : Bool) → ◌≡◌ {A = ℕ} (cond b 0 0) 0
     none true = refl
     none false = refl
 
-    alike : (who : Option (List ℕ)) → counts who (start_of es before) ≡ covers who (start_of es before).user
+    alike : (who : Option (List ℕ)) → counts who start ≡ covers who start.user
     alike None = login
-    alike (Some user) = ap (λ b. b && bytes_eq (start_of es before).user user) login
+    alike (Some user) = ap (λ b. b && bytes_eq start.user user) login
 
 -- tables of the same names are as long
 pub same_length : (xs ys : List (List ℕ × ℕ)) → keys_of ys ≡ keys_of xs → length ys ≡ length xs

@@ -13,7 +13,7 @@ use Rattle.tally_sessions.specs.declared.entry.Entry.{Entry}
 use Rattle.tally_sessions.specs.declared.track.ending.Ending.{Ending}
 use Rattle.tally_sessions.specs.declared.track.ending.TrackedStay.{TrackedStay}
 use Rattle.tally_sessions.specs.Stays.{ends_event, ends_stay, starts_stay}
-use Rattle.tally_sessions.specs.inside.Track.{is_login_event, stay_at, start_of, ending_of, end_if, after, ends_line_stay, ended_with, tracked_in, IsTracked, AreTracked}
+use Rattle.tally_sessions.specs.inside.Track.{is_login_event, stay_at, start_of, ending_of, end_if, after, after_from, ends_line_stay, ended_with, tracked_in, IsTracked, AreTracked}
 use Rattle.tally_sessions.specs.inside.Tracking.{Tracked, advanced, advance_if, ended_by}
 
 -- an option without a value
@@ -49,17 +49,17 @@ tracked_in-after host es now x t = by t.ended
     by None = pending (ends_stay (start_of es t) x)
 
 -- a pending stay that is closed
-pub after-closes : (es : List Entry) (now : ℤ) (x : LoginRecord) (t : TrackedStay) (at : ℤ) (ending : Ending) → is_some t.ended ≡ false → ends_stay (start_of es t) x ≡ true → at ≡ t.clock_at
-    → ending ≡ ending_of (start_of es t) (now -ℤ t.clock_at) x → record { entry = t.entry; clock_at = at; ended = Some ending; user = t.user } ≡ after es now x t
-after-closes es now x t at ending pending ends same is = by t.ended pending
+pub after-closes : (start : LoginRecord) (now : ℤ) (x : LoginRecord) (t : TrackedStay) (at : ℤ) (ending : Ending) → is_some t.ended ≡ false → ends_stay start x ≡ true → at ≡ t.clock_at
+    → ending ≡ ending_of start (now -ℤ t.clock_at) x → record { entry = t.entry; clock_at = at; ended = Some ending; user = t.user } ≡ after_from start now x t
+after-closes start now x t at ending pending ends same is = by t.ended pending
   where
     by : (e : Option Ending) → is_some e ≡ false
-        → record { entry = t.entry; clock_at = at; ended = Some ending; user = t.user } ≡ record t { ended = option_or e (end_if (ends_stay (start_of es t) x) (ending_of (start_of es t) (now -ℤ t.clock_at) x)) }
+        → record { entry = t.entry; clock_at = at; ended = Some ending; user = t.user } ≡ record t { ended = option_or e (end_if (ends_stay start x) (ending_of start (now -ℤ t.clock_at) x)) }
     by (Some e) h = absurd (false≢true (sym h))
     by None h =
         ap (λ (z : ℤ). record { entry = t.entry; clock_at = z; ended = Some ending; user = t.user }) same
         ∙ ap (λ (e : Ending). record t { ended = Some e }) is
-        ∙ ap (λ b. record t { ended = end_if b (ending_of (start_of es t) (now -ℤ t.clock_at) x) }) (sym ends)
+        ∙ ap (λ b. record t { ended = end_if b (ending_of start (now -ℤ t.clock_at) x) }) (sym ends)
 
 -- a stay that has ended
 pub after-ended : (es : List Entry) (now : ℤ) (x : LoginRecord) (t : TrackedStay) → IsSome t.ended → after es now x t ≡ t

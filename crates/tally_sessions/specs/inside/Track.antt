@@ -53,9 +53,13 @@ ending_of r sum by = ending_at r.time sum by.time (event_of by)
 abbrev pub end_if : Bool → Ending → Option Ending
 end_if ends ending = if ends then Some ending else None
 
--- a tracked stay, after one record more
+-- a tracked stay that a record started, after one record more
+abbrev pub after_from : LoginRecord → ℤ → LoginRecord → TrackedStay → TrackedStay
+after_from start now by t = record t { ended = option_or t.ended (end_if (ends_stay start by) (ending_of start (now -ℤ t.clock_at) by)) }
+
+-- a tracked stay, likewise
 abbrev pub after : List Entry → ℤ → LoginRecord → TrackedStay → TrackedStay
-after es now by t = record t { ended = option_or t.ended (end_if (ends_stay (start_of es t) by) (ending_of (start_of es t) (now -ℤ t.clock_at) by)) }
+after es now by t = after_from (start_of es t) now by t
 
 -- whether an event is a login
 abbrev pub is_login_event : Event → Bool
@@ -121,9 +125,13 @@ abbrev pub covers : Option (List ℕ) → List ℕ → Bool
 covers None user = true
 covers (Some name) user = bytes_eq user name
 
--- the length of a stay whose start counts, once it has ended
+-- the length of a stay that a record started, once it has ended, where the record counts
+abbrev pub ended_from : Option (List ℕ) → LoginRecord → TrackedStay → ℕ
+ended_from who start t = if counts who start then option_map_or length_of t.ended 0 else 0
+
+-- the length of a tracked stay, likewise
 abbrev pub ended_length : Option (List ℕ) → List Entry → TrackedStay → ℕ
-ended_length who es t = if counts who (start_of es t) then option_map_or length_of t.ended 0 else 0
+ended_length who es t = ended_from who (start_of es t) t
 
 -- the lengths of the sessions that have ended
 abbrev pub ended_sum : Option (List ℕ) → List Entry → List TrackedStay → ℕ

@@ -44,7 +44,7 @@ pub(crate) fn push_times(marks: &mut Vec<usize>, mark: usize, count: usize)
 }
 
 /// Keeps so many entries, the batch of the next of which has this number.
-pub(crate) fn cut(
+pub(crate) fn keep_before(
     batches: &mut Vec<StoredBatch>,
     marks: &mut Vec<usize>,
     number: usize,

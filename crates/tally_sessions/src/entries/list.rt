@@ -6,7 +6,7 @@ ghost use Rattle.tally_sessions.specs.inside.Entries.{AreOf, IsRecordOf, entry_a
 ghost use Rattle.tally_sessions.specs.inside.Stored.{Holds};
 ghost use Rattle.tally_sessions.specs.Hosts.{posted_by};
 
-use crate::entries::batches::{ENTRIES_FOR_A_MARK, StoredBatch, batch_of, cut, push_times};
+use crate::entries::batches::{ENTRIES_FOR_A_MARK, StoredBatch, batch_of, keep_before, push_times};
 use crate::entries::stored::StoredRecord;
 use crate::entry::Entry;
 use crate::sessions::{ENTRY_LIMIT, HOST_LIMIT};
@@ -64,9 +64,10 @@ impl EntryList {
     }
 
     /// The batch of the entry at a place.
-    fn batch(&self, at: usize) -> &StoredBatch
+    pub(crate) fn batch(&self, at: usize) -> &StoredBatch
         requires { at < length self.now }
         ensures held { Holds self.now result.now }
+        ensures stored { result.now.count ≤ length (arc_value result.now.records) }
         ensures from { result.now.first ≤ at }
         ensures to { at < result.now.first + result.now.count }
         ensures few { result.now.first + result.now.count ≤ ENTRY_LIMIT }
@@ -82,12 +83,7 @@ impl EntryList {
         ensures at { result.at ≡ at }
         ensures is { record_in result ≡ (entry_at self.now at).item }
     {
-        let batch = self.batch(at);
-        StoredRecord {
-            at,
-            records: batch.records.deref(),
-            place: at - batch.first,
-        }
+        self.batch(at).record(at)
     }
 
     /// The entry at a place, counted from 0.
@@ -118,8 +114,7 @@ impl EntryList {
         ensures within { result ≤ length self.now }
         ensures same { AreOf (entry_at self.now at).host self.now at result }
     {
-        let batch = self.batch(at);
-        batch.first + batch.count
+        self.batch(at).end()
     }
 
     /// Adds records as those of a host, or none.
@@ -172,7 +167,7 @@ impl EntryList {
             return;
         }
         let number = batch_of(self.batches.as_slice(), self.marks.as_slice(), count);
-        cut(&mut self.batches, &mut self.marks, number, count);
+        keep_before(&mut self.batches, &mut self.marks, number, count);
         self.count = count;
     }
 }

@@ -1,10 +1,41 @@
-//! What is read of one stored record.
-ghost use Rattle.std.specs.Prelude.{◌≡◌};
+//! What is read of a stored batch, and of one record.
+ghost use Rattle.std.specs.Arc.{arc_value};
+ghost use Rattle.std.specs.Prelude.{◌≡◌, ◌≤◌, ◌<◌, ◌+◌, List, length};
 ghost use Rattle.tally_records.specs.Event.{event_of};
-ghost use Rattle.tally_sessions.specs.inside.Entries.{record_in};
+ghost use Rattle.tally_sessions.specs.declared.entry.Entry.{Entry};
+ghost use Rattle.tally_sessions.specs.inside.Entries.{IsRecordOf, record_in};
+ghost use Rattle.tally_sessions.specs.inside.Stored.{Holds};
 
+use crate::entries::batches::StoredBatch;
 use crate::entries::stored::StoredRecord;
+use crate::sessions::ENTRY_LIMIT;
+use std::ops::Deref;
 use tally_records::{Event, Key, LoginRecord, Name};
+
+impl StoredBatch {
+    /// Where its entries end.
+    pub(crate) fn end(&self) -> usize
+        requires { self.now.first + self.now.count ≤ ENTRY_LIMIT }
+        ensures { result ≡ self.now.first + self.now.count }
+    {
+        self.first + self.count
+    }
+
+    /// The record of its entry at a place.
+    pub(crate) fn record(&self, at: usize) -> StoredRecord<'_>
+        requires from { self.now.first ≤ at }
+        requires to { at < self.now.first + self.now.count }
+        requires stored { self.now.count ≤ length (arc_value self.now.records) }
+        ensures at { result.at ≡ at }
+        ensures of { (es : List Entry) → Holds es self.now → IsRecordOf es result }
+    {
+        StoredRecord {
+            at,
+            records: self.records.deref(),
+            place: at - self.first,
+        }
+    }
+}
 
 impl<'a> StoredRecord<'a> {
     /// When it was written.

@@ -3,7 +3,7 @@ ghost use Rattle.std.specs.Prelude.{◌≡◌, ◌≤◌, ◌<◌, ◌+◌, ◌^
 ghost use Rattle.tally_records.specs.Event.{event_of};
 ghost use Rattle.tally_records.specs.declared.login.Event.TheVariants.{Login};
 ghost use Rattle.tally_sessions.specs.declared.track.ending.Ending.{Ending as Ended};
-ghost use Rattle.tally_sessions.specs.inside.Entries.{IsRecordOf, entry_at};
+ghost use Rattle.tally_sessions.specs.inside.Entries.{IsRecordOf, entry_at, record_in};
 ghost use Rattle.tally_sessions.specs.Stays.{ends_stay};
 ghost use Rattle.std.specs.Map.{keys_of, lookup};
 ghost use Rattle.tally_sessions.specs.inside.Numbers.{StandsAt};
@@ -79,36 +79,33 @@ pub(crate) fn still(start: i32, moved: i64, time: i32) -> Ending
 /// A stay after a record that ends it, if it is pending.
 fn ended_by(
     stay: TrackedStay,
-    entries: &EntryList,
+    start: StoredRecord<'_>,
     clock: i64,
     stored: StoredRecord<'_>,
     event: Event,
 ) -> TrackedStay
-    requires placed { stay.entry < length entries.now }
-    requires of { IsRecordOf entries.now stored }
     requires before { spec.IsWithin ENTRY_LIMIT stay.clock_at }
     requires now { spec.IsWithin ENTRY_LIMIT clock }
-    requires told { event ≡ event_of (entry_at entries.now stored.at).item }
-    requires ends { ends_stay (spec.start_of entries.now stay) (entry_at entries.now stored.at).item ≡ true }
-    ensures value { result ≡ spec.after entries.now clock (entry_at entries.now stored.entry.at).item stay }
+    requires told { event ≡ event_of (record_in stored) }
+    requires ends { ends_stay (record_in start) (record_in stored) ≡ true }
+    ensures value { result ≡ spec.after_from (record_in start.entry) clock (record_in stored.entry) stay }
     ensures fits { spec.LengthFits stay → spec.LengthFits result }
 {
     if stay.ended.is_some() {
         return stay;
     }
-    let start = entries.record(stay.entry as usize).time();
-    let ended = Some(ending_at(start, clock - stay.clock_at, stored.time(), event));
+    let moved = clock - stay.clock_at;
+    let ended = Some(ending_at(start.time(), moved, stored.time(), event));
     TrackedStay { ended, ..stay }
 }
 
 /// Counts the length of a login's stay that goes from one state to the next, where it has ended.
-fn count(sums: &mut EndedSums, entries: &EntryList, before: TrackedStay, after: TrackedStay)
-    requires placed { before.entry < length entries.now }
-    requires entered { event_of (spec.start_of entries.now before) ≡ Login → StandsAt sums.old.users before.user (spec.start_of entries.now before).user }
+fn count(sums: &mut EndedSums, start: StoredRecord<'_>, before: TrackedStay, after: TrackedStay)
+    requires entered { event_of (record_in start) ≡ Login → StandsAt sums.old.users before.user (record_in start).user }
     requires room { (who : Option (List ℕ)) → spec.sum_of sums.old who < 2 ^ 63 }
     requires keeps { (e : Ended) → before.ended ≡ Some e → after.ended ≡ Some e }
-    ensures sums { (who : Option (List ℕ)) → spec.sum_of sums.new who + spec.ended_length who entries.now before
-        ≡ spec.sum_of sums.old who + spec.ended_length who entries.now (record before { ended = after.ended }) }
+    ensures sums { (who : Option (List ℕ)) → spec.sum_of sums.new who + spec.ended_from who (record_in start.entry) before
+        ≡ spec.sum_of sums.old who + spec.ended_from who (record_in start.entry) (record before { ended = after.ended }) }
     ensures kept { keys_of sums.new.users.entries ≡ keys_of sums.old.users.entries }
     ensures spare { sums.new.users.spare ≡ sums.old.users.spare }
 {
@@ -116,7 +113,7 @@ fn count(sums: &mut EndedSums, entries: &EntryList, before: TrackedStay, after: 
         return;
     }
     if let Some(ending) = after.ended {
-        if is_login(entries.record(before.entry as usize).event()) {
+        if is_login(start.event()) {
             sums.add(before.user, ending.length());
         }
     }
@@ -146,8 +143,9 @@ fn end_stay(
     ensures spare { sums.new.users.spare ≡ sums.old.users.spare }
 {
     let before = stays[i];
-    let after = ended_by(before, entries, clock, stored, event);
-    count(sums, entries, before, after);
+    let start = entries.record(before.entry as usize);
+    let after = ended_by(before, start, clock, stored, event);
+    count(sums, start, before, after);
     stays[i] = after;
 }
 

@@ -3,9 +3,9 @@ use Rattle.std.proofs.lemmas.Grind.{div_ceil_times}
 use Rattle.tally_sessions.specs.declared.entries.batches.StoredBatch.{StoredBatch}
 use Rattle.tally_sessions.specs.inside.Stored.{AreMarked, IsPlaced, all_of}
 use Rattle.tally_sessions.proofs.entries.BatchLemmas.{batch-from, batch-to}
-use Rattle.tally_sessions.proofs.entries.Cutting.{cut-all, cut-marked}
-use Rattle.tally_sessions.proofs.entries.batches.cut.Goals.{then-batch-eq0, else-batch-eq0}
-use Rattle.tally_sessions.proofs.entries.batches.cut.Goals as goal
+use Rattle.tally_sessions.proofs.entries.Front.{front-all, front-marked}
+use Rattle.tally_sessions.proofs.entries.batches.keep_before.Goals.{then-batch-eq0, else-batch-eq0}
+use Rattle.tally_sessions.proofs.entries.batches.keep_before.Goals as goal
 
 after : (c : goal.After-truncate-2) → AreMarked c.truncate.new.self.items c.truncate-2.new.self.items × (all_of c.truncate.new.self.items ≡ take c.args.count (all_of c.args.batches.now.items))
 after c =
@@ -22,10 +22,10 @@ after c =
     let kept : ((n - b.first ≡ 0) × (c.if-batch-eq0.kept ≡ k)) ⊎ (c.if-batch-eq0.kept ≡ k + 1) =
     elim c.if-batch-eq0.branch [ then-batch-eq0 w ↦ inl (w.if-batch-eq0.true, w.kept-is) | else-batch-eq0 w ↦ inr w.kept-is ] in
     let marks = div_ceil_times n 16 (omega arith) in (
-      cut-marked bs k n (n - b.first) b of.names is placed from refl part c.truncate.new.self.items c.if-batch-eq0.kept c.truncate.ensures.items kept
+      front-marked bs k n (n - b.first) b of.names is placed from refl part c.truncate.new.self.items c.if-batch-eq0.kept c.truncate.ensures.items kept
           c.args.marks.now.items c.truncate-2.new.self.items c.div_ceil.result c.requires.marked of.to c.truncate-2.ensures.items
           (omega (arith, marks, c.div_ceil.ensures)) (omega (arith, marks, c.div_ceil.ensures)),
-      cut-all bs k n (n - b.first) b of.names is placed from refl part c.truncate.new.self.items c.if-batch-eq0.kept c.truncate.ensures.items kept,
+      front-all bs k n (n - b.first) b of.names is placed from refl part c.truncate.new.self.items c.if-batch-eq0.kept c.truncate.ensures.items kept,
     )
 
 pub returns-clause-marked : goal.returns-clause-marked

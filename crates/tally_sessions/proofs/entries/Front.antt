@@ -1,4 +1,4 @@
--- Batches that are cut where their entries are truncated.
+-- The first so many entries, in batches.
 use Rattle.std.proofs.Common.{◌≡◌, ◌⊎◌, inl, inr, ℕ, suc, ◌+◌, ◌-◌, ◌*◌, ◌<◌, ◌≤◌, List, [], ◌∷◌, ◌++◌, map, length, get_or, set, take, drop, sym, ap, ◌∙◌, subst, arith, length-append}
 use Rattle.std.proofs.lemmas.List.{append-nil, get_or-take, length-take, length-take-le, take-append-le, take-map, take_more_set, take-set}
 use Rattle.std.proofs.Math.ListN.{get_or-append}
@@ -16,8 +16,8 @@ module _ (bs : List StoredBatch) (number count rest : ℕ) (b : StoredBatch) (th
   abbrev less : StoredBatch
   less = record b { count = rest }
 
-  cut-entries : take count (all_of bs) ≡ all_of (take number bs) ++ entries_of less
-  cut-entries =
+  front-entries : take count (all_of bs) ≡ all_of (take number bs) ++ entries_of less
+  front-entries =
       let before : List Entry = all_of (take number bs) in
       let after : List Entry = all_of (drop (suc number) bs) in
       let at : count ≡ length before + rest = omega (arith, placed.first, left, from) in
@@ -40,8 +40,8 @@ module _ (bs : List StoredBatch) (number count rest : ℕ) (b : StoredBatch) (th
         by (inl none) = inl (none.0, left_are ∙ ap (λ (k : ℕ). take k (set bs number less)) none.1 ∙ take-set bs number less)
         by (inr some) = inr (left_are ∙ ap (λ (k : ℕ). take k (set bs number less)) some ∙ take_more_set bs number less there)
 
-    pub cut-all : all_of bs' ≡ take count (all_of bs)
-    cut-all = by left_by ∙ sym cut-entries
+    pub front-all : all_of bs' ≡ take count (all_of bs)
+    front-all = by left_by ∙ sym front-entries
       where
         by : Left → all_of bs' ≡ all_of (take number bs) ++ entries_of less
         by (inl none) = ap all_of none.1 ∙ sym (append-nil (all_of (take number bs))) ∙ ap (λ (k : ℕ). all_of (take number bs) ++ posted_by b.host (take k (arc_value b.records))) (sym none.0)
@@ -57,8 +57,8 @@ module _ (bs : List StoredBatch) (number count rest : ℕ) (b : StoredBatch) (th
     before-kept : (k : ℕ) → k ≤ number → count_before bs' k ≡ count_before bs k
     before-kept k le = ap (λ (front : List StoredBatch). length (all_of front)) (fronts k le)
 
-    pub cut-marked : (ms ms' : List ℕ) (n : ℕ) → AreMarked bs ms → count < count_before bs (number + 1) → ms' ≡ take n ms → 16 * n < count + 16 → count ≤ 16 * n → AreMarked bs' ms'
-    cut-marked ms ms' n h to marks_are near far = record {
+    pub front-marked : (ms ms' : List ℕ) (n : ℕ) → AreMarked bs ms → count < count_before bs (number + 1) → ms' ≡ take n ms → 16 * n < count + 16 → count ≤ 16 * n → AreMarked bs' ms'
+    front-marked ms ms' n h to marks_are near far = record {
       placed = λ k d lt. by k d lt left_by;
       mark = λ j lt.
           let short : j < n = omega (arith, lt, ap length marks_are, length-take n ms) in
@@ -68,7 +68,7 @@ module _ (bs : List StoredBatch) (number count rest : ℕ) (b : StoredBatch) (th
           subst (IsMark bs' j) (sym (ap (λ (xs : List ℕ). get_or xs j 0) marks_are ∙ get_or-take n ms j 0 short))
           (record { names = named (get_or ms j 0) names (omega (arith, mark.early, short, near)) left_by; early = subst (λ (c : ℕ). c ≤ 16 * j) (sym (before-kept (get_or ms j 0) names)) mark.early });
       reach =
-          let all : length (all_of bs') ≡ count = ap length cut-all ∙ length-take-le count (all_of bs) (omega (arith, to, before-le bs (number + 1))) in
+          let all : length (all_of bs') ≡ count = ap length front-all ∙ length-take-le count (all_of bs) (omega (arith, to, before-le bs (number + 1))) in
           omega (arith, all, ap length marks_are, length-take n ms, far, h.reach, to, before-le bs (number + 1));
     }
       where
