@@ -3,7 +3,6 @@ pub mod Changes
 pub mod Entries
 pub mod Kept
 pub mod Numbers
-pub mod Parts
 pub mod Stored
 pub mod Sums
 pub mod Totals

@@ -1,13 +1,11 @@
 -- The tracks of a part of the hosts.
-use Rattle.std.proofs.Common.{◌≡◌, ◌≢◌, ◌⊎◌, inl, inr, ℕ, ◌+◌, ◌-◌, ◌*◌, ◌<◌, ◌≤◌, List, ◌++◌, length, get_or, set, sym, ◌∙◌, arith, subst, length-append, mul-le-mul_right}
+use Rattle.std.proofs.Common.{◌≡◌, ◌≢◌, ◌⊎◌, inl, inr, ℕ, ◌+◌, ◌-◌, ◌<◌, ◌≤◌, List, ◌++◌, length, get_or, set, sym, ◌∙◌, arith, subst, length-append}
 use Rattle.std.proofs.lemmas.Bool.{cases_eq, cases_lt}
-use Rattle.std.proofs.lemmas.Bool.Decides.{nat_tests}
 use Rattle.std.proofs.lemmas.List.{length-set, get_or-set_same, get_or-set_other, get_or_append_left, get_or-append_right}
 use Rattle.tally_sessions.specs.declared.entry.Entry.{Entry}
 use Rattle.tally_sessions.specs.declared.track.Track.{Track}
 use Rattle.tally_sessions.specs.inside.Entries.{AreOf}
 use Rattle.tally_sessions.specs.inside.Kept.{AreNewTracks, AreTracks, AreTracksFrom}
-use Rattle.tally_sessions.specs.inside.Parts.{first_of}
 use Rattle.tally_sessions.specs.inside.Track.{IsTrack}
 use Rattle.tally_sessions.proofs.sessions.Tracks.{IsTrack-others}
 
@@ -43,17 +41,17 @@ AreTracksFrom-advance first count es n m tracks host p t h place lt of le within
         subst (IsTrack (first + k) es m) (sym (get_or-set_other tracks p k t d other)) (IsTrack-others (first + k) host es n m (get_or tracks k d) (omega arith) of le within (h.at k d few))
 
 -- the tracks of the next hosts stand after those of the first
-pub AreTracksFrom-append : (i j : ℕ) (es : List Entry) (n : ℕ) (front back : List Track) → i ≤ j → AreTracksFrom 0 i es n front → AreTracksFrom i (j - i) es n back → AreTracksFrom 0 j es n (front ++ back)
-AreTracksFrom-append i j es n front back le f b = record {
+pub AreTracksFrom-append : (first i j : ℕ) (es : List Entry) (n : ℕ) (front back : List Track) → AreTracksFrom first i es n front → AreTracksFrom (first + i) j es n back → AreTracksFrom first (i + j) es n (front ++ back)
+AreTracksFrom-append first i j es n front back f b = record {
   count_is = omega (arith, length-append front back, f.count_is, b.count_is);
   at = λ k d lt. by k d lt (cases_lt k i);
 }
   where
-    by : (k : ℕ) (d : Track) → k < j → (k < i) ⊎ (i ≤ k) → IsTrack (0 + k) es n (get_or (front ++ back) k d)
-    by k d lt (inl before) = subst (IsTrack (0 + k) es n) (sym (get_or_append_left front back d k (let c = f.count_is in omega arith))) (f.at k d before)
+    by : (k : ℕ) (d : Track) → k < i + j → (k < i) ⊎ (i ≤ k) → IsTrack (first + k) es n (get_or (front ++ back) k d)
+    by k d lt (inl before) = subst (IsTrack (first + k) es n) (sym (get_or_append_left front back d k (let c = f.count_is in omega arith))) (f.at k d before)
     by k d lt (inr after) =
-        let place : i + (k - i) ≡ 0 + k = omega arith in
-        subst (IsTrack (0 + k) es n) (sym (get_or-append_right front back i k d f.count_is after)) (subst (λ h. IsTrack h es n (get_or back (k - i) d)) place (b.at (k - i) d (omega arith)))
+        let place : first + i + (k - i) ≡ first + k = omega arith in
+        subst (IsTrack (first + k) es n) (sym (get_or-append_right front back i k d f.count_is after)) (subst (λ h. IsTrack h es n (get_or back (k - i) d)) place (b.at (k - i) d (omega arith)))
 
 -- the tracks of all hosts
 pub AreTracks-all : (count : ℕ) (es : List Entry) (n : ℕ) (tracks : List Track) → count ≡ 128 → AreTracksFrom 0 count es n tracks → AreTracks es n tracks
@@ -61,16 +59,3 @@ AreTracks-all count es n tracks all h = record {
   count = h.count_is ∙ all;
   at = λ host d lt. let zero_more : 0 + host ≡ host = omega arith in subst (λ k. IsTrack k es n (get_or tracks host d)) zero_more (h.at host d (omega arith));
 }
-
--- where parts begin
-pub first_of-none : (parts size : ℕ) → 0 < parts → first_of parts size 0 ≡ 0
-first_of-none parts size some = grind (arith, nat_tests)
-
-pub first_of-all : (parts size : ℕ) → first_of parts size parts ≡ 128
-first_of-all parts size = grind (arith, nat_tests)
-
-pub first_of-rising : (parts size part : ℕ) → part < parts → (parts - 1) * size < 128 → first_of parts size part ≤ first_of parts size (part + 1)
-first_of-rising parts size part lt fits =
-    let before : part * size ≤ (parts - 1) * size = mul-le-mul_right size (let l : part ≤ parts - 1 = omega arith in l) in
-    let next : (part + 1) * size ≡ part * size + size = omega arith in
-    grind (arith, nat_tests)

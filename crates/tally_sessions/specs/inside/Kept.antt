@@ -1,12 +1,11 @@
 -- The fields of the sessions. Behind the stored entries stand those that are prepared.
-use Rattle.std.specs.Prelude.{◌≡◌, ◌≤◌, ◌<◌, ◌+◌, ◌-◌, ℕ, All, List, map, take, drop, length, get_or, Some, option_map}
+use Rattle.std.specs.Prelude.{◌≡◌, ◌≤◌, ◌<◌, ◌+◌, ℕ, All, List, map, take, drop, length, get_or, Some, option_map}
 use Rattle.tally_sessions.specs.declared.sessions.TheConstants.{ENTRY_LIMIT, HOST_LIMIT}
 use Rattle.tally_sessions.specs.declared.entry.Entry.{Entry}
 use Rattle.tally_sessions.specs.declared.sessions.Sessions.TheInside.{Inside}
 use Rattle.tally_sessions.specs.declared.track.Track.{Track}
 use Rattle.tally_sessions.specs.Hosts.{posted_by}
 use Rattle.tally_sessions.specs.State.{State}
-use Rattle.tally_sessions.specs.inside.Parts.{first_of}
 use Rattle.tally_sessions.specs.inside.Track.{HasRoom, IsNewTrack, IsTrack}
 
 -- the entries that are prepared
@@ -35,10 +34,6 @@ pub record AreNewTracks (count : ℕ) (tracks : List Track) : Type 0 where
 pub record AreTracksFrom (first count : ℕ) (es : List Entry) (n : ℕ) (tracks : List Track) : Type 0 where
   pub count_is : length tracks ≡ count
   pub at : (k : ℕ) (d : Track) → k < count → IsTrack (first + k) es n (get_or tracks k d)
-
--- the tracks of the hosts of a part, after the first n entries
-abbrev pub AreTracksOfPart : ℕ → ℕ → ℕ → List Entry → ℕ → List Track → Type 0
-AreTracksOfPart parts size part es n tracks = AreTracksFrom (first_of parts size part) (first_of parts size (part + 1) - first_of parts size part) es n tracks
 
 -- the fields belong together: each track is that of its host after the stored entries, with room for the prepared ones
 pub record IsSound (a : Inside) : Type 0 where

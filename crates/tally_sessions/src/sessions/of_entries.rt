@@ -1,9 +1,8 @@
 //! Sessions of entries that are stored already, counted by one thread or by several.
 ghost use Rattle.std.specs.Prelude.{◌≡◌, ◌≤◌, ◌<◌, ◌+◌, ◌⊎◌, All, IfErr, IfOk, MatchOption, length};
-ghost use Rattle.tally_sessions.specs.inside.Kept.{AreTracks, AreTracksFrom, AreTracksOfPart};
+ghost use Rattle.tally_sessions.specs.inside.Kept.{AreTracks, AreTracksFrom};
 
 use crate::entries::list::EntryList;
-use crate::sessions::cut::Cut;
 use crate::sessions::{ENTRY_LIMIT, HOST_LIMIT, Sessions, new_tracks};
 use crate::track::Track;
 use std::alloc::Global;
@@ -52,49 +51,61 @@ fn tracks_of(
     Ok(tracks)
 }
 
-/// The tracks of a part of the hosts.
-fn tracks_of_part(
-    alloc: Global,
-    keys: RandomState,
-    entries: &EntryList,
-    cut: Cut,
-    part: u32,
-) -> Result<Vec<Track>, Memory>
-    requires few { length entries.now ≤ ENTRY_LIMIT }
-    requires part_in { part < cut.parts }
-    ensures { IfOk result (λ tracks. AreTracksOfPart cut.parts cut.size part entries.now (length entries.now) tracks.items) }
-{
-    let first = cut.first(part);
-    tracks_of(alloc, keys, entries, first, cut.first(part + 1) - first)
-}
-
-/// The tracks of all hosts, each part of them by a thread of its own.
+/// The same, where each so many hosts are counted by a thread of their own, and the last of them
+/// by this one.
+#[cycle(parts)]
 fn tracks_by<R: Threads + Sync>(
     rt: &R,
     alloc: Global,
     keys: RandomState,
     entries: &EntryList,
-    cut: Cut,
+    first: u32,
+    count: u32,
+    size: u32,
 ) -> Result<Vec<Track>, Memory>
     requires few { length entries.now ≤ ENTRY_LIMIT }
+    requires hosts { first + count ≤ HOST_LIMIT }
+    requires some { 0 < size }
+    ensures { IfOk result (λ tracks. AreTracksFrom first count entries.now (length entries.now) tracks.items) }
+{
+    if count <= size {
+        return tracks_of(alloc, keys, entries, first, count);
+    }
+    let next = first + size;
+    let left = count - size;
+    let theirs = move || -> Result<Vec<Track>, Memory>
+        requires { (length entries.now ≤ ENTRY_LIMIT) × (first + size ≤ HOST_LIMIT) }
+        ensures { IfOk result (λ tracks. AreTracksFrom first size entries.entry.now (length entries.entry.now) tracks.items) }
+    { tracks_of(alloc, keys, entries, first, size) };
+    let after = move || -> Result<Vec<Track>, Memory>
+        requires { (length entries.now ≤ ENTRY_LIMIT) × (next + left ≤ HOST_LIMIT) × (0 < size) }
+        ensures { IfOk result (λ tracks. AreTracksFrom next left entries.entry.now (length entries.entry.now) tracks.items) }
+    { tracks_by(rt, alloc, keys, entries, next, left, size) };
+    let (tracks, others) = thread::join(rt, theirs, after);
+    let mut tracks = tracks?;
+    let mut others = others?;
+    tracks.append(&mut others)?;
+    Ok(tracks)
+}
+
+/// The tracks of all hosts, of which the first so many have entries.
+fn all_tracks_by<R: Threads + Sync>(
+    rt: &R,
+    alloc: Global,
+    keys: RandomState,
+    entries: &EntryList,
+    hosts: u32,
+    size: u32,
+) -> Result<Vec<Track>, Memory>
+    requires few { length entries.now ≤ ENTRY_LIMIT }
+    requires hosts { hosts ≤ HOST_LIMIT }
+    requires some { 0 < size }
     ensures { IfOk result (λ tracks. AreTracks entries.now (length entries.now) tracks.items) }
 {
-    let count = cut.parts as usize;
-    let mut parts = thread::map_indices(
-        rt,
-        alloc,
-        count,
-        &|part: usize| -> Result<Vec<Track>, Memory>
-            requires { (part < cut.parts) × (length entries.now ≤ ENTRY_LIMIT) }
-            ensures { IfOk result (λ tracks. AreTracksOfPart cut.parts cut.size part entries.entry.now (length entries.entry.now) tracks.items) }
-        { tracks_of_part(alloc, keys, entries, cut, part as u32) },
-    )?;
-    let mut all = Vec::with_capacity(alloc, HOST_LIMIT as usize)?;
-    for _part in 0..count {
-        let mut tracks = parts.remove(0)?;
-        all.append(&mut tracks)?;
-    }
-    Ok(all)
+    let mut tracks = tracks_by(rt, alloc, keys, entries, 0, hosts, size)?;
+    let mut others = tracks_of(alloc, keys, entries, hosts, HOST_LIMIT - hosts)?;
+    tracks.append(&mut others)?;
+    Ok(tracks)
 }
 
 impl Sessions {
@@ -151,8 +162,8 @@ impl Sessions {
         ensures refused { IfErr result (λ back. back ≡ entries) }
     {
         let worth = (entries.len() / ENTRIES_FOR_A_THREAD) as u32;
-        let cut = Cut::of(hosts, threads.min(worth).max(1));
-        match tracks_by(rt, alloc, keys, &entries, cut) {
+        let size = hosts.div_ceil(threads.min(worth).max(1));
+        match all_tracks_by(rt, alloc, keys, &entries, hosts, size) {
             Ok(tracks) => Ok(Sessions::with_tracks(hosts, entries, tracks)),
             Err(_) => Err(entries),
         }
