@@ -9,7 +9,7 @@ use Rattle.tally_cli.specs.declared.running.source.Source.{Source}
 use Rattle.tally_cli.specs.declared.running.task.Asking.{Asking}
 use Rattle.tally_cli.specs.declared.running.task.Task.{Task}
 use Rattle.tally_cli.specs.inside.Deals.{AreCarriedOut, AreDealt, CameOf, IsIn, IsTaskOf}
-use Rattle.tally_cli.specs.inside.Tasks.{EachWorks, IsExplained, Works}
+use Rattle.tally_cli.specs.inside.Tasks.{AreWorked, EachWorks, IsExplained, Works}
 
 pub all_unmap : {V A : Type 0} (P : A → Type 0) (f : V → A) (vs : List V) → All P (map f vs) → All (λ v. P (f v)) vs
 all_unmap P f vs h = λ k d l. subst P (get_or-map f vs k d (f d) l) (h k (f d) (omega (arith, l, length-map vs f)))
@@ -22,12 +22,6 @@ contains_flat f (v ∷ vs) (suc w) d x h c = Contains-append_right (f v) (flat_m
 all_flat : {V A : Type 0} (P : A → Type 0) (f : V → List A) (vs : List V) → ((w : ℕ) (d : V) → w < length vs → All P (f (get_or vs w d))) → All P (flat_map f vs)
 all_flat P f [] h = All-nil P
 all_flat P f (v ∷ vs) h = All-append P (f v) (flat_map f vs) (h zero v (omega arith)) (all_flat P f vs (λ w d l. h (suc w) d (omega (arith, l))))
-
--- each list was worked on by a worker
-pub record AreWorked {V I : Type 0} (to_come : I → Option (List ℕ)) (can_fail : I → Bool) (f : V → List (Task I)) (vs us : List V) : Type 0 where
-  pub count : length us ≡ length vs
-  pub works : (w : ℕ) (d : V) → w < length vs → EachWorks to_come can_fail (f (get_or vs w d)) (f (get_or us w d))
-  pub explained : All (λ u. All (IsExplained (f u)) (f u)) us
 
 carried_at : {V I : Type 0} (to_come : I → Option (List ℕ)) (can_fail : I → Bool) (f : V → List (Task I)) (vs us : List V) (d : V) (t : Task I) → AreWorked to_come can_fail f vs us → IsIn (map f vs) t
     → (u : Task I) × Contains (flat_map f us) u × Works to_come can_fail t u

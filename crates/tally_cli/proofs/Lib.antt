@@ -14,6 +14,7 @@ pub mod FilledRows
 pub mod FirstPasses
 pub mod Limits
 pub mod LineLemmas
+pub mod Lists
 pub mod Numbered
 pub mod Outcomes
 pub mod Posted

@@ -98,3 +98,9 @@ IsExplained ts t = IsUntried t.outcome
 -- once a task has failed, none after it was tried
 abbrev pub StopAtFailure : {I : Type 0} → List (Task I) → Type 0
 StopAtFailure ts = (j k : ℕ) (d : Task _) → j < k → k < length ts → HasFailed (slice_index_or ts j d).outcome → IsUntried (slice_index_or ts k d).outcome
+
+-- each list of tasks was worked on by a worker
+pub record AreWorked {V I : Type 0} (to_come : I → Option (List ℕ)) (can_fail : I → Bool) (tasks : V → List (Task I)) (vs us : List V) : Type 0 where
+  pub count : length us ≡ length vs
+  pub works : (w : ℕ) (d : V) → w < length vs → EachWorks to_come can_fail (tasks (slice_index_or vs w d)) (tasks (slice_index_or us w d))
+  pub explained : All (λ u. All (IsExplained (tasks u)) (tasks u)) us

@@ -1,7 +1,7 @@
 //! Work that is shared out among threads.
 ghost use Rattle.std.specs.Prelude.{◌≡◌, ◌<◌, ℕ, length, slice_index_or, IfOk};
 ghost use Rattle.std.specs.List.{All};
-ghost use Rattle.tally_cli.specs.inside.Tasks.{AreReady, EachWorks, IsExplained, StopAtFailure};
+ghost use Rattle.tally_cli.specs.inside.Tasks.{AreReady, AreWorked, EachWorks, IsExplained, StopAtFailure};
 
 use crate::running::task::{Task, carry_out};
 use std::alloc::{AllocError, Global};
@@ -31,26 +31,36 @@ fn carry_out_all<R: Wait, I: Input, G: Gate>(
     tasks
 }
 
-/// Does the work of each list of tasks in a thread of its own.
+/// Does the work of each list of tasks in a thread of its own, that of the first in this one.
+#[cycle(lists)]
 pub(crate) fn carry_out_lists<R: Threads + Wait + Sync, I: Input + Send, G: Gate + Sync>(
     rt: &R,
     alloc: Global,
     desk: &Desk,
-    lists: Vec<Vec<Task<I>>>,
+    mut lists: Vec<Vec<Task<I>>>,
     gate: &G,
 ) -> Result<Vec<Vec<Task<I>>>, AllocError>
     requires { All (λ tasks. AreReady I.failures desk.now tasks.items) lists.items }
-    ensures count { IfOk result (λ done. length done.items ≡ length lists.items) }
-    ensures works { IfOk result (λ done. (w : ℕ) (d : _) → w < length lists.items → EachWorks I.to_come I.can_fail (slice_index_or lists.items w d).items (slice_index_or done.items w d).items) }
-    ensures explained { IfOk result (λ done. All (λ tasks. All (IsExplained tasks.items) tasks.items) done.items) }
+    ensures { IfOk result (λ done. AreWorked I.to_come I.can_fail (λ tasks. tasks.items) lists.items done.items) }
 {
-    thread::map_vec(
-        rt,
-        lists,
-        &|tasks: Vec<Task<I>>| -> Vec<Task<I>>
-            requires { AreReady I.failures desk.now tasks.items }
-            ensures works { EachWorks I.to_come I.can_fail tasks.items result.items }
-            ensures explained { All (IsExplained result.items) result.items }
-        { carry_out_all(rt, alloc, desk, tasks, gate) },
-    )
+    let Some(tasks) = lists.pop() else {
+        return Ok(lists);
+    };
+    if lists.is_empty() {
+        lists.push(carry_out_all(rt, alloc, desk, tasks, gate))?;
+        return Ok(lists);
+    }
+    let theirs = move || -> Vec<Task<I>>
+        requires { AreReady I.failures desk.now tasks.items }
+        ensures works { EachWorks I.to_come I.can_fail tasks.items result.items }
+        ensures explained { All (IsExplained result.items) result.items }
+    { carry_out_all(rt, alloc, desk, tasks, gate) };
+    let before = move || -> Result<Vec<Vec<Task<I>>>, AllocError>
+        requires { All (λ tasks. AreReady I.failures desk.now tasks.items) lists.items }
+        ensures { IfOk result (λ done. AreWorked I.to_come I.can_fail (λ tasks. tasks.items) lists.items done.items) }
+    { carry_out_lists(rt, alloc, desk, lists, gate) };
+    let (last, others) = thread::join(rt, theirs, before);
+    let mut done = others?;
+    done.push(last)?;
+    Ok(done)
 }
