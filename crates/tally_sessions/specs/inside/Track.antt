@@ -175,12 +175,12 @@ abbrev pub IsNewTrack : Track → Type 0
 IsNewTrack track = (host : ℕ) (es : List Entry) → IsTrack host es 0 track
 
 -- the stay that the entry at a place starts, while the clock is this, with its user's sum at a place
-abbrev pub started_by : LoginRecord → ℕ → ℤ → ℕ → List TrackedStay
-started_by r at now user = if starts_stay (event_of r) then record { entry = at; clock_at = now; ended = None; user = user } ∷ [] else []
+abbrev pub started_from : LoginRecord → ℕ → ℤ → ℕ → List TrackedStay
+started_from r at now user = if starts_stay (event_of r) then record { entry = at; clock_at = now; ended = None; user = user } ∷ [] else []
 
 -- the stay that the entry at a place starts, likewise
 abbrev pub started : List Entry → ℕ → ℤ → ℕ → List TrackedStay
-started es at now user = started_by (entry_at es at).item at now user
+started es at now user = started_from (entry_at es at).item at now user
 
 -- a login's line leads to its place, and all other lines to where they led
 abbrev pub LeadsTo : List (List ℕ × ℕ) → List (List ℕ × ℕ) → LoginRecord → ℕ → Type 0

@@ -9,7 +9,7 @@ ghost use Rattle.tally_sessions.specs.Hosts.{posted_by};
 use crate::entries::batches::{ENTRIES_FOR_A_MARK, StoredBatch, batch_of, keep_before, push_times};
 use crate::entries::stored::StoredRecord;
 use crate::entry::Entry;
-use crate::sessions::{ENTRY_LIMIT, HOST_LIMIT};
+use crate::sessions::ENTRY_LIMIT;
 use std::alloc::Global;
 use std::marker::Model;
 use std::ops::Deref;
@@ -148,7 +148,6 @@ impl EntryList {
     /// Adds the login records of a batch as those of a host, or none. The list and the batch share them.
     pub fn append_batch(&mut self, host: u32, b: &Batch) -> Result<(), Memory>
         requires kind { IsLogins b.now }
-        requires host_in { host < HOST_LIMIT }
         requires room { length self.old + record_count b.now ≤ ENTRY_LIMIT }
         ensures stored { OnOk result (self.new ≡ self.old ++ posted_by host (logins_in b.now)) }
         ensures refused { OnErr result (self.new ≡ self.old) }

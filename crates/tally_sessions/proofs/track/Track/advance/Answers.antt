@@ -14,7 +14,7 @@ use Rattle.tally_sessions.specs.Clock.{shift_at}
 use Rattle.tally_sessions.specs.inside.Tracking.{pending_at}
 use Rattle.tally_sessions.specs.inside.Entries.{entry_at, record_in}
 use Rattle.tally_sessions.specs.inside.Numbers.{Numbers, StandsAt}
-use Rattle.tally_sessions.specs.inside.Track.{after, ends_every_stay, started_by, CanStart, HasSums, IsTrack, IsWithin, LeadsTo}
+use Rattle.tally_sessions.specs.inside.Track.{after, ends_every_stay, started_from, CanStart, HasSums, IsTrack, IsWithin, LeadsTo}
 use Rattle.tally_sessions.specs.declared.track.Track.{Track}
 use Rattle.tally_sessions.proofs.track.TrackAdvance.{IsTrack-step, CanStart-swept}
 use Rattle.tally_sessions.proofs.track.TrackedAdvance.{IsWithin-all}
@@ -50,7 +50,7 @@ returns-clause-after c =
     let old_time_is = t.old_time ∙ ap (λ (z : ℤ). pending_at c.event-event.result z lined.old_time) time ∙ ap (λ (e : Event). pending_at e (entry_at es n).item.time lined.old_time) event in
     let ended_sums : HasSums es c.end_pending.new.sums c.end_pending.new.stays = c.end_pending.ensures.sums in
     let started = c.start.ensures.stays in
-    let started_is = started.1 ∙ ap (λ (r : LoginRecord). c.if-ends_every.self.stays.items ++ started_by r n c.if-ends_every.self.clock started.0) x in
+    let started_is = started.1 ∙ ap (λ (r : LoginRecord). c.if-ends_every.self.stays.items ++ started_from r n c.if-ends_every.self.clock started.0) x in
     let entered : event_of (entry_at es n).item ≡ Login → StandsAt c.start.new.self.sums.users started.0 (entry_at es n).item.user =
     λ login. subst (λ (r : LoginRecord). StandsAt c.start.new.self.sums.users started.0 r.user) x (started.2 (event ∙ login)) in
     elim c.if-ends_every.branch [
