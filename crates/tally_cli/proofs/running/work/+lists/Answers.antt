@@ -17,7 +17,7 @@ returns-then-is_empty g t c =
     let none : length front ≡ 0 = search rules in
     let worked = AreWorked g.I.Input.to_come g.I.Input.can_fail (λ v. v.items) in
     let last = AreWorked-last g.I.Input.to_come g.I.Input.can_fail (λ v. v.items) front front c.in-Some.tasks c.carry_out_all.result (AreWorked-none g.I.Input.to_come g.I.Input.can_fail (λ v. v.items) front none)
-        c.carry_out_all.ensures.works c.carry_out_all.ensures.explained in
+    c.carry_out_all.ensures.works c.carry_out_all.ensures.explained in
     subst (λ vs. worked vs c.push.new.self.items) (sym c.in-Some.ensures.items) (subst (worked (front ++ c.in-Some.tasks ∷ [])) (sym c.in_ok-push.ensures.items) last)
 
 pub join-last-requires-after_bounds : goal.join-last-requires-after_bounds
