@@ -4,11 +4,19 @@ PREFIX ?= /usr/local
 PROGRAM = crates/tally/out/tally
 INTO = $(DESTDIR)$(PREFIX)
 
-.PHONY: build test test-big install uninstall clean
+# What `make look` asks, and of which files.
+WORDS = ac -p
+FILES = examples/morning.wtmp
+
+.PHONY: build look test test-big install uninstall clean
 
 # Proves every crate that the program stands on, and builds it.
 build:
 	@.ci/build
+
+# A first answer in a minute or two, NOT PROVED: make look WORDS="last -n 5" FILES=/var/log/wtmp
+look:
+	@.ci/look $(WORDS) $(FILES)
 
 # The gate from nothing, then the worked rows over the program as both compilers built it.
 test:
