@@ -8,7 +8,7 @@ INTO = $(DESTDIR)$(PREFIX)
 WORDS = ac -p
 FILES = examples/morning.wtmp
 
-.PHONY: build look test test-big install uninstall clean
+.PHONY: build look test test-anew test-edits test-big install uninstall clean
 
 # Proves every crate that the program stands on, and builds it.
 build:
@@ -18,9 +18,17 @@ build:
 look:
 	@.ci/look $(WORDS) $(FILES)
 
-# The gate from nothing, then the worked rows over the program as both compilers built it.
+# The gate: proofs, tests and edits, as far as no earlier run on this machine passed them, then every run of the program.
 test:
 	@.ci/gate "$(ROWS)"
+
+# The gate, with every proof and edit done again.
+test-anew:
+	@.ci/gate "$(ROWS)" --anew
+
+# All must-fail edits, also those that the gate does not try: make test-edits CRATES="tally_book tally_desk"
+test-edits:
+	@.ci/edits $(CRATES)
 
 # The rows and the cases with inputs of 402 MB. `make test` or `make build` comes first.
 test-big:
