@@ -7,7 +7,7 @@ ghost use Rattle.tally_desk.specs.declared.fault.FeedFault.TheVariants as feed_f
 ghost use Rattle.tally_print.specs.Output.{IsWritable, Prints};
 ghost use Rattle.tally_cli.specs.Runs.{IsReadable, IsAllowed, IsFailedRun, IsFullList, IsNamed, IsWholeRun, IsWrongNumber, Tell, Told, callers_fault, failed_writes};
 ghost use Rattle.tally_cli.specs.Output.{report_text};
-ghost use Rattle.tally_cli.specs.Jobs.{IsRunnable};
+ghost use Rattle.tally_line.specs.Jobs.{IsRunnable};
 ghost use Rattle.tally_cli.specs.inside.RunSteps.{AreRead, AreWorkedThrough, IsPrintFault, IsReadCause, IsUnprinted, run_fault};
 
 mod deal;
@@ -19,7 +19,6 @@ mod task;
 mod work;
 
 use crate::fault::RunFault;
-use crate::job::Job;
 use crate::running::deal::{busy_feeders, deal_out};
 use crate::running::forms::print_answers;
 use crate::running::gather::{Cause, Failure, take_all};
@@ -33,6 +32,7 @@ use std::sync::Wait;
 use std::thread::Threads;
 use tally_book::{Book, entries_are_posts, host_order_is_enough};
 use tally_desk::{Desk, Gate, Input, OpenFault, Pass};
+use tally_line::Job;
 use tally_print::Output;
 use tally_records::Kind;
 use tally_sessions::HOST_LIMIT;

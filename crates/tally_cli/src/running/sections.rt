@@ -4,9 +4,9 @@ ghost use Rattle.std.specs.List.{All};
 ghost use Rattle.tally_book.specs.Answers.{HasDays, IsAskable, NamesHostBelow, answer_of};
 ghost use Rattle.tally_cli.specs.Output.{is_wanted, questions_of, stays_asked};
 
-use crate::job::{Job, Report};
 use std::alloc::{AllocError, Global};
 use tally_book::{Answer, AskFault, Book, CALL_LIMIT, Question};
+use tally_line::{Job, Report};
 use tally_records::{Kind, Memory};
 use tally_sessions::HOST_LIMIT;
 use tally_usage::Order;

@@ -1,0 +1,7 @@
+pub mod Accepted
+pub mod CommandLemmas
+pub mod FileLemmas
+pub mod FilledRows
+pub mod LineLemmas
+pub mod WalkSteps
+pub mod WorkedRows

@@ -1,0 +1,5 @@
+pub mod CommandLine
+pub mod FileWords
+pub mod Jobs
+pub mod Lines
+pub mod inside
