@@ -1,6 +1,6 @@
 //! The command line as `clap` reads it.
 ghost use Rattle.std.specs.Prelude.{◌≡◌, IfOk, false};
-ghost use Rattle.clap.specs.Words.{App, new_app, rule_of};
+ghost use Rattle.clap.specs.Words.{App, new_app, rule_of, with_subcommand};
 ghost use Rattle.tally_line.specs.CommandLine.{all_app, askers_rule, connect_app, csv_rule, feeders_rule, file_rule, flag_rule, last_app, limit_rule};
 ghost use Rattle.tally_line.specs.inside.Commands.{IsCommand};
 ghost use Rattle.tally_line.specs.CommandLine.{minutes_rule, number_rule, tally_app, top_app, until_rule, usage_app, with_common};
@@ -17,11 +17,24 @@ const VERSION: &str = "1.0.0\nproved with rattle-kit-13f logic dac8208d650f15bf"
 pub(crate) fn tally<'a>(alloc: Global) -> Result<Command<'a>, AllocError>
     ensures { IfOk result (IsCommand tally_app) }
 {
-    top(alloc)?
-        .subcommand(last(alloc)?)?
-        .subcommand(connect(alloc)?)?
-        .subcommand(usage(alloc)?)?
-        .subcommand(all(alloc)?)
+    let command = top(alloc)?;
+    let command = with_under(command, last(alloc))?;
+    let command = with_under(command, connect(alloc))?;
+    let command = with_under(command, usage(alloc))?;
+    with_under(command, all(alloc))
+}
+
+/// The command with a subcommand, where there was memory for that.
+#[inline(never)]
+fn with_under<'a>(
+    command: Command<'a>,
+    sub: Result<Command<'a>, AllocError>,
+) -> Result<Command<'a>, AllocError>
+    ensures { IfOk result (λ r. (app under : App) → IsCommand app command.entry
+        → IfOk sub.entry (IsCommand under) → IsCommand (with_subcommand app under.top) r) }
+{
+    let sub = sub?;
+    command.subcommand(sub)
 }
 
 fn top<'a>(alloc: Global) -> Result<Command<'a>, AllocError>
