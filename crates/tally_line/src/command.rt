@@ -1,6 +1,6 @@
 //! The command line as `clap` reads it.
 ghost use Rattle.std.specs.Prelude.{◌≡◌, IfOk, false};
-ghost use Rattle.clap.specs.Words.{App, new_app, rule_of, with_subcommand};
+ghost use Rattle.clap.specs.Words.{App, Rule, new_app, rule_of, with_rule, with_subcommand};
 ghost use Rattle.tally_line.specs.CommandLine.{all_app, askers_rule, connect_app, csv_rule, feeders_rule, file_rule, flag_rule, last_app, limit_rule};
 ghost use Rattle.tally_line.specs.inside.Commands.{IsCommand};
 ghost use Rattle.tally_line.specs.CommandLine.{minutes_rule, number_rule, tally_app, top_app, until_rule, usage_app, with_common};
@@ -12,32 +12,42 @@ use std::alloc::{AllocError, Global};
 /// The version, and by what its proofs were checked.
 const VERSION: &str = "1.0.0\nproved with rattle-kit-13f logic dac8208d650f15bf";
 
+/// A command, where there was memory for it.
+type Made<'a> = Result<Command<'a>, AllocError>;
+
 /// The program's command, over words without the program's own name.
 #[inline(never)]
-pub(crate) fn tally<'a>(alloc: Global) -> Result<Command<'a>, AllocError>
+pub(crate) fn tally<'a>(alloc: Global) -> Made<'a>
     ensures { IfOk result (IsCommand tally_app) }
 {
-    let command = top(alloc)?;
-    let command = with_under(command, last(alloc))?;
-    let command = with_under(command, connect(alloc))?;
-    let command = with_under(command, usage(alloc))?;
+    let command = with_under(top(alloc), last(alloc));
+    let command = with_under(command, connect(alloc));
+    let command = with_under(command, usage(alloc));
     with_under(command, all(alloc))
 }
 
-/// The command with a subcommand, where there was memory for that.
+/// The command with a subcommand.
 #[inline(never)]
-fn with_under<'a>(
-    command: Command<'a>,
-    sub: Result<Command<'a>, AllocError>,
-) -> Result<Command<'a>, AllocError>
-    ensures { IfOk result (λ r. (app under : App) → IsCommand app command.entry
-        → IfOk sub.entry (IsCommand under) → IsCommand (with_subcommand app under.top) r) }
+fn with_under<'a>(command: Made<'a>, under: Made<'a>) -> Made<'a>
+    ensures { (app below : App) → IfOk command.entry (IsCommand app) → IfOk under.entry (IsCommand below)
+        → IfOk result (IsCommand (with_subcommand app below.top)) }
 {
-    let sub = sub?;
-    command.subcommand(sub)
+    let command = command?;
+    let under = under?;
+    command.subcommand(under)
 }
 
-fn top<'a>(alloc: Global) -> Result<Command<'a>, AllocError>
+/// The command with an argument.
+#[inline(never)]
+fn with<'a>(command: Made<'a>, arg: Arg<'a>) -> Made<'a>
+    ensures { (app : App) (rule : Rule) → IfOk command.entry (IsCommand app) → rule_of arg.entry ≡ rule
+        → arg.entry.global ≡ false → IfOk result (IsCommand (with_rule app rule)) }
+{
+    let command = command?;
+    command.arg(arg)
+}
+
+fn top<'a>(alloc: Global) -> Made<'a>
     ensures { IfOk result (IsCommand top_app) }
 {
     named(
@@ -53,66 +63,70 @@ fn top<'a>(alloc: Global) -> Result<Command<'a>, AllocError>
 
 // The command and each subcommand are made in frames of their own, so that the program runs with little stack.
 #[inline(never)]
-fn last<'a>(alloc: Global) -> Result<Command<'a>, AllocError>
+fn last<'a>(alloc: Global) -> Made<'a>
     ensures { IfOk result (IsCommand last_app) }
 {
-    let command = named(
-        alloc,
-        "last",
-        "List login sessions and running times, as last(1) does",
-    )
-    .arg(limit(alloc))?
-    .arg(until(alloc))?
-    .arg(csv(alloc))?;
+    let about = "List login sessions and running times, as last(1) does";
+    let command = with(Ok(named(alloc, "last", about)), limit(alloc));
+    let command = with(command, until(alloc));
+    let command = with(command, csv(alloc));
     with_options(alloc, command, "Read the login records of FILE")
 }
 
 #[inline(never)]
-fn connect<'a>(alloc: Global) -> Result<Command<'a>, AllocError>
+fn connect<'a>(alloc: Global) -> Made<'a>
     ensures { IfOk result (IsCommand connect_app) }
 {
-    let command = named(alloc, "ac", "Sum connect time, as ac(1) does")
-        .arg(flag(
+    let command = Ok(named(alloc, "ac", "Sum connect time, as ac(1) does"));
+    let command = with(
+        command,
+        flag(
             alloc,
             "by_day",
             'd',
             "Sum by day, cut at midnight of UTC or of the offset",
-        ))?
-        .arg(flag(alloc, "by_user", 'p', "Sum by user"))?
-        .arg(until(alloc))?
-        .arg(csv(alloc))?;
+        ),
+    );
+    let command = with(command, flag(alloc, "by_user", 'p', "Sum by user"));
+    let command = with(command, until(alloc));
+    let command = with(command, csv(alloc));
     with_options(alloc, command, "Read the login records of FILE")
 }
 
 #[inline(never)]
-fn usage<'a>(alloc: Global) -> Result<Command<'a>, AllocError>
+fn usage<'a>(alloc: Global) -> Made<'a>
     ensures { IfOk result (IsCommand usage_app) }
 {
-    let command = named(alloc, "sa", "Sum the usage of commands, as sa(8) does")
-        .arg(flag(
+    let command = Ok(named(alloc, "sa", "Sum the usage of commands, as sa(8) does"));
+    let command = with(
+        command,
+        flag(
             alloc,
             "keep_all",
             'a',
             "Give a row to commands that were called once or whose name does not print, too",
-        ))?
-        .arg(flag(alloc, "by_user", 'm', "Sum by user, not by command"))?
-        .arg(flag(alloc, "by_calls", 'n', "Order by calls, not by cpu time"))?
-        .arg(flag(alloc, "reverse", 'r', "Reverse the order"))?
-        .arg(csv(alloc))?;
+        ),
+    );
+    let command = with(
+        command,
+        flag(alloc, "by_user", 'm', "Sum by user, not by command"),
+    );
+    let command = with(
+        command,
+        flag(alloc, "by_calls", 'n', "Order by calls, not by cpu time"),
+    );
+    let command = with(command, flag(alloc, "reverse", 'r', "Reverse the order"));
+    let command = with(command, csv(alloc));
     with_options(alloc, command, "Read the process records of FILE")
 }
 
 #[inline(never)]
-fn all<'a>(alloc: Global) -> Result<Command<'a>, AllocError>
+fn all<'a>(alloc: Global) -> Made<'a>
     ensures { IfOk result (IsCommand all_app) }
 {
-    let command = named(
-        alloc,
-        "all",
-        "Print last for each login file, then ac, then sa",
-    )
-    .arg(askers(alloc))?
-    .arg(until(alloc))?;
+    let about = "Print last for each login file, then ac, then sa";
+    let command = with(Ok(named(alloc, "all", about)), askers(alloc));
+    let command = with(command, until(alloc));
     with_options(
         alloc,
         command,
@@ -122,27 +136,27 @@ fn all<'a>(alloc: Global) -> Result<Command<'a>, AllocError>
 
 /// The options and the files that each subcommand has.
 #[inline(never)]
-fn with_options<'a>(
-    alloc: Global,
-    command: Command<'a>,
-    files: &'a str,
-) -> Result<Command<'a>, AllocError>
-    ensures { IfOk result (λ r. (app : App) → IsCommand app command.entry
-        → IsCommand (with_common app) r) }
+fn with_options<'a>(alloc: Global, command: Made<'a>, files: &'a str) -> Made<'a>
+    ensures { (app : App) → IfOk command.entry (IsCommand app) → IfOk result (IsCommand (with_common app)) }
 {
-    command
-        .arg(feeders(alloc))?
-        .arg(minutes(
+    let command = with(command, feeders(alloc));
+    let command = with(
+        command,
+        minutes(
             alloc,
             "east",
             "Show times and cut days M minutes east of UTC, 0 to 1439; 60 for +0100; sa has neither",
-        ))?
-        .arg(minutes(
+        ),
+    );
+    let command = with(
+        command,
+        minutes(
             alloc,
             "west",
             "Show times and cut days M minutes west of UTC, 0 to 1439; 300 for -0500; sa has neither",
-        ))?
-        .arg(file(alloc, files))
+        ),
+    );
+    with(command, file(alloc, files))
 }
 
 /// A command with no argument.

@@ -1,10 +1,8 @@
-use Rattle.std.proofs.lemmas.Result.{IfOk-weaker}
-use Rattle.tally_line.proofs.CommandLemmas.{adds_arg}
 use Rattle.tally_line.proofs.command.last.Goals as goal
 
 pub returns : goal.returns
 returns c =
-    let limit = adds_arg _ _ _ _ _ c.named.ensures c.in_ok-arg.ensures c.limit.ensures.local c.limit.ensures.rule in
-    let until = adds_arg _ _ _ _ _ limit c.in_ok-arg-2.ensures c.until.ensures.local c.until.ensures.rule in
-    let own = adds_arg _ _ _ _ _ until c.in_ok-command.ensures c.csv.ensures.local c.csv.ensures.rule in
-    IfOk-weaker c.with_options.result _ _ (λ r with_app. with_app _ own) c.with_options.ensures
+    let limit = c.with-command.ensures _ _ c.named.ensures c.limit.ensures.rule c.limit.ensures.local in
+    let until = c.with-command-2.ensures _ _ limit c.until.ensures.rule c.until.ensures.local in
+    let own = c.with-command-3.ensures _ _ until c.csv.ensures.rule c.csv.ensures.local in
+    c.with_options.ensures _ own

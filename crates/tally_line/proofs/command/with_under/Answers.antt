@@ -6,6 +6,9 @@ use Rattle.tally_line.specs.inside.Commands.{IsCommand}
 use Rattle.tally_line.proofs.command.with_under.Goals as goal
 
 pub returns : goal.returns
-returns c = IfOk-weaker c.subcommand.result _ _
-    (λ r added. λ app under is sub_is. adds_subcommand _ _ _ _ _ is (subst (λ x. IfOk x (IsCommand under)) c.in_ok-sub.was sub_is) added)
+returns c = λ app below is below_is. IfOk-weaker c.subcommand.result _ _
+    (λ r added. adds_subcommand _ _ _ _ _
+    (subst (λ x. IfOk x (IsCommand app)) c.in_ok-command.was is)
+    (subst (λ x. IfOk x (IsCommand below)) c.in_ok-under.was below_is)
+    added)
     c.subcommand.ensures
