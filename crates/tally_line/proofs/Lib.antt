@@ -3,5 +3,6 @@ pub mod CommandLemmas
 pub mod FileLemmas
 pub mod FilledRows
 pub mod LineLemmas
+pub mod OptionLemmas
 pub mod WalkSteps
 pub mod WorkedRows

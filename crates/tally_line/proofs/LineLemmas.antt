@@ -19,6 +19,7 @@ use Rattle.tally_line.specs.FileWords.{IsFirstBare, NamesFiles}
 use Rattle.tally_line.specs.Lines.{Answers, AreAccepted, AsksFor, HasNoWord, AsksForm, IsRunOf, Refuses, file_words, met_in, name_of, words_in}
 use Rattle.tally_line.specs.inside.LineSteps.{IsComplete, IsFaultFor, IsHelpFor, IsFaultOf, IsFileFault, IsLineOf, IsMemoryOrUsage}
 use Rattle.tally_line.specs.Jobs.{IsRunnable}
+use Rattle.tally_line.specs.Options.{SetsJob}
 use Rattle.tally_line.specs.declared.line.FileArg.{FileArg}
 use Rattle.tally_line.specs.declared.job.Job.{Job}
 use Rattle.tally_line.specs.declared.job.Report.{Report}
@@ -66,13 +67,14 @@ file_fault name rows r words (fault.Prefix index) named words_are h =
 
 pub run_found : (name : Text) (rows : List Row) (r : Report) (words : List (Bor Text)) (job : Job) (files : List FileArg) → name ≡ name_of r
     → words_in rows ≡ texts words → 0 < length (words_in rows) → job.report ≡ r → IsRunnable job → job.askers ≤ 64 → (job.askers ≡ 0) ⊎ (r ≡ report.All)
-    → AsksForm r rows job.form → NamesFiles r (texts words) files → IsRunOf (Some (name, rows)) job files
-run_found name rows r words job files named words_are some is runnable few asked form names = record {
+    → AsksForm r rows job.form → SetsJob rows job → NamesFiles r (texts words) files → IsRunOf (Some (name, rows)) job files
+run_found name rows r words job files named words_are some is runnable few asked form options names = record {
   named = ap Some (named ∙ ap name_of (sym is));
   runnable = runnable;
   form = rw is form;
   few_askers = few;
   all_is_asked = rw is asked;
+  options = options;
   some_file = omega (arith, some, ap length words_are, length-map {A = FileArg} {B = Text}, length-map {A = Bor Text} {B = Text}, ap length names.each_word);
   names_files = rw (is, words_are) names;
 }

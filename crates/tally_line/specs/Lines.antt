@@ -7,6 +7,7 @@ use Rattle.clap.specs.declared.error.kind.ErrorKind.TheVariants as kind
 use Rattle.tally_line.specs.CommandLine.{tally_app}
 use Rattle.tally_line.specs.FileWords.{IsFirstBare, NamesFiles}
 use Rattle.tally_line.specs.Jobs.{IsRunnable}
+use Rattle.tally_line.specs.Options.{SetsJob}
 use Rattle.tally_line.specs.declared.line.FileArg.{FileArg}
 use Rattle.tally_line.specs.declared.job.Form.{Form}
 use Rattle.tally_line.specs.declared.job.Form.TheVariants as form
@@ -70,6 +71,7 @@ pub record IsRunOf (met : Met) (job : Job) (files : List FileArg) : Type 0 where
   pub form : AsksForm job.report (rows_met met) job.form
   pub few_askers : job.askers ≤ 64
   pub all_is_asked : (job.askers ≡ 0) ⊎ (job.report ≡ report.All)
+  pub options : SetsJob (rows_met met) job
   pub some_file : 0 < length files
   pub names_files : NamesFiles job.report (file_words met) files
 
