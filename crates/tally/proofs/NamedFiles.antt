@@ -2,7 +2,7 @@
 use Rattle.std.proofs.Common.{◌≡◌, ◌∙◌, ◌<◌, ℕ, List, ap, get_or, length, string_bytes, subst, sym}
 use Rattle.std.specs.List.{Contains}
 use Rattle.std.proofs.lemmas.List.Elements.{Contains-get_or}
-use Rattle.tally_cli.specs.declared.line.files.FileArg.{FileArg}
+use Rattle.tally_line.specs.declared.line.FileArg.{FileArg}
 use Rattle.tally.specs.Faults.{Names, NamesOneOf}
 use Rattle.tally.specs.declared.opened.OpenFault.{OpenFault}
 use Rattle.tally.specs.declared.opened.OpenFault.TheVariants.{Memory, NotOpened}

@@ -1,7 +1,7 @@
 -- Which file a fault of opening names.
 use Rattle.std.specs.Prelude.{◌≡◌, List, ⊤, string_bytes}
 use Rattle.std.specs.List.{Contains}
-use Rattle.tally_cli.specs.declared.line.files.FileArg.{FileArg}
+use Rattle.tally_line.specs.declared.line.FileArg.{FileArg}
 use Rattle.tally.specs.declared.opened.OpenFault.{OpenFault}
 use Rattle.tally.specs.declared.opened.OpenFault.TheVariants.{Memory, NotOpened}
 

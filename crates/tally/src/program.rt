@@ -1,5 +1,5 @@
 //! The program over a runtime.
-ghost use Rattle.tally_cli.specs.Jobs.{IsRunnable};
+ghost use Rattle.tally_line.specs.Jobs.{IsRunnable};
 
 use crate::faults::{FAULT, REFUSED, fault, file_fault, not_opened, run_fault, usage};
 use crate::opened::{OpenFault, ROOT, hold_closed_streams, open_all};

@@ -14,9 +14,9 @@ use Rattle.tally_records.specs.declared.batch.Kind.TheVariants.{Login}
 use Rattle.tally_sessions.specs.declared.entry.Entry.{Entry}
 use Rattle.tally_usage.specs.declared.entry.ProcEntry.{ProcEntry}
 use Rattle.tally_usage.specs.declared.order.Order.TheVariants as order
-use Rattle.tally_cli.specs.declared.job.Job.{Job}
-use Rattle.tally_cli.specs.declared.job.Report.{Report}
-use Rattle.tally_cli.specs.declared.job.Report.TheVariants as report
+use Rattle.tally_line.specs.declared.job.Job.{Job}
+use Rattle.tally_line.specs.declared.job.Report.{Report}
+use Rattle.tally_line.specs.declared.job.Report.TheVariants as report
 use Rattle.tally_cli.specs.Output.{form_text, is_wanted, questions_of, report_text, stays_asked}
 use Rattle.tally_cli.proofs.Texts.{asked_by}
 

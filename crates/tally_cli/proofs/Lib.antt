@@ -1,19 +1,14 @@
-pub mod Accepted
 pub mod Asked
 pub mod Calls
 pub mod Carried
-pub mod CommandLemmas
 pub mod Counting
 pub mod Dealt
 pub mod Each
 pub mod Ended
 pub mod Failing
 pub mod Faults
-pub mod FileLemmas
-pub mod FilledRows
 pub mod FirstPasses
 pub mod Limits
-pub mod LineLemmas
 pub mod Lists
 pub mod Numbered
 pub mod Outcomes
@@ -23,5 +18,4 @@ pub mod Shares
 pub mod Taken
 pub mod Texts
 pub mod TooMany
-pub mod WalkSteps
 pub mod WorkedRows

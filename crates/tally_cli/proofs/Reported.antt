@@ -13,7 +13,7 @@ use Rattle.tally_print.specs.declared.output.PrintFault.TheVariants as print
 use Rattle.tally_records.specs.declared.batch.Kind.{Kind}
 use Rattle.tally_sessions.specs.declared.entry.Entry.{Entry}
 use Rattle.tally_usage.specs.declared.entry.ProcEntry.{ProcEntry}
-use Rattle.tally_cli.specs.declared.job.Job.{Job}
+use Rattle.tally_line.specs.declared.job.Job.{Job}
 use Rattle.tally_cli.specs.declared.running.source.Source.{Source}
 use Rattle.tally_cli.specs.Output.{form_text, login_entries, proc_entries, questions_of, report_text}
 use Rattle.tally_cli.specs.declared.fault.RunFault.{RunFault}

@@ -17,11 +17,11 @@ use Rattle.tally_sessions.specs.declared.entry.Entry.{Entry}
 use Rattle.tally_usage.specs.Summary.{entries_of}
 use Rattle.tally_usage.specs.declared.entry.ProcEntry.{ProcEntry}
 use Rattle.tally_usage.specs.declared.order.Order.TheVariants as order
-use Rattle.tally_cli.specs.declared.job.Form.{Form}
-use Rattle.tally_cli.specs.declared.job.Form.TheVariants.{Text, Csv}
-use Rattle.tally_cli.specs.declared.job.Job.{Job}
-use Rattle.tally_cli.specs.declared.job.Report.{Report}
-use Rattle.tally_cli.specs.declared.job.Report.TheVariants.{Last, Connect, Commands, Users, All}
+use Rattle.tally_line.specs.declared.job.Form.{Form}
+use Rattle.tally_line.specs.declared.job.Form.TheVariants.{Text, Csv}
+use Rattle.tally_line.specs.declared.job.Job.{Job}
+use Rattle.tally_line.specs.declared.job.Report.{Report}
+use Rattle.tally_line.specs.declared.job.Report.TheVariants.{Last, Connect, Commands, Users, All}
 
 -- a file is of the wanted kind, if one is wanted
 abbrev pub is_wanted : Option Kind → Kind → Bool

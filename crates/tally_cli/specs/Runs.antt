@@ -14,7 +14,7 @@ use Rattle.tally_records.specs.declared.batch.Kind.TheVariants.{Login, Proc}
 use Rattle.tally_cli.specs.Output.{output}
 use Rattle.tally_cli.specs.declared.fault.RunFault.{RunFault}
 use Rattle.tally_cli.specs.declared.fault.RunFault.TheVariants.{Memory, Callers, File, Asker, Write}
-use Rattle.tally_cli.specs.declared.job.Job.{Job}
+use Rattle.tally_line.specs.declared.job.Job.{Job}
 use Rattle.tally_cli.specs.declared.running.source.Source.{Source}
 use Rattle.tally_book.specs.declared.fault.AskFault.TheVariants as ask
 use Rattle.tally_desk.specs.declared.fault.FeedFault.TheVariants as feed

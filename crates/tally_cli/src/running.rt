@@ -1,30 +1,28 @@
 //! A run: files are read by several threads into one book, and its reports are printed.
-ghost use Rattle.std.specs.Prelude.{◌≡◌, ◌+◌, ◌<◌, ◌≤◌, [], IfErr, IfOk, List, OnErr, OnOk, Err, ℕ, true, length, map, slice_index_or};
+ghost use Rattle.std.specs.Prelude.{◌≡◌, ◌+◌, ◌<◌, ◌≤◌, IfErr, IfOk, List, OnErr, OnOk, Err, ℕ, true, length, slice_index_or};
 ghost use Rattle.std.specs.List.{All};
 ghost use Rattle.tally_book.specs.Books.{IsLegal};
 ghost use Rattle.tally_desk.specs.Passes.{HasDone, Stands, first_passes};
 ghost use Rattle.tally_desk.specs.declared.fault.FeedFault.TheVariants as feed_fault_of;
-ghost use Rattle.tally_print.specs.Output.{IsWritable, Prints};
+ghost use Rattle.tally_print.specs.Output.{IsWritable};
 ghost use Rattle.tally_cli.specs.Runs.{IsReadable, IsAllowed, IsFailedRun, IsFullList, IsNamed, IsWholeRun, IsWrongNumber, Tell, Told, callers_fault, failed_writes};
-ghost use Rattle.tally_cli.specs.Output.{report_text};
-ghost use Rattle.tally_cli.specs.Jobs.{IsRunnable};
-ghost use Rattle.tally_cli.specs.inside.RunSteps.{AreRead, AreWorkedThrough, IsPrintFault, IsReadCause, IsUnprinted, run_fault};
+ghost use Rattle.tally_line.specs.Jobs.{IsRunnable};
+ghost use Rattle.tally_cli.specs.inside.RunSteps.{AreRead, AreWorkedThrough, IsReadCause, IsUnprinted, run_fault};
 
 mod deal;
 mod forms;
 mod gather;
+mod reporting;
 mod sections;
 pub(crate) mod source;
 mod task;
 mod work;
 
 use crate::fault::RunFault;
-use crate::job::Job;
 use crate::running::deal::{busy_feeders, deal_out};
-use crate::running::forms::print_answers;
 use crate::running::gather::{Cause, Failure, take_all};
-use crate::running::sections::{answers_to, questions_of};
-use crate::running::source::Source;
+use crate::running::reporting::{finish, report};
+use crate::running::source::{Source, kinds_of};
 use crate::running::task::Asking;
 use crate::running::work::carry_out_lists;
 use std::alloc::{AllocError, Global};
@@ -33,8 +31,8 @@ use std::sync::Wait;
 use std::thread::Threads;
 use tally_book::{Book, entries_are_posts, host_order_is_enough};
 use tally_desk::{Desk, Gate, Input, OpenFault, Pass};
+use tally_line::Job;
 use tally_print::Output;
-use tally_records::Kind;
 use tally_sessions::HOST_LIMIT;
 
 /// The closed book, where all passes are handed in.
@@ -164,51 +162,6 @@ fn feed_all<R: Threads + Wait + Sync, I: Input + Send, G: Gate + Sync>(
     match failure {
         None => Ok(book),
         Some(failure) => Err(fault_of(failure)),
-    }
-}
-
-/// The kinds of the files.
-fn kinds_of<I>(alloc: Global, sources: &[Source<I>]) -> Result<Vec<Kind>, AllocError>
-    ensures { IfOk result (λ v. v.items ≡ map (λ s. s.kind) sources.now) }
-{
-    sources.iter().map(|source| source.kind).collect(alloc)
-}
-
-/// Prints the job's report of the book, of which each file is a host.
-fn report<R: Threads + Sync, O: Output>(
-    rt: &R,
-    alloc: Global,
-    job: &Job,
-    kinds: &[Kind],
-    mut book: Book,
-    out: &mut O,
-) -> Result<(), RunFault>
-    requires runnable { IsRunnable job.now }
-    requires hosts { length kinds.now ≤ book.callers }
-    requires few { book.callers ≤ HOST_LIMIT }
-    requires some { 0 < book.callers }
-    requires calls { length book.calls ≤ 4224 }
-    requires writable { IsWritable (O.state out.old) }
-    ensures writes { Prints (O.state out.old) (O.state out.new) result (failed_writes result)
-        (report_text job.now kinds.now book.logins book.procs) }
-    ensures cause { IfErr result IsPrintFault }
-{
-    book.count_sessions(rt, alloc, job.feeders)?;
-    let questions = questions_of(alloc, job, kinds)?;
-    let answers = answers_to(alloc, book, questions.as_slice())?;
-    print_answers(alloc, job, answers.as_slice(), out)?;
-    Ok(())
-}
-
-/// Sees that what was written arrives.
-fn finish<O: Output>(out: &mut O) -> Result<(), RunFault>
-    requires { IsWritable (O.state out.old) }
-    ensures writes { Prints (O.state out.old) (O.state out.new) result (failed_writes result) [] }
-    ensures cause { IfErr result (λ f. f ≡ RunFault.Write) }
-{
-    match out.finish() {
-        Ok(()) => Ok(()),
-        Err(_) => Err(RunFault::Write),
     }
 }
 

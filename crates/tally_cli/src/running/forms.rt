@@ -6,9 +6,9 @@ ghost use Rattle.tally_print.specs.Output.{IsWritable, Prints, failed_calls};
 ghost use Rattle.tally_sessions.specs.Days.{IsOffset};
 ghost use Rattle.tally_cli.specs.Output.{form_text, table_of};
 
-use crate::job::{Form, Job, Report};
 use std::alloc::Global;
 use tally_book::Answer;
+use tally_line::{Form, Job, Report};
 use tally_print::{Output, PrintFault, Table, print_sections, print_table};
 
 /// The table that a report is as CSV.

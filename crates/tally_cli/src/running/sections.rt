@@ -1,12 +1,13 @@
 //! The sections of an output: their questions and answers.
-ghost use Rattle.std.specs.Prelude.{◌≡◌, ◌+◌, ◌<◌, ◌≤◌, ◌∷◌, [], IfOk, length, map};
+ghost use Rattle.std.specs.Prelude.{◌≡◌, ◌+◌, ◌<◌, ◌≤◌, ◌∷◌, [], IfOk, OnOk, length, map};
 ghost use Rattle.std.specs.List.{All};
 ghost use Rattle.tally_book.specs.Answers.{HasDays, IsAskable, NamesHostBelow, answer_of};
+ghost use Rattle.tally_book.specs.Books.{asked};
 ghost use Rattle.tally_cli.specs.Output.{is_wanted, questions_of, stays_asked};
 
-use crate::job::{Job, Report};
 use std::alloc::{AllocError, Global};
 use tally_book::{Answer, AskFault, Book, CALL_LIMIT, Question};
+use tally_line::{Job, Report};
 use tally_records::{Kind, Memory};
 use tally_sessions::HOST_LIMIT;
 use tally_usage::Order;
@@ -115,27 +116,41 @@ pub(crate) fn questions_of(
     }
 }
 
+/// The answer to one question, of a book that can take the call.
+fn answer_to(alloc: Global, book: &mut Book, question: &Question) -> Result<Answer, Memory>
+    requires caller { 0 < book.old.callers }
+    requires askable { IsAskable question.now }
+    requires host { NamesHostBelow book.old.callers question.now }
+    requires room { length book.old.calls < CALL_LIMIT }
+    ensures stored { OnOk result (book.new ≡ asked book.old 0 question.now) }
+    ensures value { IfOk result (λ a. a ≡ answer_of question.now book.old.logins book.old.procs) }
+    ensures days { IfOk result HasDays }
+{
+    match book.ask(alloc, 0, question) {
+        Ok(served) => Ok(served.answer),
+        Err(AskFault::Memory) => Err(Memory),
+        Err(_) => unreachable!(),
+    }
+}
+
 /// The answers to the questions, of a book that can take as many calls more.
 pub(crate) fn answers_to(
     alloc: Global,
-    mut book: Book,
+    book: &mut Book,
     questions: &[Question],
 ) -> Result<Vec<Answer>, Memory>
-    requires caller { 0 < book.callers }
+    requires caller { 0 < book.old.callers }
     requires askable { All IsAskable questions.now }
-    requires hosts { All (NamesHostBelow book.callers) questions.now }
-    requires room { length book.calls + length questions.now ≤ CALL_LIMIT }
+    requires hosts { All (NamesHostBelow book.old.callers) questions.now }
+    requires room { length book.old.calls + length questions.now ≤ CALL_LIMIT }
     ensures value { IfOk result (λ answers. answers.items
-        ≡ map (λ q. answer_of q book.logins book.procs) questions.now) }
+        ≡ map (λ q. answer_of q book.old.logins book.old.procs) questions.now) }
     ensures days { IfOk result (λ answers. All HasDays answers.items) }
 {
     let mut answers = Vec::with_capacity(alloc, questions.len())?;
     for index in 0..questions.len() {
-        match book.ask(alloc, 0, &questions[index]) {
-            Ok(served) => answers.push_reserved(served.answer),
-            Err(AskFault::Memory) => return Err(Memory),
-            Err(_) => unreachable!(),
-        }
+        let answer = answer_to(alloc, book, &questions[index])?;
+        answers.push_reserved(answer);
     }
     Ok(answers)
 }

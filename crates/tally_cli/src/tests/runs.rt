@@ -1,6 +1,6 @@
 //! What runs over small files write.
 ghost use Rattle.std.specs.Prelude.{◌≤◌};
-ghost use Rattle.tally_cli.specs.Jobs.{IsRunnable};
+ghost use Rattle.tally_line.specs.Jobs.{IsRunnable};
 
 use crate::{Form, Job, Report, RunFault, Source, run};
 use std::alloc::{AllocError, Global};

@@ -11,9 +11,9 @@ loop-index-preserved c =
     let before = c.loop-index.invariant in
     let i = c.loop-index.index in
     let near : c.loop-index.index < length c.args.questions.now = search rules in
-    let stored = c.in-Ok.ensures.stored in
-    let logins = c.args.book.logins in
-    let procs = c.args.book.procs in
+    let stored = c.in_ok-answer.ensures.stored in
+    let logins = c.args.book.now.logins in
+    let procs = c.args.book.now.procs in
     let qs = c.args.questions.now in
     let items = c.push_reserved.ensures.items in
     record {
@@ -23,16 +23,16 @@ loop-index-preserved c =
       calls = ap (λ (b : Contents). length b.calls) stored ∙ length-append c.loop-index.book.calls (_ ∷ []) ∙ omega (arith, before.calls);
       room = search rules;
       value = items
-          ∙ ap (λ l. l ++ c.in-Ok.served.answer ∷ []) before.value
-          ∙ ap (λ a. map (λ q. answer_of q logins procs) (take i qs) ++ a ∷ []) (c.in-Ok.ensures.served.answer ∙ answer_same _ _ _ _ _ before.logins before.procs)
+          ∙ ap (λ l. l ++ c.in_ok-answer.answer ∷ []) before.value
+          ∙ ap (λ a. map (λ q. answer_of q logins procs) (take i qs) ++ a ∷ []) (c.in_ok-answer.ensures.value ∙ answer_same _ _ _ _ _ before.logins before.procs)
           ∙ sym (map_next (λ q. answer_of q logins procs) qs i _ near);
-      days = All-same HasDays c.push_reserved.new.self.items (c.loop-index.answers.items ++ c.in-Ok.served.answer ∷ []) items
-          (All-push HasDays c.loop-index.answers.items c.in-Ok.served.answer before.days c.in-Ok.ensures.days);
+      days = All-same HasDays c.push_reserved.new.self.items (c.loop-index.answers.items ++ c.in_ok-answer.answer ∷ []) items
+          (All-push HasDays c.loop-index.answers.items c.in_ok-answer.answer before.days c.in_ok-answer.ensures.days);
     }
 
 pub returns-clause-value : goal.returns-clause-value
 returns-clause-value c =
     let all : c.loop-index.index ≡ length c.args.questions.now = search rules in
     c.loop-index.invariant.value
-    ∙ ap (λ n. map (λ q. answer_of q c.args.book.logins c.args.book.procs) (take n c.args.questions.now)) all
-    ∙ ap (map (λ q. answer_of q c.args.book.logins c.args.book.procs)) (take-length c.args.questions.now)
+    ∙ ap (λ n. map (λ q. answer_of q c.args.book.now.logins c.args.book.now.procs) (take n c.args.questions.now)) all
+    ∙ ap (map (λ q. answer_of q c.args.book.now.logins c.args.book.now.procs)) (take-length c.args.questions.now)

@@ -1,0 +1,6 @@
+pub mod CommandLine
+pub mod FileWords
+pub mod Jobs
+pub mod Lines
+pub mod Options
+pub mod inside

@@ -1,0 +1,3 @@
+-- What no public contract cites.
+pub mod Commands
+pub mod LineSteps

@@ -1,0 +1,51 @@
+-- What each step answers to the words of a command line.
+use Rattle.std.specs.Prelude.{◌≡◌, ◌<◌, List, ⊤, length}
+use Rattle.clap.specs.Words.{Text}
+use Rattle.clap.specs.declared.error.kind.ErrorKind.{ErrorKind}
+use Rattle.tally_line.specs.FileWords.{IsFirstBare}
+use Rattle.tally_line.specs.declared.job.Report.{Report}
+use Rattle.tally_line.specs.declared.line.Line.{Line}
+use Rattle.tally_line.specs.declared.line.LineFault.{LineFault}
+use Rattle.tally_line.specs.Lines.{Met, file_words, AsksFor, IsRunOf, IsShown}
+use Rattle.tally_line.specs.declared.job.Report.TheVariants as report
+use Rattle.tally_line.specs.declared.line.Line.TheVariants as line
+use Rattle.tally_line.specs.declared.line.LineFault.TheVariants as fault
+
+-- the answer to matches
+abbrev pub IsLineOf : Met → Line → Type 0
+IsLineOf met (line.Run job files) = IsRunOf met job files.items
+IsLineOf met (line.Help text) = ⊥
+
+-- why complete matches are refused
+abbrev pub IsFaultOf : Met → LineFault → Type 0
+IsFaultOf met fault.Memory = ⊤
+IsFaultOf met (fault.Usage text) = ⊥
+IsFaultOf met (fault.Prefix index) = AsksFor report.All met × IsFirstBare (file_words met) index
+
+-- why words name no files to a report
+abbrev pub IsFileFault : Report → List Text → LineFault → Type 0
+IsFileFault r words fault.Memory = ⊤
+IsFileFault r words (fault.Usage text) = ⊥
+IsFileFault r words (fault.Prefix index) = (r ≡ report.All) × IsFirstBare words index
+
+-- the answer where `clap` ends the words with a kind
+abbrev pub IsHelpFor : ErrorKind → Line → Type 0
+IsHelpFor k (line.Run job files) = ⊥
+IsHelpFor k (line.Help text) = IsShown k
+
+-- why there is none then
+abbrev pub IsFaultFor : ErrorKind → LineFault → Type 0
+IsFaultFor k fault.Memory = ⊤
+IsFaultFor k (fault.Usage text) = ¬ IsShown k
+IsFaultFor k (fault.Prefix index) = ⊥
+
+-- a fault of no file
+abbrev pub IsMemoryOrUsage : LineFault → Type 0
+IsMemoryOrUsage fault.Memory = ⊤
+IsMemoryOrUsage (fault.Usage text) = ⊤
+IsMemoryOrUsage (fault.Prefix index) = ⊥
+
+-- the matches name a report and a file
+pub record IsComplete (met : Met) : Type 0 where
+  pub report : (r : Report) × AsksFor r met
+  pub file : 0 < length (file_words met)

@@ -1,0 +1,18 @@
+//! The command line of `tally`, read as a job.
+//!
+//! `words` makes a `line` of the words: `command` is what the parser knows, `options` what the
+//! options of a report set, `files` the files that the words name, `refused` the answer where the
+//! parser gives no matches. A `line` asks for a `job`, or for help.
+#![tactic(auto)]
+
+mod command;
+mod files;
+mod job;
+mod line;
+mod options;
+mod refused;
+mod words;
+
+pub use crate::job::{Form, Job, Report};
+pub use crate::line::{FileArg, Line, LineFault};
+pub use crate::words::{file_word, job_of};

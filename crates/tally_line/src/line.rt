@@ -1,0 +1,53 @@
+//! What a command line asks for, or why it is refused.
+ghost use Rattle.std.specs.Prelude.{◌≡◌};
+ghost use Rattle.tally_line.specs.declared.line.LineFault.TheVariants.{Memory};
+
+use crate::job::Job;
+use std::alloc::{AllocError, AllocFailed};
+use tally_records::Kind;
+use thiserror::Error as ErrorText;
+
+/// A file of the command line.
+#[derive(Debug, Drop)]
+pub struct FileArg {
+    pub kind: Kind,
+    pub path: String,
+}
+
+/// What a command line asks for.
+#[derive(Debug, Drop)]
+pub enum Line {
+    /// A run over files.
+    Run { job: Job, files: Vec<FileArg> },
+    /// The text of a request for help.
+    Help { text: String },
+}
+
+/// Why a command line is refused.
+#[derive(Debug, Drop, ErrorText)]
+pub enum LineFault {
+    #[error("out of memory")]
+    Memory,
+    /// What is wrong with the words, and how the program is used.
+    #[error("{text}")]
+    Usage { text: String },
+    /// The file word with this index is the first that does not begin with `w:` or `p:`.
+    #[error("no prefix w: or p:")]
+    Prefix { index: usize },
+}
+
+impl From<AllocError> for LineFault {
+    ghost from_gives = { λ _ fault. fault ≡ Memory };
+
+    fn from(_error: AllocError) -> LineFault {
+        LineFault::Memory
+    }
+}
+
+impl<T: Drop> From<AllocFailed<T>> for LineFault {
+    ghost from_gives = { λ _ fault. fault ≡ Memory };
+
+    fn from(_error: AllocFailed<T>) -> LineFault {
+        LineFault::Memory
+    }
+}

@@ -1,0 +1,91 @@
+//! The command line's words read as a job.
+ghost use Rattle.std.specs.Prelude.{◌≡◌, [], Some, IfOk, IfErr, map, slice_index_or, string_bytes};
+ghost use Rattle.clap.specs.Words.{found_of, rows_of, subcommand_rows_of};
+ghost use Rattle.tally_line.specs.Lines.{Answers, HasNoWord, Refuses, file_words, met_in, words_in};
+ghost use Rattle.tally_line.specs.inside.LineSteps.{IsComplete, IsFaultOf, IsLineOf};
+
+use crate::command;
+use crate::files::files_of;
+use crate::line::{Line, LineFault};
+use crate::options::{job_from, report_of};
+use crate::refused::{fault_of, refused};
+use clap::ArgMatches;
+use std::alloc::Global;
+
+/// Reads the words after the program's own name.
+#[inline(never)]
+pub fn job_of(alloc: Global, words: &[String]) -> Result<Line, LineFault>
+    ensures ok { IfOk result (Answers (map string_bytes words.now)) }
+    ensures err { IfErr result (Refuses (map string_bytes words.now)) }
+{
+    let command = command::tally(alloc)?;
+    match command.try_get_matches_from(words) {
+        Ok(matches) => run_of(alloc, &matches),
+        Err(error) => refused(alloc, &error),
+    }
+}
+
+/// The file word with this index, of words that name so many files; else an empty text.
+#[inline(never)]
+pub fn file_word(alloc: Global, words: &[String], index: usize) -> Result<String, LineFault>
+    ensures word { IfOk result (λ word. string_bytes word
+        ≡ slice_index_or (file_words (met_in (map string_bytes words.now))) index []) }
+    ensures err { IfErr result (HasNoWord (map string_bytes words.now)) }
+{
+    let command = command::tally(alloc)?;
+    match command.try_get_matches_from(words) {
+        Ok(matches) => Ok(String::from_str(alloc, word_at(&matches, index))?),
+        Err(error) => Err(fault_of(alloc, &error)),
+    }
+}
+
+fn word_at<'a>(matches: &ArgMatches<'a>, index: usize) -> &'a str
+    ensures { result.now ≡ slice_index_or (file_words (subcommand_rows_of matches.now)) index [] }
+{
+    match matches.subcommand() {
+        Some((_, matches)) => word_under(matches, index),
+        None => "",
+    }
+}
+
+fn word_under<'a>(matches: &ArgMatches<'a>, index: usize) -> &'a str
+    ensures { result.now ≡ slice_index_or (words_in (rows_of (found_of matches.now))) index [] }
+{
+    let Some(words) = matches.get_raw("file") else {
+        return "";
+    };
+    match words.get(index) {
+        Some(word) => word,
+        None => "",
+    }
+}
+
+/// The run that the matches of a whole command line ask for.
+#[inline(never)]
+fn run_of(alloc: Global, matches: &ArgMatches<'_>) -> Result<Line, LineFault>
+    requires { IsComplete (subcommand_rows_of matches.now) }
+    ensures ok { IfOk result (IsLineOf (subcommand_rows_of matches.now)) }
+    ensures err { IfErr result (IsFaultOf (subcommand_rows_of matches.now)) }
+{
+    match matches.subcommand() {
+        Some((name, matches)) => run_under(alloc, name, matches),
+        None => unreachable!(),
+    }
+}
+
+/// The run that a subcommand asks for.
+fn run_under(alloc: Global, name: &str, matches: &ArgMatches<'_>) -> Result<Line, LineFault>
+    requires { IsComplete (Some (name.now, rows_of (found_of matches.now))) }
+    ensures ok { IfOk result (IsLineOf (Some (name.now, rows_of (found_of matches.now)))) }
+    ensures err { IfErr result (IsFaultOf (Some (name.now, rows_of (found_of matches.now)))) }
+{
+    let Some(report) = report_of(name, matches) else {
+        unreachable!()
+    };
+    let Some(words) = matches.get_raw("file") else {
+        unreachable!()
+    };
+    let files = files_of(alloc, report, words)?;
+    let job = job_from(report, matches);
+    Ok(Line::Run { job, files })
+}
