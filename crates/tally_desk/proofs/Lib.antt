@@ -4,6 +4,7 @@ pub mod CountLemmas
 pub mod Deals
 pub mod Done
 pub mod Ends
+pub mod ExitLemmas
 pub mod FeedLemmas
 pub mod Fills
 pub mod Histories
