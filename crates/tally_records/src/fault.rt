@@ -33,7 +33,7 @@ pub enum RecordFault {
 /// `Memory` before `Bad`.
 #[derive(Debug, PartialEq, Eq, Drop, Error)]
 pub enum BatchFault {
-    /// Memory for all records was refused, before any was read.
+    /// Memory was refused.
     #[error("out of memory")]
     Memory,
     /// The length, in bytes, is no multiple of the record's size.

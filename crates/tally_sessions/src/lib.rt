@@ -5,7 +5,7 @@
 //! `rules` says what a record means, `ending` ends stays, `ended` sums those that have ended, `name_table` finds lines
 //! and users, `questions` answers. `connect` has the rows of connect time: `walk` goes over all sessions, `user_sums`
 //! sums by user, `day_sums` by day, `day_user_rows` by both; `sums` is what rows and tracks add up. `sessions` holds the
-//! tracks of all hosts, which `of_entries` makes of a list, each thread those of a part of the hosts (`cut`); an `entry`
+//! tracks of all hosts, which `of_entries` makes of a list, each thread those of some hosts; an `entry`
 //! and a stay are plain values, `times` are rows, `days` and `laws` state laws.
 #![tactic(auto)]
 
