@@ -3,6 +3,7 @@
 
 mod faults;
 mod opened;
+mod output;
 mod program;
 mod shown;
 mod words;

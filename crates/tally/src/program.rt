@@ -3,6 +3,7 @@ ghost use Rattle.tally_line.specs.Jobs.{IsRunnable};
 
 use crate::faults::{FAULT, REFUSED, fault, file_fault, not_opened, run_fault, usage};
 use crate::opened::{OpenFault, ROOT, hold_closed_streams, open_all};
+use crate::output::Watched;
 use crate::shown::{ErrorsTo, Shown, printable};
 use crate::words::{WordsFault, words};
 use std::hash::RandomState;
@@ -42,6 +43,7 @@ where
 fn help<R: Print + Eprint>(rt: &R, text: &str) -> ExitCode {
     match rt.print(text) {
         Ok(()) => ExitCode::SUCCESS,
+        Err(error) if error.kind() == io::ErrorKind::BrokenPipe => ExitCode::from(FAULT),
         Err(_) => fault(rt, FAULT, RunFault::Write),
     }
 }
@@ -99,9 +101,10 @@ where
         Err(OpenFault::Memory) => return fault(rt, FAULT, Memory),
         Err(OpenFault::NotOpened(path)) => return not_opened(rt, Shown::new(path, to)),
     };
-    let mut out = Writing::new(io::writer(rt));
+    let mut out = Writing::new(Watched::new(io::writer(rt)));
     match run(rt, rt.alloc(), keys, job, sources, &OpenGate, &mut out) {
         Ok(()) => ExitCode::SUCCESS,
+        Err(RunFault::Write) if out.writer().is_reader_gone() => ExitCode::from(FAULT),
         Err(found) => run_fault(rt, to, files, found),
     }
 }

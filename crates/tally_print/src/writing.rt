@@ -55,6 +55,13 @@ impl<W: Write> Writing<W> {
         }
     }
 
+    /// The writer.
+    pub fn writer(&self) -> &W
+        ensures { result.now ≡ self.now.writer }
+    {
+        &self.writer
+    }
+
     fn fail(&mut self) -> OutputFault
         requires { self.old.failures < 2 ^ 64 - 1 }
         ensures { self.new ≡ record self.old { failures = self.old.failures + 1 } }
