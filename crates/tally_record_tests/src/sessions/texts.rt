@@ -1,11 +1,11 @@
 //! The answers of sessions as texts.
 ghost use Rattle.std.specs.Prelude.{◌≡◌};
 
-use crate::sessions::Sessions;
 use std::alloc::Global;
 use std::fmt::Write;
 use std::test::Fail;
 use tally_records::Name;
+use tally_sessions::Sessions;
 
 /// The text of a name.
 fn text_of(alloc: Global, name: &Name) -> Result<String, Fail> {

@@ -1,7 +1,7 @@
 //! Stays that nothing has ended, counted up to a given moment.
-use crate::tests::name;
-use crate::tests::scripts::played;
-use crate::tests::texts::{day_users_of, days_of, stays_of, users_of};
+use crate::sessions::name;
+use crate::sessions::scripts::played;
+use crate::sessions::texts::{day_users_of, days_of, stays_of, users_of};
 use std::hash::RandomState;
 use std::test::Fail;
 

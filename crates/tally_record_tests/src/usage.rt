@@ -1,10 +1,10 @@
 //! Worked examples, and each growth refused in turn.
-use crate::{CommandRow, ENTRY_LIMIT, Order, Summary, UidRow, Usage};
 use std::alloc::Global;
 use std::hash::RandomState;
 use std::process::Abort;
 use std::test::Fail;
 use tally_records::{Batch, BatchFault, Comm, Kind, List, Memory, PROC_SIZE};
+use tally_usage::{CommandRow, ENTRY_LIMIT, Order, Summary, UidRow, Usage};
 
 mod commands;
 mod filters;

@@ -1,6 +1,6 @@
 //! What ends a stay.
-use crate::tests::scripts::played;
-use crate::tests::texts::stays_of;
+use crate::sessions::scripts::played;
+use crate::sessions::texts::stays_of;
 use std::hash::RandomState;
 use std::test::Fail;
 

@@ -1,10 +1,10 @@
 //! Worked records, and each public function once.
-use crate::{
+use std::alloc::Global;
+use std::test::Fail;
+use tally_records::{
     Batch, BatchFault, Event, Key, Kind, List, LoginRecord, Logins, RecordFault, comp, event,
     read_login, read_proc,
 };
-use std::alloc::Global;
-use std::test::Fail;
 
 fn put(bytes: &mut [u8], at: usize, text: &[u8]) {
     for (to, from) in bytes.iter_mut().skip(at).zip(text) {

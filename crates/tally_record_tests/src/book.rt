@@ -1,10 +1,10 @@
 //! The limits of a book.
 ghost use Rattle.tally_book.specs.Answers.{IsAskable};
 
-use crate::{AskFault, Book, Counts, PostFault, Question, Receipt, Served};
 use std::alloc::Global;
 use std::hash::RandomState;
 use std::test::Fail;
+use tally_book::{AskFault, Book, Counts, PostFault, Question, Receipt, Served};
 use tally_records::Batch;
 
 /// Posts as a caller, of which the book has some.

@@ -2,11 +2,11 @@
 use super::{
     BELL, EXECUTED, FORKED, MAKE, OTHER, commands_of, makes, proc_record, row, summary_of,
 };
-use crate::{CommandRow, Order, Summary, Usage};
 use std::alloc::Global;
 use std::hash::RandomState;
 use std::process::Abort;
 use std::test::Fail;
+use tally_usage::{CommandRow, Order, Summary, Usage};
 
 /// The rows of the three runs of make, where a command of one run is joined to the others.
 fn joined() -> [CommandRow; 2] {

@@ -1,12 +1,12 @@
 //! The rows by plain filters over the list of entries, compared with those of a summary.
 use super::{BELL, MAKE, OTHER, commands_of, post, proc_record, row, users_of};
-use crate::{CommandRow, Order, ProcEntry, Summary, UidRow, Usage};
 use std::alloc::{AllocError, Global};
 use std::cmp::Ordering;
 use std::hash::RandomState;
 use std::process::Abort;
 use std::test::Fail;
 use tally_records::{Comm, List, PROC_SIZE, ProcRecord};
+use tally_usage::{CommandRow, Order, ProcEntry, Summary, UidRow, Usage};
 
 const NONE: Usage = Usage {
     count: 0,

@@ -2,13 +2,13 @@
 ghost use Rattle.std.specs.Prelude.{IfOk};
 ghost use Rattle.tally_records.specs.Records.{IsLogins};
 
-use crate::sessions::Sessions;
-use crate::tests::name;
-use crate::tests::scripts::{played, record_of};
+use crate::sessions::name;
+use crate::sessions::scripts::{played, record_of};
 use std::alloc::Global;
 use std::hash::RandomState;
 use std::test::Fail;
 use tally_records::Batch;
+use tally_sessions::Sessions;
 
 /// What a refused `prepare` must leave as it is: count of entries, total, ann's time, users.
 fn answers(alloc: Global, sessions: &Sessions) -> Result<[u64; 4], Fail> {

@@ -1,9 +1,9 @@
 //! A slow program for the same stays: from each start it looks ahead over all later entries.
 ghost use Rattle.std.specs.Prelude.{◌<◌, length};
 
-use crate::entry::{End, Entry, Stay};
 use std::alloc::Global;
 use tally_records::{Event, LoginRecord, Memory, event};
+use tally_sessions::{End, Entry, Stay};
 
 /// Whether a later record of the host ends the stay of a record.
 fn ends(start: &LoginRecord, later: &LoginRecord) -> bool {

@@ -1,13 +1,12 @@
 //! Sessions of a list of entries, by one thread and by several.
 ghost use Rattle.std.specs.Prelude.{◌≡◌, ◌≤◌, ◌<◌, All, IfOk, length};
 
-use crate::entries::list::EntryList;
-use crate::sessions::{ENTRY_LIMIT, Sessions};
-use crate::tests::scripts::played;
+use crate::sessions::scripts::played;
 use std::alloc::Global;
 use std::hash::RandomState;
 use std::test::Fail;
 use std::thread::Threads;
+use tally_sessions::{ENTRY_LIMIT, EntryList, Sessions};
 
 /// The entries of three hosts after a script.
 fn listed(alloc: Global, keys: RandomState, script: &str) -> Result<EntryList, Fail>

@@ -1,12 +1,12 @@
 //! Scripts: records as words, and the sessions that they make.
 ghost use Rattle.std.specs.Prelude.{◌≡◌, ◌≤◌, ◌<◌, ◌+◌, IfOk, OnOk, length};
 
-use crate::sessions::Sessions;
-use crate::tests::login_record;
+use crate::sessions::login_record;
 use std::alloc::Global;
 use std::hash::RandomState;
 use std::test::Fail;
 use tally_records::Batch;
+use tally_sessions::Sessions;
 
 /// The `ut_type` that a word of a script stands for.
 fn kind_of(word: &str) -> u8 {

@@ -1,13 +1,12 @@
 //! Lists that follow no rule, compared with the scan.
 ghost use Rattle.std.specs.Prelude.{◌≡◌, ◌<◌, IfOk};
 
-use crate::entry::Entry;
-use crate::sessions::Sessions;
-use crate::tests::scripts::post_below;
-use crate::tests::{login_record, scan};
+use crate::sessions::scripts::post_below;
+use crate::sessions::{login_record, scan};
 use std::alloc::Global;
 use std::hash::RandomState;
 use std::test::Fail;
+use tally_sessions::{Entry, Sessions};
 
 /// Numbers that follow no rule that a session knows.
 #[derive(Drop)]
