@@ -479,6 +479,15 @@ row('sa-has-no-until', 'sa,until', '--until is no option of sa.', ['sa', '--unti
 row('until-out-of-range', 'ac,until', '2147483648 is past the last moment.', ['ac', '--until', '2147483648', 'f'],
     '', None, 2, {'f': b''})
 
+ODD_OFFSET = ("error: --east and --west take minutes, without a sign or a leading zero: for +0200 write --east 120\n\n"
+              "For more information, try '--help'.\n")
+row('offset-with-a-sign', 'ac,offset', '+0200 is no number of minutes.', ['ac', '--east', '+0200', 'f'], '', ODD_OFFSET, 2,
+    {'f': ONE_HOUR})
+row('offset-with-a-leading-zero', 'ac,offset', '060 may mean 60 minutes, or an hour.', ['ac', '--west', '060', 'f'], '',
+    ODD_OFFSET, 2, {'f': ONE_HOUR})
+row('offset-of-zero', 'ac,offset', 'A single zero is a number of minutes.', ['ac', '--east', '0', '--west', '0', 'f'], TOTAL_ONE,
+    files={'f': ONE_HOUR})
+
 # --- closed standard streams
 
 BESIDE = 'A file and standard input, with '

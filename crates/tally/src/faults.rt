@@ -42,12 +42,14 @@ pub(crate) fn usage<R: Eprint>(rt: &R, text: &str) -> ExitCode {
     ExitCode::from(REFUSED)
 }
 
-/// Prints why a run over these files gave no whole output. A file is named by its path.
+/// Prints why a run over these files gave no whole output. A file is named by its path. Where
+/// whoever read the output has gone, nothing is said of it.
 pub(crate) fn run_fault<R: Eprint>(
     rt: &R,
     to: ErrorsTo,
     files: &[FileArg],
     found: RunFault,
+    is_reader_gone: bool,
 ) -> ExitCode
     requires { (callers : ℕ) × IsNamed (length files.now) callers found }
 {
@@ -56,6 +58,7 @@ pub(crate) fn run_fault<R: Eprint>(
             let path = Shown::new(files[host as usize].path.as_str(), to);
             file_fault(rt, FAULT, path, fault)
         }
+        RunFault::Write if is_reader_gone => ExitCode::from(FAULT),
         found => fault(rt, FAULT, found),
     }
 }

@@ -104,8 +104,7 @@ where
     let mut out = Writing::new(Watched::new(io::writer(rt)));
     match run(rt, rt.alloc(), keys, job, sources, &OpenGate, &mut out) {
         Ok(()) => ExitCode::SUCCESS,
-        Err(RunFault::Write) if out.writer().is_reader_gone() => ExitCode::from(FAULT),
-        Err(found) => run_fault(rt, to, files, found),
+        Err(found) => run_fault(rt, to, files, found, out.writer().is_reader_gone()),
     }
 }
 

@@ -15,6 +15,3 @@ pub use fault::{AskFault, PostFault};
 pub use history::{Call, Counts, Receipt, Served};
 pub use laws::{entries_are_posts, host_order_is_enough};
 pub use question::{Answer, ConnectRow, Question};
-
-#[cfg(test)]
-mod tests;

@@ -3,6 +3,7 @@ pub mod CommandLemmas
 pub mod FileLemmas
 pub mod FilledRows
 pub mod LineLemmas
+pub mod OffsetLemmas
 pub mod OptionLemmas
 pub mod WalkSteps
 pub mod WorkedRows

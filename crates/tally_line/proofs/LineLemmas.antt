@@ -16,9 +16,10 @@ use Rattle.clap.proofs.WalkLemmas.{one_text-rows, raw_values-rows}
 use Rattle.tally_line.proofs.Accepted.{accepted_are_complete}
 use Rattle.tally_line.specs.CommandLine.{tally_app}
 use Rattle.tally_line.specs.FileWords.{IsFirstBare, NamesFiles}
-use Rattle.tally_line.specs.Lines.{Answers, AreAccepted, AsksFor, HasNoWord, AsksForm, IsRunOf, Refuses, file_words, met_in, name_of, words_in}
+use Rattle.tally_line.specs.Lines.{Answers, AreAccepted, AsksFor, HasNoWord, AsksForm, IsRunOf, Refuses, file_words, met_in, name_of, rows_met, words_in}
 use Rattle.tally_line.specs.inside.LineSteps.{IsComplete, IsFaultFor, IsHelpFor, IsFaultOf, IsFileFault, IsLineOf, IsMemoryOrUsage}
 use Rattle.tally_line.specs.Jobs.{IsRunnable}
+use Rattle.tally_line.specs.Offsets.{HasPlainOffsets}
 use Rattle.tally_line.specs.Options.{SetsJob}
 use Rattle.tally_line.specs.declared.line.FileArg.{FileArg}
 use Rattle.tally_line.specs.declared.job.Job.{Job}
@@ -67,14 +68,15 @@ file_fault name rows r words (fault.Prefix index) named words_are h =
 
 pub run_found : (name : Text) (rows : List Row) (r : Report) (words : List (Bor Text)) (job : Job) (files : List FileArg) → name ≡ name_of r
     → words_in rows ≡ texts words → 0 < length (words_in rows) → job.report ≡ r → IsRunnable job → job.askers ≤ 64 → (job.askers ≡ 0) ⊎ (r ≡ report.All)
-    → AsksForm r rows job.form → SetsJob rows job → NamesFiles r (texts words) files → IsRunOf (Some (name, rows)) job files
-run_found name rows r words job files named words_are some is runnable few asked form options names = record {
+    → AsksForm r rows job.form → SetsJob rows job → HasPlainOffsets rows → NamesFiles r (texts words) files → IsRunOf (Some (name, rows)) job files
+run_found name rows r words job files named words_are some is runnable few asked form options plain names = record {
   named = ap Some (named ∙ ap name_of (sym is));
   runnable = runnable;
   form = rw is form;
   few_askers = few;
   all_is_asked = rw is asked;
   options = options;
+  plain = plain;
   some_file = omega (arith, some, ap length words_are, length-map {A = FileArg} {B = Text}, length-map {A = Bor Text} {B = Text}, ap length names.each_word);
   names_files = rw (is, words_are) names;
 }
@@ -117,7 +119,7 @@ module _ (words : List Text) (command : Command) (is : app_of command ≡ tally_
       → (is_simple_and_free (app_of command) ≡ true → fault_of (app_of command) words ≡ [])
       → IsFaultOf (subcommand_rows_of m) f → Refuses words f
   refuses m fault.Memory has taken found = tt
-  refuses m (fault.Usage text) has taken found = absurd found
+  refuses m (fault.Usage text) has taken found = inr (accepted taken, subst (λ met. ¬ HasPlainOffsets (rows_met met)) (met_in_words m has) found)
   refuses m (fault.Prefix index) has taken found =
       let all = subst (λ met. AsksFor report.All met × IsFirstBare (file_words met) index) (met_in_words m has) found in (accepted taken, all.0, all.1)
 
@@ -135,7 +137,7 @@ module _ (words : List Text) (command : Command) (is : app_of command ≡ tally_
 
   as_fault : (e : Error) (f : LineFault) → IsAmong (kind_of e) (fault_of tally_app words) → IsFaultFor (kind_of e) f → Refuses words f
   as_fault e fault.Memory one h = tt
-  as_fault e (fault.Usage text) one h = (kind_of e, one, h)
+  as_fault e (fault.Usage text) one h = inl (kind_of e, one, h)
   as_fault e (fault.Prefix index) one h = absurd h
 
   -- what holds where memory ran out, and where the words end with the error, holds of the answer to the error

@@ -7,6 +7,7 @@ use Rattle.clap.specs.declared.error.kind.ErrorKind.TheVariants as kind
 use Rattle.tally_line.specs.CommandLine.{tally_app}
 use Rattle.tally_line.specs.FileWords.{IsFirstBare, NamesFiles}
 use Rattle.tally_line.specs.Jobs.{IsRunnable}
+use Rattle.tally_line.specs.Offsets.{HasPlainOffsets}
 use Rattle.tally_line.specs.Options.{SetsJob}
 use Rattle.tally_line.specs.declared.line.FileArg.{FileArg}
 use Rattle.tally_line.specs.declared.job.Form.{Form}
@@ -72,6 +73,7 @@ pub record IsRunOf (met : Met) (job : Job) (files : List FileArg) : Type 0 where
   pub few_askers : job.askers ≤ 64
   pub all_is_asked : (job.askers ≡ 0) ⊎ (job.report ≡ report.All)
   pub options : SetsJob (rows_met met) job
+  pub plain : HasPlainOffsets (rows_met met)
   pub some_file : 0 < length files
   pub names_files : NamesFiles job.report (file_words met) files
 
@@ -103,7 +105,7 @@ Answers words (line.Help text) = AskForHelp words
 -- why words are refused
 abbrev pub Refuses : List Text → LineFault → Type 0
 Refuses words fault.Memory = ⊤
-Refuses words (fault.Usage text) = AreMistaken words
+Refuses words (fault.Usage text) = AreMistaken words ⊎ (AreAccepted words × ¬ HasPlainOffsets (rows_met (met_in words)))
 Refuses words (fault.Prefix index) =
     AreAccepted words × AsksFor report.All (met_in words) × IsFirstBare (file_words (met_in words)) index
 

@@ -1,14 +1,16 @@
 //! The command line of `tally`, read as a job.
 //!
 //! `words` makes a `line` of the words: `command` is what the parser knows, `options` what the
-//! options of a report set, `files` the files that the words name, `refused` the answer where the
-//! parser gives no matches. A `line` asks for a `job`, or for help.
+//! options of a report set, `offsets` refuses what only looks like minutes, `files` the files that
+//! the words name, `refused` the answer where the parser gives no matches. A `line` asks for a
+//! `job`, or for help.
 #![tactic(auto)]
 
 mod command;
 mod files;
 mod job;
 mod line;
+mod offsets;
 mod options;
 mod refused;
 mod words;

@@ -7,6 +7,7 @@ ghost use Rattle.tally_line.specs.inside.LineSteps.{IsComplete, IsFaultOf, IsLin
 use crate::command;
 use crate::files::files_of;
 use crate::line::{Line, LineFault};
+use crate::offsets::{NOT_PLAIN, has_plain_offsets};
 use crate::options::{job_from, report_of};
 use crate::refused::{fault_of, refused};
 use clap::ArgMatches;
@@ -85,6 +86,10 @@ fn run_under(alloc: Global, name: &str, matches: &ArgMatches<'_>) -> Result<Line
     let Some(words) = matches.get_raw("file") else {
         unreachable!()
     };
+    if !has_plain_offsets(matches) {
+        let text = String::from_str(alloc, NOT_PLAIN)?;
+        return Err(LineFault::Usage { text });
+    }
     let files = files_of(alloc, report, words)?;
     let job = job_from(report, matches);
     Ok(Line::Run { job, files })

@@ -30,6 +30,3 @@ pub use crate::process::compressed::comp;
 pub use crate::process::packed::PackedProc;
 pub use crate::process::{PROC_SIZE, ProcRecord, read_proc};
 pub use crate::telling::event;
-
-#[cfg(test)]
-mod tests;

@@ -27,6 +27,3 @@ pub use crate::entry::{End, Entry, Stay};
 pub use crate::laws::times_have_rows;
 pub use crate::sessions::{ENTRY_LIMIT, HOST_LIMIT, Sessions};
 pub use crate::times::{DayTime, DayUserTime, UserTime};
-
-#[cfg(test)]
-mod tests;

@@ -20,6 +20,3 @@ pub use order::Order;
 pub use summary::Summary;
 pub use usage::Usage;
 pub use user::UidRow;
-
-#[cfg(test)]
-mod tests;

@@ -1,0 +1,68 @@
+//! What clock changes do to stays.
+use crate::sessions::scripts::played;
+use crate::sessions::texts::stays_of;
+use std::alloc::Global;
+use std::hash::RandomState;
+use std::test::Fail;
+
+fn stays_after(alloc: Global, keys: RandomState, script: &str) -> Result<String, Fail> {
+    stays_of(alloc, &played(alloc, keys, script)?, None, None)
+}
+
+#[test]
+fn clock_pair_moves_the_start(rt: HostRuntime) -> Result<(), Fail> {
+    for (script, told) in [
+        (
+            "0 in tty1 ann 1000;0 old ~ - 2000;0 new ~ - 5000;0 out tty1 - 6000",
+            "ann Logout 4000 6000 2000;",
+        ),
+        (
+            "0 old ~ - 2000;0 in tty1 ann 1000;0 new ~ - 5000;0 out tty1 - 6000",
+            "ann Logout 4000 6000 2000;",
+        ),
+        (
+            "0 in tty1 ann 1000;0 old ~ - 2000;0 new ~ - 5000;0 new ~ - 5500;0 out tty1 - 6000",
+            "ann Logout 4000 6000 2000;",
+        ),
+        (
+            "0 in tty1 ann 1000;0 old ~ - 2000;0 new ~ - 5000",
+            "ann Still 4000 5000 1000;",
+        ),
+        (
+            "0 in tty1 ann 1000;0 new ~ - 5000;0 out tty1 - 6000",
+            "ann Logout 1000 6000 5000;",
+        ),
+    ] {
+        assert_eq!(rt;
+            stays_after(rt.alloc(), RandomState::new(&rt)?, script)?.as_str(),
+            told,
+            "{script}"
+        );
+    }
+    Ok(())
+}
+
+#[test]
+fn start_is_clamped_and_a_backward_session_has_no_length(rt: HostRuntime) -> Result<(), Fail> {
+    for (script, told) in [
+        (
+            "0 in tty1 ann 0;0 old ~ - -2147483648;0 new ~ - 2147483647;0 out tty1 - 2147483647",
+            "ann Logout 2147483647 2147483647 0;",
+        ),
+        (
+            "0 in tty1 ann 0;0 old ~ - 2147483647;0 new ~ - -2147483648;0 out tty1 - 2147483647",
+            "ann Logout -2147483648 2147483647 4294967295;",
+        ),
+        (
+            "0 in tty1 ann 0;0 out tty1 - -1000",
+            "ann Logout 0 -1000 0;",
+        ),
+    ] {
+        assert_eq!(rt;
+            stays_after(rt.alloc(), RandomState::new(&rt)?, script)?.as_str(),
+            told,
+            "{script}"
+        );
+    }
+    Ok(())
+}

@@ -1,0 +1,103 @@
+//! Lists that follow no rule, compared with the scan.
+ghost use Rattle.std.specs.Prelude.{◌≡◌, ◌<◌, IfOk};
+
+use crate::sessions::scripts::post_below;
+use crate::sessions::{login_record, scan};
+use std::alloc::Global;
+use std::hash::RandomState;
+use std::test::Fail;
+use tally_sessions::{Entry, Sessions};
+
+/// Numbers that follow no rule that a session knows.
+#[derive(Drop)]
+struct Numbers {
+    state: u32,
+}
+
+impl Numbers {
+    fn below(&mut self, count: u32) -> u32
+        requires { 0 < count }
+        ensures { result < count }
+    {
+        self.state = self.state.wrapping_mul(1664525).wrapping_add(1013904223);
+        (self.state >> 8) % count
+    }
+
+    fn record(&mut self, now: i32) -> [u8; 384] {
+        let line = match self.below(4) {
+            0 => "tty1",
+            1 => "tty2",
+            2 => "tty3",
+            _ => "pts/4",
+        };
+        let user = match self.below(4) {
+            0 => "ann",
+            1 => "bob",
+            2 => "carl",
+            _ => "",
+        };
+        let kind = match self.below(12) {
+            0 => 2,
+            1 => 1,
+            2 | 3 => 4,
+            4 | 5 => 3,
+            6 | 7 => 8,
+            8 => 0,
+            _ => 7,
+        };
+        login_record(kind, line, user, now)
+    }
+
+    fn time_after(&mut self, now: i32) -> i32 {
+        match self.below(40) {
+            0 => i32::MIN,
+            1 => i32::MAX,
+            2 => now.saturating_sub(500),
+            _ => now.saturating_add(70),
+        }
+    }
+}
+
+/// The sessions of up to 60 records.
+fn drawn(alloc: Global, keys: RandomState, numbers: &mut Numbers) -> Result<Sessions, Fail>
+    ensures { IfOk result (λ s. s.hosts ≡ 3) }
+{
+    let mut sessions = Sessions::new(alloc, keys, 3)?;
+    let mut now = 0i32;
+    for _record in 0..numbers.below(61) {
+        now = numbers.time_after(now);
+        let host = numbers.below(3);
+        post_below(alloc, &mut sessions, &(host, numbers.record(now)))?;
+    }
+    Ok(sessions)
+}
+
+/// Whether the stays of each host, and the total, are those of the scan.
+fn agrees(alloc: Global, sessions: &Sessions, until: Option<i32>) -> Result<bool, Fail>
+    requires { sessions.now.hosts ≡ 3 }
+{
+    let entries: Vec<Entry> = sessions.entries().iter().collect(alloc)?;
+    for host in 0..3 {
+        let found = sessions.stays(alloc, host, None, until)?;
+        let wanted = scan::stays(alloc, &entries, host, until)?;
+        if found.as_slice() != wanted.as_slice() {
+            return Ok(false);
+        }
+    }
+    Ok(sessions.total(until) == scan::total(&entries, until))
+}
+
+#[test]
+fn sessions_are_those_of_a_scan_of_the_whole_list(rt: HostRuntime) -> Result<(), Fail> {
+    let mut numbers = Numbers { state: 1 };
+    for list in 0..300 {
+        let sessions = drawn(rt.alloc(), RandomState::new(&rt)?, &mut numbers)?;
+        for until in [None, Some(i32::MIN), Some(1500)] {
+            assert!(rt;
+                agrees(rt.alloc(), &sessions, until)?,
+                "list {list} until {until:?}"
+            );
+        }
+    }
+    Ok(())
+}

@@ -1,0 +1,62 @@
+//! Sessions of a list of entries, by one thread and by several.
+ghost use Rattle.std.specs.Prelude.{◌≡◌, ◌≤◌, ◌<◌, All, IfOk, length};
+
+use crate::sessions::scripts::played;
+use std::alloc::Global;
+use std::hash::RandomState;
+use std::test::Fail;
+use std::thread::Threads;
+use tally_sessions::{ENTRY_LIMIT, EntryList, Sessions};
+
+/// The entries of three hosts after a script.
+fn listed(alloc: Global, keys: RandomState, script: &str) -> Result<EntryList, Fail>
+    ensures hosts { IfOk result (All (λ e. e.host < 3)) }
+    ensures few { IfOk result (λ list. length list ≤ ENTRY_LIMIT) }
+{
+    Ok(played(alloc, keys, script)?.into_entries())
+}
+
+/// How many stays each of three hosts has, and the seconds of all.
+fn numbers(alloc: Global, sessions: &Sessions) -> Result<[u64; 4], Fail>
+    requires { sessions.now.hosts ≡ 3 }
+{
+    let first = sessions.stays(alloc, 0, None, None)?.len() as u64;
+    let second = sessions.stays(alloc, 1, None, None)?.len() as u64;
+    let third = sessions.stays(alloc, 2, None, None)?.len() as u64;
+    Ok([first, second, third, sessions.total(None)])
+}
+
+/// The numbers of the sessions of a list.
+fn counted(alloc: Global, keys: RandomState, script: &str) -> Result<[u64; 4], Fail> {
+    let list = listed(alloc, keys, script)?;
+    match Sessions::of_entries(alloc, keys, 3, list) {
+        Ok(sessions) => numbers(alloc, &sessions),
+        Err(_) => Err(Fail::new("out of memory")),
+    }
+}
+
+/// The same, by several threads at most.
+fn counted_by<R: Threads + Sync>(
+    rt: &R,
+    alloc: Global,
+    keys: RandomState,
+    script: &str,
+) -> Result<[u64; 4], Fail> {
+    let list = listed(alloc, keys, script)?;
+    match Sessions::of_entries_by(rt, alloc, keys, 3, list, 4) {
+        Ok(sessions) => numbers(alloc, &sessions),
+        Err(_) => Err(Fail::new("out of memory")),
+    }
+}
+
+/// Ann is logged in on the first host for 60 seconds, bob on the second for 90, the third starts.
+const SCRIPT: &str =
+    "0 in tty1 ann 0;1 in tty1 bob 10;0 out tty1 - 60;2 boot ~ reboot 70;1 out tty1 - 100";
+
+#[test]
+fn sessions_of_a_list_are_those_of_its_hosts(rt: HostRuntime) -> Result<(), Fail> {
+    let keys = RandomState::new(&rt)?;
+    assert_eq!(rt; counted(rt.alloc(), keys, SCRIPT)?, [1, 1, 1, 150]);
+    assert_eq!(rt; counted_by(&rt, rt.alloc(), keys, SCRIPT)?, [1, 1, 1, 150]);
+    Ok(())
+}

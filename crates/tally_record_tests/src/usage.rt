@@ -1,0 +1,183 @@
+//! Worked examples, and each growth refused in turn.
+use std::alloc::Global;
+use std::hash::RandomState;
+use std::process::Abort;
+use std::test::Fail;
+use tally_records::{Batch, BatchFault, Comm, Kind, List, Memory, PROC_SIZE};
+use tally_usage::{CommandRow, ENTRY_LIMIT, Order, Summary, UidRow, Usage};
+
+mod commands;
+mod filters;
+
+const MAKE: Comm = *b"make\0\0\0\0\0\0\0\0\0\0\0\0\0";
+
+const OTHER: Comm = *b"***other\0\0\0\0\0\0\0\0\0";
+
+const BELL: Comm = *b"a\x07\0\0\0\0\0\0\0\0\0\0\0\0\0\0\0";
+
+/// An acct record of version 2. The five numbers, each below 8,192, are user, system and elapsed
+/// ticks, memory and io.
+fn proc_record(flag: u8, uid: u8, numbers: [u16; 5], comm: Comm) -> [u8; PROC_SIZE] {
+    let mut bytes = [0; PROC_SIZE];
+    bytes[0] = flag;
+    bytes[1] = 2;
+    for (i, number) in numbers.iter().enumerate() {
+        let [low, high] = number.to_le_bytes();
+        bytes[12 + 2 * i] = low;
+        bytes[13 + 2 * i] = high;
+    }
+    bytes[36..53].copy_from_slice(&comm);
+    bytes[56] = uid;
+    bytes
+}
+
+/// The row of a command.
+fn row(name: Comm, forked: bool, other: bool, usage: Usage) -> CommandRow {
+    CommandRow {
+        name,
+        forked,
+        other,
+        usage,
+    }
+}
+
+/// One run of make that executed, and two that only forked.
+fn makes() -> [[u8; PROC_SIZE]; 3] {
+    let executed = proc_record(0, 100, [120, 60, 600, 500, 1000], MAKE);
+    let forked = proc_record(1, 100, [60, 0, 60, 200, 3], MAKE);
+    [executed, forked, forked]
+}
+
+/// The batch of these records, tried twice.
+fn batch_of(alloc: Global, records: &[[u8; PROC_SIZE]]) -> Result<Batch, BatchFault> {
+    match Batch::procs(alloc, records.as_flattened()) {
+        Err(BatchFault::Memory) => Batch::procs(alloc, records.as_flattened()),
+        batch => batch,
+    }
+}
+
+/// Posts the records as a batch of the host. Where `prepare` is refused once, the entries and the
+/// total are as before, and the same `prepare` then succeeds.
+fn post(
+    rt: &impl Abort,
+    alloc: Global,
+    summary: &mut Summary,
+    host: u32,
+    records: &[[u8; PROC_SIZE]],
+) -> Result<(), Fail> {
+    let batch = batch_of(alloc, records)?;
+    let Kind::Proc = batch.kind() else {
+        return Ok(());
+    };
+    let stored = summary.entries().len();
+    let total = summary.total();
+    assert!(rt; stored + batch.len() <= ENTRY_LIMIT);
+    if summary.prepare(host, &batch).is_err() {
+        assert!(rt; summary.entries().len() == stored && summary.total() == total);
+        summary.prepare(host, &batch)?;
+    }
+    summary.add(host, &batch);
+    Ok(())
+}
+
+/// The rows by command, tried twice.
+fn commands_of(
+    alloc: Global,
+    summary: &Summary,
+    order: Order,
+    flags: [bool; 2],
+) -> Result<List<CommandRow>, Memory> {
+    let [all, reverse] = flags;
+    match summary.by_command(alloc, order, all, reverse) {
+        Ok(rows) => Ok(rows),
+        Err(_) => summary.by_command(alloc, order, all, reverse),
+    }
+}
+
+/// The rows by user, tried twice.
+fn users_of(
+    alloc: Global,
+    summary: &Summary,
+    order: Order,
+    reverse: bool,
+) -> Result<List<UidRow>, Memory> {
+    match summary.by_user(alloc, order, reverse) {
+        Ok(rows) => Ok(rows),
+        Err(_) => summary.by_user(alloc, order, reverse),
+    }
+}
+
+/// A summary of these records, posted by host 1.
+fn summary_of(
+    rt: &impl Abort,
+    alloc: Global,
+    keys: RandomState,
+    records: &[[u8; PROC_SIZE]],
+) -> Result<Summary, Fail> {
+    let mut summary = Summary::new(alloc, keys);
+    post(rt, alloc, &mut summary, 1, records)?;
+    Ok(summary)
+}
+
+const EXECUTED: Usage = Usage {
+    count: 1,
+    real: 600,
+    cpu: 180,
+    io: 1000,
+    mem_cpu: 90_000,
+};
+
+const FORKED: Usage = Usage {
+    count: 2,
+    real: 120,
+    cpu: 120,
+    io: 6,
+    mem_cpu: 24_000,
+};
+
+const TOTAL: Usage = Usage {
+    count: 3,
+    real: 720,
+    cpu: 300,
+    io: 1006,
+    mem_cpu: 114_000,
+};
+
+#[test]
+fn a_user_has_the_sum_of_all_commands(rt: HostRuntime) -> Result<(), Fail> {
+    let summary = summary_of(&rt, rt.alloc(), RandomState::new(&rt)?, &makes())?;
+    assert!(rt; summary.total() == TOTAL);
+    let found = users_of(rt.alloc(), &summary, Order::Cpu, false)?;
+    let row = UidRow {
+        uid: 100,
+        usage: TOTAL,
+    };
+    assert!(rt; found.as_slice() == [row].as_slice());
+    Ok(())
+}
+
+#[test]
+fn no_records_have_no_rows(rt: HostRuntime) -> Result<(), Fail> {
+    let summary = summary_of(&rt, rt.alloc(), RandomState::new(&rt)?, &[])?;
+    let commands = commands_of(rt.alloc(), &summary, Order::Cpu, [false, false])?;
+    let users = users_of(rt.alloc(), &summary, Order::Cpu, false)?;
+    assert!(rt; commands.len() == 0 && users.len() == 0);
+    Ok(())
+}
+
+#[test]
+fn entries_are_the_batches_in_order(rt: HostRuntime) -> Result<(), Fail> {
+    let mut summary = summary_of(&rt, rt.alloc(), RandomState::new(&rt)?, &makes())?;
+    post(&rt, rt.alloc(), &mut summary, 4_294_967_295, &makes())?;
+    post(&rt, rt.alloc(), &mut summary, 1, &makes())?;
+    let shown = summary.entries().len();
+    let entries = summary.into_entries();
+    assert!(rt; shown == 9 && entries.len() == 9);
+    for i in 0..entries.len() {
+        let entry = entries.get(i).ok_or("an entry at each place")?;
+        let host = if i / 3 == 1 { 4_294_967_295 } else { 1 };
+        let flag = if i % 3 == 0 { 0 } else { 1 };
+        assert!(rt; entry.host == host && entry.item.flag == flag, "at {i}");
+    }
+    Ok(())
+}
