@@ -1,3 +1,4 @@
+pub mod AnswerLemmas
 pub mod Growth
 pub mod Own
 pub mod Parts
