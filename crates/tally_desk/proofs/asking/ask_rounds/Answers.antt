@@ -1,4 +1,4 @@
-use Rattle.std.proofs.Common.{◌+◌, ◌*◌, ◌≡◌, ◌∙◌, arith, length, subst, sym}
+use Rattle.std.proofs.Common.{◌∙◌, arith, length, subst, sym}
 use Rattle.std.proofs.lemmas.Result.{err_from_is_err_and}
 use Rattle.tally_desk.specs.Rounds.{Asks}
 use Rattle.tally_desk.proofs.AskLemmas.{asks_more, asks_none, next_round, round_fits, rounds_asked, rounds_counted, rounds_more, stops_round}
