@@ -62,10 +62,6 @@ returns-in_err-by_user-in-Users-clause-cause c =
     let p = err_from_is_err_and c.from_residual-in_err-by_user-in-Users.result c.from_residual-in_err-by_user-in-Users.ensures.1 in
     rw p.1 p.2
 
-pub returns-in_ok-stays-in-Last-clause-value : goal.returns-in_ok-stays-in-Last-clause-value
-returns-in_ok-stays-in-Last-clause-value c =
-    last_answer c.args.question.now c.args.sessions.now.entries c.args.summary.now.entries _ _ _ _ _ c.in-Last.is c.in_ok-stays-in-Last.ensures.value c.first.ensures
-
 pub returns-in_ok-by_command-in-Commands-clause-value : goal.returns-in_ok-by_command-in-Commands-clause-value
 returns-in_ok-by_command-in-Commands-clause-value c =
     commands_answer c.args.question.now c.args.sessions.now.entries c.args.summary.now.entries _ _ _ _ _ c.in-Commands.is c.in_ok-by_command-in-Commands.ensures.value c.total-in-Commands.ensures.value

@@ -56,10 +56,6 @@ loop-preserved g c =
 pub returns-clause-keeps : goal.returns-clause-keeps
 returns-clause-keeps g c = c.loop.invariant.keeps
 
-pub returns-clause-count : goal.returns-clause-count
-returns-clause-count g c =
-    c.from.ensures ∙ rounds_counted (length c.args.questions.now) c.loop.counter c.args.rounds c.loop.turn c.loop.invariant.turn (omega arith)
-
 pub returns-clause-asked : goal.returns-clause-asked
 returns-clause-asked g c =
     rounds_asked c.args.pass.now c.loop.pass c.args.questions.now c.loop.counter c.args.rounds (omega arith) c.loop.invariant.asked

@@ -232,19 +232,5 @@ returns-clause-legal c = (invariant_of-self-2 c).legal
 pub returns-clause-stored : goal.returns-clause-stored
 returns-clause-stored c = made c ∙ ap (λ (s : Contents). asked s c.args.caller c.args.question.now) c.self.view_is
 
-pub returns-clause-served : goal.returns-clause-served
-returns-clause-served c =
-    let question = c.args.question.now in
-    let view = c.self.view_is in
-    let logins = ap (λ (s : LoginState). s.entries) c.in_ok-count.ensures.counted in
-    let at : c.counts-at.result ≡ counts_of (contents_of c.self.inside) = λ i. record { logins = (c.counts-at.ensures.logins ∙ ap length logins) i; procs = c.counts-at.ensures.procs i } in
-    record {
-      call = c.record-call.ensures.number ∙ c.record-call.new.calls.ok.0;
-      at = at ∙ ap counts_of view;
-      answer = c.in_ok-answer.ensures.value
-          ∙ ap (λ (es : List Entry). answer_of question es c.self.inside.summary.entries) (c.in-Some.ensures.0 ∙ logins)
-          ∙ ap (λ (s : Contents). answer_of question s.logins s.procs) view;
-    }
-
 pub returns-clause-days : goal.returns-clause-days
 returns-clause-days c = c.in_ok-answer.ensures.days

@@ -56,18 +56,6 @@ returns-in_err-count-clause-cause g c =
     let p = err_from_is_err_and c.from_residual.result c.from_residual.ensures.1 in
     rw p.1 (sym c.loop-filled.invariant.nature ∙ c.in_err-count.ensures.cause)
 
-pub returns-then-count-eq0-clause-nature : goal.returns-then-count-eq0-clause-nature
-returns-then-count-eq0-clause-nature g c = c.in_ok-count.ensures.nature ∙ c.loop-filled.invariant.nature
-
-pub returns-then-count-eq0-clause-ok : goal.returns-then-count-eq0-clause-ok
-returns-then-count-eq0-clause-ok g c = c.in_ok-count.ensures.ok ∙ c.loop-filled.invariant.failures
-
-pub returns-then-count-eq0-clause-err : goal.returns-then-count-eq0-clause-err
-returns-then-count-eq0-clause-err g c = tt
-
-pub returns-then-count-eq0-clause-cause : goal.returns-then-count-eq0-clause-cause
-returns-then-count-eq0-clause-cause g c = tt
-
 pub returns-clause-bound : goal.returns-clause-bound
 returns-clause-bound g c = c.loop-filled.invariant.within
 

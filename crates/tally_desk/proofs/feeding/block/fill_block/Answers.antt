@@ -59,17 +59,5 @@ returns-in_err-filled-clause-cause g c =
     let p = err_from_is_err_and c.from_residual.result c.from_residual.ensures.1 in
     rw p.1 c.in_err-filled.ensures.cause
 
-pub returns-then-filled-len-clause-nature : goal.returns-then-filled-len-clause-nature
-returns-then-filled-len-clause-nature g c = c.fill.ensures.nature
-
-pub returns-then-filled-len-clause-ok : goal.returns-then-filled-len-clause-ok
-returns-then-filled-len-clause-ok g c = c.in_ok-filled.ensures.ok
-
-pub returns-then-filled-len-clause-err : goal.returns-then-filled-len-clause-err
-returns-then-filled-len-clause-err g c = tt
-
-pub returns-then-filled-len-clause-cause : goal.returns-then-filled-len-clause-cause
-returns-then-filled-len-clause-cause g c = tt
-
 pub returns-clause-nature : goal.returns-clause-nature
 returns-clause-nature g c = c.fill_rest.ensures.nature ∙ c.fill.ensures.nature

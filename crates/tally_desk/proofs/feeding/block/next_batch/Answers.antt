@@ -45,18 +45,6 @@ returns-in_err-filled-clause-few g c = takes_named c.block_size.result (block_si
 pub returns-in_err-filled-clause-nature : goal.returns-in_err-filled-clause-nature
 returns-in_err-filled-clause-nature g c = c.fill_block.ensures.nature
 
-pub returns-then-filled-eq0-clause-room : goal.returns-then-filled-eq0-clause-room
-returns-then-filled-eq0-clause-room g c = holds_named c.block_size.result (block_size c.args.kind) (vec_capacity c.fill_block.new.block) c.block_size.ensures c.fill_block.ensures.room
-
-pub returns-then-filled-eq0-clause-ready : goal.returns-then-filled-eq0-clause-ready
-returns-then-filled-eq0-clause-ready g c = within_named c.block_size.result (block_size c.args.kind) (vec_len c.fill_block.new.block) c.block_size.ensures c.fill_block.ensures.ready
-
-pub returns-then-filled-eq0-clause-few : goal.returns-then-filled-eq0-clause-few
-returns-then-filled-eq0-clause-few g c = takes_named c.block_size.result (block_size c.args.kind) _ _ c.block_size.ensures c.fill_block.ensures.few
-
-pub returns-then-filled-eq0-clause-nature : goal.returns-then-filled-eq0-clause-nature
-returns-then-filled-eq0-clause-nature g c = c.fill_block.ensures.nature
-
 pub returns-in_err-batch-clause-room : goal.returns-in_err-batch-clause-room
 returns-in_err-batch-clause-room g c = holds_named c.block_size.result (block_size c.args.kind) (vec_capacity c.fill_block.new.block) c.block_size.ensures c.fill_block.ensures.room
 
@@ -125,27 +113,6 @@ pub returns-in_err-filled-clause-read : goal.returns-in_err-filled-clause-read
 returns-in_err-filled-clause-read g c =
     let p = err_from_is_err_and c.from_residual.result c.from_residual.ensures.1 in
     rw (p.1, p.2) (λ is. (c.in_err-filled.ensures.err, c.in_err-filled.ensures.cause))
-
-pub returns-then-filled-eq0-clause-failures : goal.returns-then-filled-eq0-clause-failures
-returns-then-filled-eq0-clause-failures g c = c.in_ok-filled.ensures.ok
-
-pub returns-then-filled-eq0-clause-read : goal.returns-then-filled-eq0-clause-read
-returns-then-filled-eq0-clause-read g c = tt
-
-pub returns-then-filled-eq0-clause-unfailed : goal.returns-then-filled-eq0-clause-unfailed
-returns-then-filled-eq0-clause-unfailed g c = tt
-
-pub returns-then-filled-eq0-clause-reading : goal.returns-then-filled-eq0-clause-reading
-returns-then-filled-eq0-clause-reading g c = tt
-
-pub returns-then-filled-eq0-clause-place : goal.returns-then-filled-eq0-clause-place
-returns-then-filled-eq0-clause-place g c = tt
-
-pub returns-then-filled-eq0-clause-stops : goal.returns-then-filled-eq0-clause-stops
-returns-then-filled-eq0-clause-stops g c = tt
-
-pub returns-then-filled-eq0-clause-batch : goal.returns-then-filled-eq0-clause-batch
-returns-then-filled-eq0-clause-batch g c = tt
 
 pub returns-in_err-batch-clause-end : goal.returns-in_err-batch-clause-end
 returns-in_err-batch-clause-end g c =
