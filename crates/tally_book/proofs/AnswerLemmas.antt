@@ -1,12 +1,10 @@
--- The answer to each kind of question, from its rows and its total.
-use Rattle.std.proofs.Common.{◌≡◌, ℕ, ℤ, Bool, List, Option, subst, sym}
+-- The answer to a question on usage, from its rows and its total.
+use Rattle.std.proofs.Common.{◌≡◌, Bool, List, subst, sym}
 use Rattle.tally_book.specs.declared.question.Question.{Question}
 use Rattle.tally_book.specs.declared.question.Question.TheVariants as questions
 use Rattle.tally_book.specs.declared.question.Answer.TheVariants as answers
 use Rattle.tally_book.specs.Answers.{answer_of}
 use Rattle.tally_sessions.specs.declared.entry.Entry.{Entry}
-use Rattle.tally_sessions.specs.declared.entry.Stay.{Stay}
-use Rattle.tally_sessions.specs.Totals.{first_time, latest_stays}
 use Rattle.tally_usage.specs.declared.command.CommandRow.{CommandRow}
 use Rattle.tally_usage.specs.declared.entry.ProcEntry.{ProcEntry}
 use Rattle.tally_usage.specs.declared.order.Order.{Order}
@@ -18,12 +16,6 @@ use Rattle.tally_usage.specs.Usage.{usage_of}
 use Rattle.tally_usage.specs.User.{user_rows}
 
 module _ (question : Question) (logins : List Entry) (procs : List ProcEntry) where
-  pub last_answer : (host : ℕ) (limit : Option ℕ) (until : Option ℤ) (rows : List Stay) (first : Option ℤ) → question ≡ questions.Last host limit until
-      → rows ≡ latest_stays host limit logins until → first ≡ first_time host logins → answers.Last rows first ≡ answer_of question logins procs
-  unfolding answer_of
-  last_answer host limit until rows first is rows_are first_is =
-      subst (λ (q : Question). answers.Last rows first ≡ answer_of q logins procs) (sym is) (λ i. answers.Last (rows_are i) (first_is i))
-
   pub commands_answer : (order : Order) (reverse all : Bool) (rows : List CommandRow) (total : Usage) → question ≡ questions.Commands order reverse all
       → rows ≡ command_rows order all reverse (records_of procs) → total ≡ usage_of (records_of procs) → answers.Commands rows total ≡ answer_of question logins procs
   unfolding answer_of

@@ -1,5 +1,5 @@
 use Rattle.std.proofs.lemmas.Result.{err_from_is_err_and}
-use Rattle.tally_book.proofs.AnswerLemmas.{commands_answer, last_answer, users_answer}
+use Rattle.tally_book.proofs.AnswerLemmas.{commands_answer, users_answer}
 use Rattle.tally_book.proofs.answering.answer.Goals as goal
 
 pub returns-in_err-stays-in-Last-clause-value : goal.returns-in_err-stays-in-Last-clause-value
