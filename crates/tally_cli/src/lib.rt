@@ -18,6 +18,3 @@ pub use crate::line::files::FileArg;
 pub use crate::line::{Line, LineFault, file_word, job_of};
 pub use crate::running::run;
 pub use crate::running::source::Source;
-
-#[cfg(test)]
-mod tests;
