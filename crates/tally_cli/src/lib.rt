@@ -13,6 +13,3 @@ pub use crate::fault::RunFault;
 pub use crate::running::run;
 pub use crate::running::source::Source;
 pub use tally_line::{FileArg, Form, Job, Line, LineFault, Report, file_word, job_of};
-
-#[cfg(test)]
-mod tests;

@@ -21,6 +21,3 @@ pub use crate::feeding::memory::Bytes;
 pub use crate::feeding::reader::Reading;
 pub use crate::feeding::{Fed, feed};
 pub use crate::gate::{Gate, OpenGate};
-
-#[cfg(test)]
-mod tests;

@@ -33,6 +33,3 @@ pub use sections::print_sections;
 pub use tables::{a_table_reads_back, reports_read_back, seconds_read_back};
 pub use usage::{print_commands, print_users};
 pub use writing::Writing;
-
-#[cfg(test)]
-mod tests;

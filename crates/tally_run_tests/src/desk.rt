@@ -1,6 +1,6 @@
 //! Desks and their callers at work, with inputs and gates that are made for it.
 
-mod desk;
+mod calls;
 mod feeding;
 mod makers;
 mod readers;

@@ -1,8 +1,8 @@
 //! The worked reports with their printed lines, and outputs that fail.
 ghost use Rattle.std.specs.Prelude.{◌≤◌, length};
 
-use crate::{Kept, PrintFault};
 use std::process::Abort;
+use tally_print::{Kept, PrintFault};
 use tally_records::{Comm, Name};
 use tally_sessions::{End, Stay};
 use tally_usage::{CommandRow, Usage};

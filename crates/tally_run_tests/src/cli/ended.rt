@@ -1,14 +1,14 @@
 //! How a run ends: which call of its output is the last, and what is not touched after a failure.
 ghost use Rattle.std.specs.Prelude.{◌≡◌, None, [], false};
 
-use crate::tests::runs::{TOTAL, one_hour, source_of, text_job, torn};
-use crate::{Report, RunFault, Source, run};
+use crate::cli::runs::{TOTAL, one_hour, source_of, text_job, torn};
 use std::alloc::AllocError;
 use std::hash::RandomState;
 use std::sync::Wait;
 use std::sync::atomic::{AtomicU64, Ordering};
 use std::test::Fail;
 use std::thread::Threads;
+use tally_cli::{Report, RunFault, Source, run};
 use tally_desk::{Input, InputFault, OpenGate};
 use tally_print::{Output, OutputFault};
 use tally_records::Kind;

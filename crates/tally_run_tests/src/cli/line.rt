@@ -2,8 +2,8 @@
 
 mod files;
 
-use crate::{Form, Job, Line, LineFault, Report, job_of};
 use std::alloc::{AllocError, Global};
+use tally_cli::{Form, Job, Line, LineFault, Report, job_of};
 use tally_usage::Order;
 
 // The words of a command line, parted by blanks.

@@ -2,12 +2,12 @@
 ghost use Rattle.std.specs.Prelude.{◌≤◌};
 ghost use Rattle.tally_line.specs.Jobs.{IsRunnable};
 
-use crate::{Form, Job, Report, RunFault, Source, run};
 use std::alloc::{AllocError, Global};
 use std::hash::RandomState;
 use std::sync::Wait;
 use std::test::Fail;
 use std::thread::Threads;
+use tally_cli::{Form, Job, Report, RunFault, Source, run};
 use tally_desk::{Bytes, FeedFault, OpenGate};
 use tally_print::Kept;
 use tally_records::Kind;

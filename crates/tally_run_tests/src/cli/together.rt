@@ -1,8 +1,7 @@
 //! Files that are read while an asker asks, and the same files one after the other.
 ghost use Rattle.std.specs.Prelude.{◌≤◌};
 
-use crate::tests::runs::{put_at, text_job};
-use crate::{Report, RunFault, Source, run};
+use crate::cli::runs::{put_at, text_job};
 use std::alloc::{AllocError, Global};
 use std::hash::RandomState;
 use std::sync::Wait;
@@ -10,6 +9,7 @@ use std::sync::atomic::{AtomicU64, Ordering};
 use std::test::Fail;
 use std::thread;
 use std::thread::Threads;
+use tally_cli::{Report, RunFault, Source, run};
 use tally_desk::{Bytes, Gate, OpenGate};
 use tally_print::Kept;
 use tally_records::Kind;

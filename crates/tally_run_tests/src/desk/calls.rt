@@ -3,14 +3,14 @@ ghost use Rattle.std.specs.Prelude.{◌≡◌, ◌+◌, IfOk, length};
 ghost use Rattle.tally_book.specs.Answers.{IsAskable};
 ghost use Rattle.tally_book.specs.Books.{IsLegal};
 
-use crate::tests::makers::{hour, makes};
-use crate::{CloseFault, Desk, OpenFault, Pass};
+use crate::desk::makers::{hour, makes};
 use std::alloc::Global;
 use std::hash::RandomState;
 use std::sync::Wait;
 use std::test::Fail;
 use std::thread::{Threads, join};
 use tally_book::{Answer, AskFault, Book, Counts, Question, Receipt, Served};
+use tally_desk::{CloseFault, Desk, OpenFault, Pass};
 use tally_records::Batch;
 use tally_usage::Order;
 

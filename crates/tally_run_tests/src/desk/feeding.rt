@@ -1,8 +1,7 @@
 //! Feeds of inputs in memory.
 ghost use Rattle.std.specs.Prelude.{◌-◌, ◌^◌, ◌<◌};
 
-use crate::tests::makers::{Turns, Zeros, closed, opened, twos};
-use crate::{Bytes, Fed, FeedFault, Input, OpenGate, feed};
+use crate::desk::makers::{Turns, Zeros, closed, opened, twos};
 use std::alloc::Global;
 use std::hash::RandomState;
 use std::process::Abort;
@@ -10,6 +9,7 @@ use std::random::RandomSource;
 use std::sync::Wait;
 use std::sync::atomic::{AtomicU64, Ordering};
 use std::test::Fail;
+use tally_desk::{Bytes, Fed, FeedFault, Input, OpenGate, feed};
 use tally_records::{Kind, RecordFault};
 
 /// What was fed of three records.

@@ -1,7 +1,6 @@
 //! Desks, inputs and gates for tests.
 ghost use Rattle.std.specs.Prelude.{◌≡◌, IfOk, None, false};
 
-use crate::{Desk, Gate, Input, InputFault, Pass};
 use std::alloc::{AllocError, Global};
 use std::hash::RandomState;
 use std::io::{ErrorKind, Read};
@@ -9,6 +8,7 @@ use std::sync::atomic::{AtomicU64, Ordering};
 use std::test::Fail;
 use std::{io, thread};
 use tally_book::Book;
+use tally_desk::{Desk, Gate, Input, InputFault, Pass};
 use tally_records::Batch;
 
 /// A desk of one caller, and its pass.

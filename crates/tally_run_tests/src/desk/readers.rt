@@ -2,9 +2,8 @@
 ghost use Rattle.std.specs.Prelude.{◌≡◌, OnOk};
 ghost use Rattle.tally_desk.specs.Feeds.{IsWhole, Posts};
 
-use crate::tests::feeding::{THREE, expect_fed, fed};
-use crate::tests::makers::{Once, Trickle, opened, steady};
-use crate::{Desk, Fed, FeedFault, OpenGate, Pass, Reading, feed};
+use crate::desk::feeding::{THREE, expect_fed, fed};
+use crate::desk::makers::{Once, Trickle, opened, steady};
 use std::alloc::Global;
 use std::hash::RandomState;
 use std::io::Read;
@@ -12,6 +11,7 @@ use std::process::Abort;
 use std::random::RandomSource;
 use std::sync::Wait;
 use std::test::Fail;
+use tally_desk::{Desk, Fed, FeedFault, OpenGate, Pass, Reading, feed};
 use tally_records::Kind;
 
 /// Asserts what comes of a reader that gives process records, and how many are stored then.

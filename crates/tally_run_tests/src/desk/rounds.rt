@@ -1,13 +1,13 @@
 //! Questions that are asked in rounds, and calls up to a full history.
 ghost use Rattle.std.specs.Prelude.{◌≡◌};
 
-use crate::tests::makers::{Turns, closed, opened, twos};
-use crate::{Bytes, Desk, FeedFault, OpenGate, Pass, ask_rounds, feed};
+use crate::desk::makers::{Turns, closed, opened, twos};
 use std::hash::RandomState;
 use std::sync::Wait;
 use std::sync::atomic::{AtomicU64, Ordering};
 use std::test::Fail;
 use tally_book::{Answer, Call, PostFault, Question};
+use tally_desk::{Bytes, Desk, FeedFault, OpenGate, Pass, ask_rounds, feed};
 use tally_records::{Batch, Kind};
 
 const TOTAL: Question = Question::Connect {

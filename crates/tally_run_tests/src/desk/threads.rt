@@ -1,14 +1,14 @@
 //! Callers that feed and ask side by side, each in a thread of its own.
 ghost use Rattle.std.specs.Prelude.{◌≡◌, IfOk};
 
-use crate::tests::makers::{Meeting, twos};
-use crate::{Bytes, Desk, Gate, Pass, feed};
+use crate::desk::makers::{Meeting, twos};
 use std::alloc::Global;
 use std::hash::RandomState;
 use std::sync::Wait;
 use std::test::Fail;
 use std::thread::{Threads, join};
 use tally_book::{Book, Call, Question};
+use tally_desk::{Bytes, Desk, Gate, Pass, feed};
 use tally_records::Kind;
 
 const TOTAL: Question = Question::Connect {

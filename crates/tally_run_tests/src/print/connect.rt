@@ -3,10 +3,10 @@ ghost use Rattle.std.specs.Prelude.{◌≡◌, ◌≤◌, All, IfSome, None, len
 ghost use Rattle.tally_book.specs.Answers.{HasDay};
 
 use super::{is_printed, name};
-use crate::{Kept, print_connect};
 use std::alloc::Global;
 use std::process::Abort;
 use tally_book::ConnectRow;
+use tally_print::{Kept, print_connect};
 
 /// Asserts that the rows and the total print this text.
 /// Where a growth is refused, the second try prints it.

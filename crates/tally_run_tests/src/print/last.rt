@@ -1,8 +1,8 @@
 //! The lines of last(1).
 use super::{boot, is_printed, login};
-use crate::{Kept, print_last};
 use std::alloc::Global;
 use std::process::Abort;
+use tally_print::{Kept, print_last};
 use tally_sessions::{End, Stay};
 
 /// Asserts that the stays of host 0 print this text.

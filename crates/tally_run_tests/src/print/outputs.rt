@@ -2,11 +2,11 @@
 ghost use Rattle.std.specs.Prelude.{◌≡◌, true};
 
 use super::{boot, login};
-use crate::{Output, OutputFault, PrintFault, Writing, print_last};
 use std::alloc::Global;
 use std::io::{self, ErrorKind, Write};
 use std::process::Abort;
 use std::test::Fail;
+use tally_print::{Output, OutputFault, PrintFault, Writing, print_last};
 use tally_sessions::{End, Stay};
 
 /// An output over memory that takes at most so many bytes at a time, and so many in all.

@@ -4,10 +4,10 @@ ghost use Rattle.tally_book.specs.Answers.{HasDay, HasDays};
 ghost use Rattle.tally_sessions.specs.Days.{IsDay, IsOffset};
 
 use super::{boot, command, is_printed, login, name};
-use crate::{Kept, Table, print_table};
 use std::alloc::Global;
 use std::process::Abort;
 use tally_book::{Answer, ConnectRow};
+use tally_print::{Kept, Table, print_table};
 use tally_records::{List, Memory};
 use tally_sessions::{End, Stay};
 use tally_usage::{UidRow, Usage};

@@ -1,8 +1,8 @@
 //! The lines of sa(8).
 use super::{command, is_printed};
-use crate::{Kept, print_commands, print_users};
 use std::alloc::Global;
 use std::process::Abort;
+use tally_print::{Kept, print_commands, print_users};
 use tally_usage::{CommandRow, UidRow, Usage};
 
 /// Asserts that the rows and the total print this text.

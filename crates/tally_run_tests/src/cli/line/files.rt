@@ -1,8 +1,8 @@
 //! Which files the words of a command line name.
 
 use super::{read, words_of};
-use crate::{FileArg, Line, LineFault, file_word, job_of};
 use std::test::Fail;
+use tally_cli::{FileArg, Line, LineFault, file_word, job_of};
 use tally_records::Kind;
 
 fn has_file(files: &[FileArg], at: usize, kind: Kind, path: &str) -> bool {
