@@ -1,3 +1,5 @@
+pub mod AnswerLemmas
+pub mod AskLemmas
 pub mod Growth
 pub mod Own
 pub mod Parts

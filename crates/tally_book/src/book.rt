@@ -243,6 +243,7 @@ impl Book {
             return Err(AskFault::CallsFull);
         }
         check_host(self.callers, question)?;
+        self.calls.reserve(1)?;
         self.logins.count(alloc)?;
         let Some(sessions) = self.logins.sessions() else {
             unreachable!()
@@ -250,7 +251,6 @@ impl Book {
         let at = counts(&self.logins, &self.summary);
         let answer = answer(alloc, sessions, self.callers, &self.summary, question)?;
         let kept = answer.try_copy(alloc)?;
-        self.calls.reserve(1)?;
         let asked = Call::Asked {
             caller,
             at,

@@ -1,5 +1,5 @@
 -- What holds at the exits of a feed.
-use Rattle.std.proofs.Common.{◌≡◌, ◌≢◌, ◌∙◌, ◌+◌, ◌<◌, ◌≤◌, ◌⊎◌, inl, inr, ℕ, Bool, true, Option, Some, None, ap, sym, subst, arith}
+use Rattle.std.proofs.Common.{◌≡◌, ◌∙◌, ◌+◌, ◌<◌, ◌≤◌, ◌⊎◌, inl, inr, ℕ, Bool, true, Option, Some, None, ap, sym, subst, arith}
 use Rattle.tally_records.specs.Records.{Records, record_count}
 use Rattle.tally_records.specs.declared.batch.Kind.{Kind}
 use Rattle.tally_book.specs.Contents.{Contents}

@@ -63,6 +63,9 @@ read_fault expected (LoginsFull stored) gives = absurd gives
 read_fault expected (ProcsFull stored) gives = absurd gives
 read_fault expected CallsFull gives = absurd gives
 
+pub never_read : {X : Type 0} → (expected : Option FeedFault) (f : FeedFault) → Gives expected f → f ≡ Read → X
+never_read expected f gives is = absurd (subst (Gives expected) is gives)
+
 module _ (kind : Kind) (turn : ℕ) (block : List ℕ) (n : ℕ) (within : n ≤ length block) (few : n ≤ block_size kind) where
   pub same_fault : (rest ys : List ℕ) → rest ≡ take n block ++ ys → (n < block_size kind → ys ≡ [])
       → block_fault kind (turn * block_size kind + length rest) (turn, take (block_size kind) rest)

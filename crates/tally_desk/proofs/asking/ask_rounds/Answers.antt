@@ -1,4 +1,4 @@
-use Rattle.std.proofs.Common.{◌+◌, ◌*◌, ◌≡◌, ◌∙◌, arith, length, subst, sym}
+use Rattle.std.proofs.Common.{◌∙◌, arith, length, subst, sym}
 use Rattle.std.proofs.lemmas.Result.{err_from_is_err_and}
 use Rattle.tally_desk.specs.Rounds.{Asks}
 use Rattle.tally_desk.proofs.AskLemmas.{asks_more, asks_none, next_round, round_fits, rounds_asked, rounds_counted, rounds_more, stops_round}
@@ -55,10 +55,6 @@ loop-preserved g c =
 
 pub returns-clause-keeps : goal.returns-clause-keeps
 returns-clause-keeps g c = c.loop.invariant.keeps
-
-pub returns-clause-count : goal.returns-clause-count
-returns-clause-count g c =
-    c.from.ensures ∙ rounds_counted (length c.args.questions.now) c.loop.counter c.args.rounds c.loop.turn c.loop.invariant.turn (omega arith)
 
 pub returns-clause-asked : goal.returns-clause-asked
 returns-clause-asked g c =

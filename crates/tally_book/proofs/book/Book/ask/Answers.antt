@@ -1,16 +1,210 @@
-use Rattle.std.proofs.Common.{rules, ◌≡◌, ◌++◌, ◌∷◌, [], List, length, ap, ◌∙◌, subst, sym}
+use Rattle.std.proofs.Common.{◌≡◌, ◌<◌, ◌++◌, ◌∷◌, [], List, length, refl, ap, ◌∙◌, subst, sym}
+use Rattle.std.proofs.lemmas.Result.{err_from_is_err_and}
 use Rattle.tally_sessions.specs.declared.entry.Entry.{Entry}
+use Rattle.tally_book.specs.declared.book.Book.TheInside.{Inside}
 use Rattle.tally_book.specs.declared.history.Call.TheVariants.{Asked}
 use Rattle.tally_book.specs.Answers.{answer_of}
 use Rattle.tally_book.specs.Books.{IsLegal, asked, counts_of}
 use Rattle.tally_book.specs.Contents.{Contents}
 use Rattle.tally_book.specs.inside.Kept.{contents_of}
 use Rattle.tally_book.specs.inside.LoginStates.{LoginState}
+use Rattle.tally_book.proofs.AskLemmas.{calls_full, calls_left, memory_refused, no_such_host, same_contents, still_sound}
 use Rattle.tally_book.proofs.Growth.{asked_legal}
 use Rattle.tally_book.proofs.book.Book.ask.Goals as goal
 
-pub invariant_of-self-2 : goal.invariant_of-self-2
-invariant_of-self-2 c =
+pub returns-then-len-ge-CALL_LIMIT-clause-refused : goal.returns-then-len-ge-CALL_LIMIT-clause-refused
+returns-then-len-ge-CALL_LIMIT-clause-refused c = refl
+
+pub returns-then-len-ge-CALL_LIMIT-clause-cause : goal.returns-then-len-ge-CALL_LIMIT-clause-cause
+returns-then-len-ge-CALL_LIMIT-clause-cause c = calls_full c.self.inside c.args.self.now c.self.view_is c.len.result c.len.ensures c.self.invariant c.if-len-ge-CALL_LIMIT.true
+
+pub returns-then-len-ge-CALL_LIMIT-clause-legal : goal.returns-then-len-ge-CALL_LIMIT-clause-legal
+returns-then-len-ge-CALL_LIMIT-clause-legal c = subst IsLegal c.self.view_is c.self.invariant.legal
+
+pub returns-in_err-check_host-clause-stored : goal.returns-in_err-check_host-clause-stored
+returns-in_err-check_host-clause-stored c =
+    let p = err_from_is_err_and c.from_residual.result c.from_residual.ensures.1 in
+    rw p.1 tt
+
+pub returns-in_err-check_host-clause-served : goal.returns-in_err-check_host-clause-served
+returns-in_err-check_host-clause-served c =
+    let p = err_from_is_err_and c.from_residual.result c.from_residual.ensures.1 in
+    rw p.1 tt
+
+pub returns-in_err-check_host-clause-days : goal.returns-in_err-check_host-clause-days
+returns-in_err-check_host-clause-days c =
+    let p = err_from_is_err_and c.from_residual.result c.from_residual.ensures.1 in
+    rw p.1 tt
+
+pub returns-in_err-check_host-clause-refused : goal.returns-in_err-check_host-clause-refused
+returns-in_err-check_host-clause-refused c =
+    let p = err_from_is_err_and c.from_residual.result c.from_residual.ensures.1 in
+    rw p.1 refl
+
+pub returns-in_err-check_host-clause-cause : goal.returns-in_err-check_host-clause-cause
+returns-in_err-check_host-clause-cause c =
+    let p = err_from_is_err_and c.from_residual.result c.from_residual.ensures.1 in
+    rw (p.1, p.2) (no_such_host c.self.inside c.args.self.now c.self.view_is c.len.result c.len.ensures c.args.question.now _ c.if-len-ge-CALL_LIMIT.false c.in_err-check_host.ensures.cause)
+
+pub returns-in_err-check_host-clause-legal : goal.returns-in_err-check_host-clause-legal
+returns-in_err-check_host-clause-legal c = subst IsLegal c.self.view_is c.self.invariant.legal
+
+pub invariant_of-self : goal.invariant_of-self
+invariant_of-self c =
+    let after : Inside = record { callers = c.self.inside.callers; logins = c.self.inside.logins; summary = c.self.inside.summary; calls = c.reserve.new.self } in
+    let same = same_contents c.self.inside after refl refl refl c.reserve.ensures.items in
+    still_sound c.self.inside after c.self.invariant refl same
+
+pub returns-in_err-reserve-clause-stored : goal.returns-in_err-reserve-clause-stored
+returns-in_err-reserve-clause-stored c =
+    let p = err_from_is_err_and c.from_residual-in_err-reserve.result c.from_residual-in_err-reserve.ensures.1 in
+    rw p.1 tt
+
+pub returns-in_err-reserve-clause-served : goal.returns-in_err-reserve-clause-served
+returns-in_err-reserve-clause-served c =
+    let p = err_from_is_err_and c.from_residual-in_err-reserve.result c.from_residual-in_err-reserve.ensures.1 in
+    rw p.1 tt
+
+pub returns-in_err-reserve-clause-days : goal.returns-in_err-reserve-clause-days
+returns-in_err-reserve-clause-days c =
+    let p = err_from_is_err_and c.from_residual-in_err-reserve.result c.from_residual-in_err-reserve.ensures.1 in
+    rw p.1 tt
+
+pub returns-in_err-reserve-clause-refused : goal.returns-in_err-reserve-clause-refused
+returns-in_err-reserve-clause-refused c =
+    let after : Inside = record { callers = c.self.inside.callers; logins = c.self.inside.logins; summary = c.self.inside.summary; calls = c.reserve.new.self } in
+    let same = same_contents c.self.inside after refl refl refl c.reserve.ensures.items in
+    let p = err_from_is_err_and c.from_residual-in_err-reserve.result c.from_residual-in_err-reserve.ensures.1 in
+    rw p.1 (same ∙ c.self.view_is)
+
+pub returns-in_err-reserve-clause-cause : goal.returns-in_err-reserve-clause-cause
+returns-in_err-reserve-clause-cause c =
+    let p = err_from_is_err_and c.from_residual-in_err-reserve.result c.from_residual-in_err-reserve.ensures.1 in
+    rw (p.1, p.2) (memory_refused c.self.inside c.args.self.now c.self.view_is c.len.result c.len.ensures c.args.question.now c.if-len-ge-CALL_LIMIT.false c.in_ok-check_host.ensures.host)
+
+pub returns-in_err-reserve-clause-legal : goal.returns-in_err-reserve-clause-legal
+returns-in_err-reserve-clause-legal c = (invariant_of-self c).legal
+
+pub invariant_of-self-in_err-count : goal.invariant_of-self-in_err-count
+invariant_of-self-in_err-count c =
+    let after : Inside = record { callers = c.self.inside.callers; logins = c.count.new.self; summary = c.self.inside.summary; calls = c.reserve.new.self } in
+    let same = same_contents c.self.inside after refl (ap (λ (s : LoginState). s.entries) c.in_err-count.ensures.refused) refl c.reserve.ensures.items in
+    still_sound c.self.inside after c.self.invariant (ap (λ (s : LoginState). s.hosts) c.in_err-count.ensures.refused) same
+
+pub returns-in_err-count-clause-stored : goal.returns-in_err-count-clause-stored
+returns-in_err-count-clause-stored c =
+    let p = err_from_is_err_and c.from_residual-in_err-count.result c.from_residual-in_err-count.ensures.1 in
+    rw p.1 tt
+
+pub returns-in_err-count-clause-served : goal.returns-in_err-count-clause-served
+returns-in_err-count-clause-served c =
+    let p = err_from_is_err_and c.from_residual-in_err-count.result c.from_residual-in_err-count.ensures.1 in
+    rw p.1 tt
+
+pub returns-in_err-count-clause-days : goal.returns-in_err-count-clause-days
+returns-in_err-count-clause-days c =
+    let p = err_from_is_err_and c.from_residual-in_err-count.result c.from_residual-in_err-count.ensures.1 in
+    rw p.1 tt
+
+pub returns-in_err-count-clause-refused : goal.returns-in_err-count-clause-refused
+returns-in_err-count-clause-refused c =
+    let after : Inside = record { callers = c.self.inside.callers; logins = c.count.new.self; summary = c.self.inside.summary; calls = c.reserve.new.self } in
+    let same = same_contents c.self.inside after refl (ap (λ (s : LoginState). s.entries) c.in_err-count.ensures.refused) refl c.reserve.ensures.items in
+    let p = err_from_is_err_and c.from_residual-in_err-count.result c.from_residual-in_err-count.ensures.1 in
+    rw p.1 (same ∙ c.self.view_is)
+
+pub returns-in_err-count-clause-cause : goal.returns-in_err-count-clause-cause
+returns-in_err-count-clause-cause c =
+    let p = err_from_is_err_and c.from_residual-in_err-count.result c.from_residual-in_err-count.ensures.1 in
+    rw (p.1, p.2) (memory_refused c.self.inside c.args.self.now c.self.view_is c.len.result c.len.ensures c.args.question.now c.if-len-ge-CALL_LIMIT.false c.in_ok-check_host.ensures.host)
+
+pub returns-in_err-count-clause-legal : goal.returns-in_err-count-clause-legal
+returns-in_err-count-clause-legal c = (invariant_of-self-in_err-count c).legal
+
+pub answer-requires-clause-hosts : goal.answer-requires-clause-hosts
+answer-requires-clause-hosts c = sym (c.in-Some.ensures.1 ∙ ap (λ (s : LoginState). s.hosts) c.in_ok-count.ensures.counted ∙ c.self.invariant.hosts)
+
+pub answer-requires-clause-host : goal.answer-requires-clause-host
+answer-requires-clause-host c = c.in_ok-check_host.ensures.host
+
+pub answer-requires-clause-askable : goal.answer-requires-clause-askable
+answer-requires-clause-askable c = c.requires.askable
+
+pub invariant_of-self-in_err-answer : goal.invariant_of-self-in_err-answer
+invariant_of-self-in_err-answer c =
+    let after : Inside = record { callers = c.self.inside.callers; logins = c.count.new.self; summary = c.self.inside.summary; calls = c.reserve.new.self } in
+    let same = same_contents c.self.inside after refl (ap (λ (s : LoginState). s.entries) c.in_ok-count.ensures.counted) refl c.reserve.ensures.items in
+    still_sound c.self.inside after c.self.invariant (ap (λ (s : LoginState). s.hosts) c.in_ok-count.ensures.counted) same
+
+pub returns-in_err-answer-clause-stored : goal.returns-in_err-answer-clause-stored
+returns-in_err-answer-clause-stored c =
+    let p = err_from_is_err_and c.from_residual-in_err-answer.result c.from_residual-in_err-answer.ensures.1 in
+    rw p.1 tt
+
+pub returns-in_err-answer-clause-served : goal.returns-in_err-answer-clause-served
+returns-in_err-answer-clause-served c =
+    let p = err_from_is_err_and c.from_residual-in_err-answer.result c.from_residual-in_err-answer.ensures.1 in
+    rw p.1 tt
+
+pub returns-in_err-answer-clause-days : goal.returns-in_err-answer-clause-days
+returns-in_err-answer-clause-days c =
+    let p = err_from_is_err_and c.from_residual-in_err-answer.result c.from_residual-in_err-answer.ensures.1 in
+    rw p.1 tt
+
+pub returns-in_err-answer-clause-refused : goal.returns-in_err-answer-clause-refused
+returns-in_err-answer-clause-refused c =
+    let after : Inside = record { callers = c.self.inside.callers; logins = c.count.new.self; summary = c.self.inside.summary; calls = c.reserve.new.self } in
+    let same = same_contents c.self.inside after refl (ap (λ (s : LoginState). s.entries) c.in_ok-count.ensures.counted) refl c.reserve.ensures.items in
+    let p = err_from_is_err_and c.from_residual-in_err-answer.result c.from_residual-in_err-answer.ensures.1 in
+    rw p.1 (same ∙ c.self.view_is)
+
+pub returns-in_err-answer-clause-cause : goal.returns-in_err-answer-clause-cause
+returns-in_err-answer-clause-cause c =
+    let p = err_from_is_err_and c.from_residual-in_err-answer.result c.from_residual-in_err-answer.ensures.1 in
+    rw (p.1, p.2, c.in_err-answer.ensures.cause) (memory_refused c.self.inside c.args.self.now c.self.view_is c.len.result c.len.ensures c.args.question.now c.if-len-ge-CALL_LIMIT.false c.in_ok-check_host.ensures.host)
+
+pub returns-in_err-answer-clause-legal : goal.returns-in_err-answer-clause-legal
+returns-in_err-answer-clause-legal c = (invariant_of-self-in_err-answer c).legal
+
+pub invariant_of-self-in_err-kept : goal.invariant_of-self-in_err-kept
+invariant_of-self-in_err-kept c =
+    let after : Inside = record { callers = c.self.inside.callers; logins = c.count.new.self; summary = c.self.inside.summary; calls = c.reserve.new.self } in
+    let same = same_contents c.self.inside after refl (ap (λ (s : LoginState). s.entries) c.in_ok-count.ensures.counted) refl c.reserve.ensures.items in
+    still_sound c.self.inside after c.self.invariant (ap (λ (s : LoginState). s.hosts) c.in_ok-count.ensures.counted) same
+
+pub returns-in_err-kept-clause-stored : goal.returns-in_err-kept-clause-stored
+returns-in_err-kept-clause-stored c =
+    let p = err_from_is_err_and c.from_residual-in_err-kept.result c.from_residual-in_err-kept.ensures.1 in
+    rw p.1 tt
+
+pub returns-in_err-kept-clause-served : goal.returns-in_err-kept-clause-served
+returns-in_err-kept-clause-served c =
+    let p = err_from_is_err_and c.from_residual-in_err-kept.result c.from_residual-in_err-kept.ensures.1 in
+    rw p.1 tt
+
+pub returns-in_err-kept-clause-days : goal.returns-in_err-kept-clause-days
+returns-in_err-kept-clause-days c =
+    let p = err_from_is_err_and c.from_residual-in_err-kept.result c.from_residual-in_err-kept.ensures.1 in
+    rw p.1 tt
+
+pub returns-in_err-kept-clause-refused : goal.returns-in_err-kept-clause-refused
+returns-in_err-kept-clause-refused c =
+    let after : Inside = record { callers = c.self.inside.callers; logins = c.count.new.self; summary = c.self.inside.summary; calls = c.reserve.new.self } in
+    let same = same_contents c.self.inside after refl (ap (λ (s : LoginState). s.entries) c.in_ok-count.ensures.counted) refl c.reserve.ensures.items in
+    let p = err_from_is_err_and c.from_residual-in_err-kept.result c.from_residual-in_err-kept.ensures.1 in
+    rw p.1 (same ∙ c.self.view_is)
+
+pub returns-in_err-kept-clause-cause : goal.returns-in_err-kept-clause-cause
+returns-in_err-kept-clause-cause c =
+    let p = err_from_is_err_and c.from_residual-in_err-kept.result c.from_residual-in_err-kept.ensures.1 in
+    rw (p.1, p.2) (memory_refused c.self.inside c.args.self.now c.self.view_is c.len.result c.len.ensures c.args.question.now c.if-len-ge-CALL_LIMIT.false c.in_ok-check_host.ensures.host)
+
+pub returns-in_err-kept-clause-legal : goal.returns-in_err-kept-clause-legal
+returns-in_err-kept-clause-legal c = (invariant_of-self-in_err-kept c).legal
+
+-- the entries and the history of an answered call
+made : (c : goal.After-record-call) → contents_of (record { callers = c.self.inside.callers; logins = c.count.new.self; summary = c.self.inside.summary; calls = c.record-call.new.calls }) ≡ asked (contents_of c.self.inside) c.args.caller c.args.question.now
+made c =
     let b : Contents = contents_of c.self.inside in
     let question = c.args.question.now in
     let logins : c.count.new.self.entries ≡ b.logins = ap (λ (s : LoginState). s.entries) c.in_ok-count.ensures.counted in
@@ -20,11 +214,23 @@ invariant_of-self-2 c =
     c.in_ok-kept.ensures.value ∙ c.in_ok-answer.ensures.value ∙ ap (λ (es : List Entry). answer_of question es b.procs) lent in
     let calls : c.record-call.new.calls.items ≡ (asked b c.args.caller question).calls =
     c.record-call.ensures.history ∙ (λ i. c.reserve.ensures.items i ++ Asked c.args.caller (at i) question (kept i) ∷ []) in
-    let legal : IsLegal (asked b c.args.caller question) = asked_legal b c.args.caller question c.self.invariant.legal (search rules) (search rules) (search rules) in
+    λ i. record { callers = b.callers; logins = logins i; procs = b.procs; calls = calls i }
+
+pub invariant_of-self-2 : goal.invariant_of-self-2
+invariant_of-self-2 c =
+    let b : Contents = contents_of c.self.inside in
+    let near = subst (λ (s : Contents). c.args.caller < s.callers) (sym c.self.view_is) c.requires.caller in
+    let room = calls_left c.self.inside b refl c.len.result c.len.ensures c.if-len-ge-CALL_LIMIT.false in
     record {
       hosts = ap (λ (s : LoginState). s.hosts) c.in_ok-count.ensures.counted ∙ c.self.invariant.hosts;
-      legal = subst IsLegal (λ i. record { callers = b.callers; logins = sym logins i; procs = b.procs; calls = sym calls i }) legal;
+      legal = subst IsLegal (sym (made c)) (asked_legal b c.args.caller c.args.question.now c.self.invariant.legal near room c.in_ok-check_host.ensures.host);
     }
 
 pub returns-clause-legal : goal.returns-clause-legal
 returns-clause-legal c = (invariant_of-self-2 c).legal
+
+pub returns-clause-stored : goal.returns-clause-stored
+returns-clause-stored c = made c ∙ ap (λ (s : Contents). asked s c.args.caller c.args.question.now) c.self.view_is
+
+pub returns-clause-days : goal.returns-clause-days
+returns-clause-days c = c.in_ok-answer.ensures.days
