@@ -223,6 +223,3 @@ invariant_of-self-2 c =
 
 pub returns-clause-legal : goal.returns-clause-legal
 returns-clause-legal c = (invariant_of-self-2 c).legal
-
-pub returns-clause-days : goal.returns-clause-days
-returns-clause-days c = c.in_ok-answer.ensures.days
