@@ -202,9 +202,8 @@ returns-in_err-kept-clause-cause c =
 pub returns-in_err-kept-clause-legal : goal.returns-in_err-kept-clause-legal
 returns-in_err-kept-clause-legal c = (invariant_of-self-in_err-kept c).legal
 
--- the entries and the history of an answered call
-made : (c : goal.After-record-call) → contents_of (record { callers = c.self.inside.callers; logins = c.count.new.self; summary = c.self.inside.summary; calls = c.record-call.new.calls }) ≡ asked (contents_of c.self.inside) c.args.caller c.args.question.now
-made c =
+pub invariant_of-self-2 : goal.invariant_of-self-2
+invariant_of-self-2 c =
     let b : Contents = contents_of c.self.inside in
     let question = c.args.question.now in
     let logins : c.count.new.self.entries ≡ b.logins = ap (λ (s : LoginState). s.entries) c.in_ok-count.ensures.counted in
@@ -214,23 +213,13 @@ made c =
     c.in_ok-kept.ensures.value ∙ c.in_ok-answer.ensures.value ∙ ap (λ (es : List Entry). answer_of question es b.procs) lent in
     let calls : c.record-call.new.calls.items ≡ (asked b c.args.caller question).calls =
     c.record-call.ensures.history ∙ (λ i. c.reserve.ensures.items i ++ Asked c.args.caller (at i) question (kept i) ∷ []) in
-    λ i. record { callers = b.callers; logins = logins i; procs = b.procs; calls = calls i }
-
-pub invariant_of-self-2 : goal.invariant_of-self-2
-invariant_of-self-2 c =
-    let b : Contents = contents_of c.self.inside in
     let near = subst (λ (s : Contents). c.args.caller < s.callers) (sym c.self.view_is) c.requires.caller in
     let room = calls_left c.self.inside b refl c.len.result c.len.ensures c.if-len-ge-CALL_LIMIT.false in
+    let legal : IsLegal (asked b c.args.caller question) = asked_legal b c.args.caller question c.self.invariant.legal near room c.in_ok-check_host.ensures.host in
     record {
       hosts = ap (λ (s : LoginState). s.hosts) c.in_ok-count.ensures.counted ∙ c.self.invariant.hosts;
-      legal = subst IsLegal (sym (made c)) (asked_legal b c.args.caller c.args.question.now c.self.invariant.legal near room c.in_ok-check_host.ensures.host);
+      legal = subst IsLegal (λ i. record { callers = b.callers; logins = sym logins i; procs = b.procs; calls = sym calls i }) legal;
     }
 
 pub returns-clause-legal : goal.returns-clause-legal
 returns-clause-legal c = (invariant_of-self-2 c).legal
-
-pub returns-clause-stored : goal.returns-clause-stored
-returns-clause-stored c = made c ∙ ap (λ (s : Contents). asked s c.args.caller c.args.question.now) c.self.view_is
-
-pub returns-clause-days : goal.returns-clause-days
-returns-clause-days c = c.in_ok-answer.ensures.days
