@@ -9,7 +9,7 @@ use Rattle.tally_cli.specs.declared.running.source.Source.{Source}
 use Rattle.tally_cli.specs.declared.running.task.Asking.{Asking}
 use Rattle.tally_cli.specs.declared.running.task.Task.{Task}
 use Rattle.tally_cli.specs.inside.Deals.{AreCarriedOut, AreDealt, CameOf, IsIn, IsTaskOf}
-use Rattle.tally_cli.specs.inside.Tasks.{AreWorked, EachWorks, IsExplained, Works}
+use Rattle.tally_cli.specs.inside.Tasks.{AreWorked, IsExplained, Works}
 
 pub all_unmap : {V A : Type 0} (P : A → Type 0) (f : V → A) (vs : List V) → All P (map f vs) → All (λ v. P (f v)) vs
 all_unmap P f vs h = λ k d l. subst P (get_or-map f vs k d (f d) l) (h k (f d) (omega (arith, l, length-map vs f)))

@@ -1,7 +1,5 @@
 -- The values of offsets.
-use Rattle.std.proofs.Common.{◌≡◌, ◌∙◌, ◌↔◌, Option, None, Some, Bool, List, ℕ, ap, arith, subst, sym}
-use Rattle.std.specs.Borrow.{Bor}
-use Rattle.std.specs.Prelude.{IsTrue, option_map}
+use Rattle.std.proofs.Common.{◌≡◌, ◌∙◌, Option, None, Some, ap, arith, subst, sym}
 use Rattle.clap.specs.Walk.{first_of}
 use Rattle.clap.specs.Words.{Text, first_value, rows_of}
 use Rattle.clap.specs.declared.parser.matches.Found.{Found}

@@ -10,14 +10,14 @@ use tally_book::AskFault;
 use tally_desk::{FeedFault, Input, Pass};
 
 /// Why a caller's work failed.
-#[derive(Debug, Drop)]
+#[derive(Drop)]
 pub(crate) enum Cause {
     Feed(FeedFault),
     Ask(AskFault),
 }
 
 /// A caller's work that failed.
-#[derive(Debug, Drop)]
+#[derive(Drop)]
 pub(crate) struct Failure {
     pub(crate) caller: u32,
     pub(crate) cause: Cause,

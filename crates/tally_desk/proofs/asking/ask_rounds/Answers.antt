@@ -1,7 +1,7 @@
 use Rattle.std.proofs.Common.{◌∙◌, arith, length, subst, sym}
 use Rattle.std.proofs.lemmas.Result.{err_from_is_err_and}
 use Rattle.tally_desk.specs.Rounds.{Asks}
-use Rattle.tally_desk.proofs.AskLemmas.{asks_more, asks_none, next_round, round_fits, rounds_asked, rounds_counted, rounds_more, stops_round}
+use Rattle.tally_desk.proofs.AskLemmas.{asks_more, asks_none, next_round, round_fits, rounds_asked, rounds_more, stops_round}
 use Rattle.tally_desk.proofs.KeepLemmas.{keeps_same, keeps_trans}
 use Rattle.tally_desk.proofs.asking.ask_rounds.Goals as goal
 

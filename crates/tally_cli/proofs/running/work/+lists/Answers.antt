@@ -1,6 +1,6 @@
 use borrow.Author.Rules.{rules}
 use denote.Param.Send.{sendable}
-use Rattle.std.proofs.Common.{◌≡◌, [], ◌∷◌, ◌++◌, List, length, sym, subst, arith, Some}
+use Rattle.std.proofs.Common.{◌≡◌, [], ◌∷◌, ◌++◌, length, sym, subst, Some}
 use Rattle.std.proofs.lemmas.List.Elements.{All-pop}
 use Rattle.std.proofs.lemmas.Result.{IfOk-at_ok}
 use Rattle.tally_cli.specs.inside.Tasks.{AreReady, AreWorked}
