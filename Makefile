@@ -8,7 +8,7 @@ INTO = $(DESTDIR)$(PREFIX)
 WORDS = ac -p
 FILES = examples/morning.wtmp
 
-.PHONY: build look test test-anew test-edits test-big install uninstall clean
+.PHONY: build look test test-anew test-edits test-big pictures install uninstall clean
 
 # Proves every crate that the program stands on, and builds it.
 build:
@@ -34,6 +34,10 @@ test-edits:
 test-big:
 	rows/tools/run --only "$(ROWS),big" $(PROGRAM) endless-zeros-ac
 	rows/tools/surroundings --big $(PROGRAM)
+
+# The pictures of docs/pictures, by gnuplot from the files of examples/.
+pictures: build
+	examples/pictures/draw $(PROGRAM)
 
 # The program, its manual, and completions for bash, zsh and fish.
 install: build
