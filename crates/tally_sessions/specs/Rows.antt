@@ -5,13 +5,11 @@ use Rattle.std.specs.List.{flat_map}
 use Rattle.std.specs.Ordering.{int_cmp, nat_cmp, ordering_then}
 use Rattle.std.specs.declared.cmp.Ordering.{Ordering}
 use Rattle.tally_records.specs.Sorted.{in_order}
-use Rattle.tally_sessions.specs.declared.connect.day_user_rows.DayUser.{DayUser}
 use Rattle.tally_sessions.specs.declared.entry.Entry.{Entry}
-use Rattle.tally_sessions.specs.declared.sums.Session.{Session}
 use Rattle.tally_sessions.specs.declared.times.DayTime.{DayTime}
 use Rattle.tally_sessions.specs.declared.times.DayUserTime.{DayUserTime}
 use Rattle.tally_sessions.specs.declared.times.UserTime.{UserTime}
-use Rattle.tally_sessions.specs.Days.{days_between}
+use Rattle.tally_clock.specs.Days.{days_of_seconds}
 use Rattle.tally_sessions.specs.Sums.{seconds_of_day, seconds_of_day_user, sessions_of}
 use Rattle.tally_sessions.specs.Totals.{connect_of}
 
@@ -31,30 +29,24 @@ user_times entries until = in_order user_time_cmp (filter (λ row. nat_lt 0 row.
 abbrev pub day_time_cmp : DayTime → DayTime → Ordering
 day_time_cmp a b = int_cmp a.day b.day
 
--- the row of a day
-abbrev pub day_time : ℤ → List Entry → Option ℤ → ℤ → DayTime
-day_time offset entries until day = record { day = day; seconds = seconds_of_day offset day (sessions_of entries until) }
-
--- the days of all sessions
-abbrev pub days_of : ℤ → List Session → List ℤ
-days_of offset sessions = flat_map (λ s. days_between offset s.begin s.end_time) sessions
+-- the row of a day, on a clock
+abbrev pub day_time : (ℤ → ℤ) → List Entry → Option ℤ → ℤ → DayTime
+day_time clock entries until day = record { day = day; seconds = seconds_of_day clock day (sessions_of entries until) }
 
 -- the rows of all days with connect time
-abbrev pub day_times : ℤ → List Entry → Option ℤ → List DayTime
-day_times offset entries until = in_order day_time_cmp (filter (λ row. nat_lt 0 row.seconds) (map (day_time offset entries until) (days_of offset (sessions_of entries until))))
+abbrev pub day_times : (ℤ → ℤ) → List Entry → Option ℤ → List DayTime
+day_times clock entries until = in_order day_time_cmp (filter (λ row. nat_lt 0 row.seconds)
+    (flat_map (λ s. map (day_time clock entries until) (days_of_seconds clock s.begin s.end_time)) (sessions_of entries until)))
 
 -- by the day, and then by the name's bytes
 abbrev pub day_user_time_cmp : DayUserTime → DayUserTime → Ordering
 day_user_time_cmp a b = ordering_then (int_cmp a.day b.day) (slice_cmp nat_cmp a.user b.user)
 
--- the row of a user on a day
-abbrev pub day_user_time : ℤ → List Entry → Option ℤ → DayUser → DayUserTime
-day_user_time offset entries until k = record { day = k.day; user = k.user; seconds = seconds_of_day_user offset k.day k.user (sessions_of entries until) }
-
--- the users of all sessions, on each of their days
-abbrev pub day_users_of : ℤ → List Session → List DayUser
-day_users_of offset sessions = flat_map (λ s. map (λ day. record { day = day; user = s.user }) (days_between offset s.begin s.end_time)) sessions
+-- the row of a user on a day, on a clock
+abbrev pub day_user_time : (ℤ → ℤ) → List Entry → Option ℤ → List ℕ → ℤ → DayUserTime
+day_user_time clock entries until user day = record { day = day; user = user; seconds = seconds_of_day_user clock day user (sessions_of entries until) }
 
 -- the rows of all users on all days with connect time
-abbrev pub day_user_times : ℤ → List Entry → Option ℤ → List DayUserTime
-day_user_times offset entries until = in_order day_user_time_cmp (filter (λ row. nat_lt 0 row.seconds) (map (day_user_time offset entries until) (day_users_of offset (sessions_of entries until))))
+abbrev pub day_user_times : (ℤ → ℤ) → List Entry → Option ℤ → List DayUserTime
+day_user_times clock entries until = in_order day_user_time_cmp (filter (λ row. nat_lt 0 row.seconds)
+    (flat_map (λ s. map (day_user_time clock entries until s.user) (days_of_seconds clock s.begin s.end_time)) (sessions_of entries until)))

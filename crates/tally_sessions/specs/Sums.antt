@@ -4,7 +4,7 @@ use Rattle.std.specs.List.{flat_map}
 use Rattle.tally_sessions.specs.declared.entry.Entry.{Entry}
 use Rattle.tally_sessions.specs.declared.entry.Stay.{Stay}
 use Rattle.tally_sessions.specs.declared.sums.Session.{Session}
-use Rattle.tally_sessions.specs.Days.{seconds_on}
+use Rattle.tally_clock.specs.Days.{seconds_on}
 use Rattle.tally_sessions.specs.Totals.{every_host, stays_of}
 
 -- what is counted of a login's stay
@@ -19,10 +19,10 @@ sessions_among stays = map session_of (filter (λ s. not s.is_boot) stays)
 abbrev pub sessions_of : List Entry → Option ℤ → List Session
 sessions_of entries until = flat_map (λ host. sessions_among (stays_of host entries until)) every_host
 
--- the seconds of all sessions on a day
-abbrev pub seconds_of_day : ℤ → ℤ → List Session → ℕ
-seconds_of_day offset day sessions = sum_by (λ s. seconds_on offset day s.begin s.end_time) sessions
+-- the seconds of all sessions on a day of a clock
+abbrev pub seconds_of_day : (ℤ → ℤ) → ℤ → List Session → ℕ
+seconds_of_day clock day sessions = sum_by (λ s. seconds_on clock day s.begin s.end_time) sessions
 
 -- those of a user on a day
-abbrev pub seconds_of_day_user : ℤ → ℤ → List ℕ → List Session → ℕ
-seconds_of_day_user offset day user sessions = seconds_of_day offset day (filter (λ s. bytes_eq s.user user) sessions)
+abbrev pub seconds_of_day_user : (ℤ → ℤ) → ℤ → List ℕ → List Session → ℕ
+seconds_of_day_user clock day user sessions = seconds_of_day clock day (filter (λ s. bytes_eq s.user user) sessions)

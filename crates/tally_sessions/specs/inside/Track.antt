@@ -18,7 +18,8 @@ use Rattle.tally_sessions.specs.Clock.{pending_old_time}
 use Rattle.tally_sessions.specs.Hosts.{of_host}
 use Rattle.tally_sessions.specs.inside.Entries.{entry_at}
 use Rattle.tally_sessions.specs.inside.Numbers.{Numbers, StandsAt}
-use Rattle.tally_sessions.specs.Stays.{clamped, seconds_between, end_at, ends_stay, last_time, starts_stay, stay_with}
+use Rattle.tally_clock.specs.Days.{seconds_between}
+use Rattle.tally_sessions.specs.Stays.{clamped, end_at, ends_stay, last_time, starts_stay, stay_with}
 use Rattle.tally_sessions.specs.inside.Tracking.{Tracked, clock, tracked_from}
 
 -- what a read of a tracked stay gives past the end

@@ -8,7 +8,8 @@ use Rattle.tally_sessions.specs.declared.entry.Stay.{Stay}
 use Rattle.tally_sessions.specs.declared.entry.End.{End}
 use Rattle.tally_sessions.specs.declared.entry.End.TheVariants as ends
 use Rattle.tally_sessions.specs.Clock.{moved}
-use Rattle.tally_sessions.specs.Stays.{ends_stay, first_end, end_of, clamped, seconds_between, starts_stay, stay_of, stay_with}
+use Rattle.tally_clock.specs.Days.{seconds_between}
+use Rattle.tally_sessions.specs.Stays.{ends_stay, first_end, end_of, clamped, starts_stay, stay_of, stay_with}
 
 -- the old time that waits, after one event more
 abbrev pub pending_at : Event → ℤ → Option ℤ → Option ℤ

@@ -3,6 +3,7 @@ ghost use Rattle.std.specs.Prelude.{◌≡◌, ◌<◌, ◌^◌, length, pos, ne
 ghost use Rattle.tally_sessions.specs.Clock.{shift_at};
 ghost use Rattle.tally_sessions.specs.inside.Entries.{entry_at};
 ghost use Rattle.tally_sessions.specs.Lent.{entries_in};
+ghost use Rattle.tally_clock.specs.Days.{seconds_between};
 ghost use Rattle.tally_sessions.specs.Stays as stays;
 ghost use Rattle.tally_sessions.specs.inside.Track.{counts, ends_every_stay, ends_line_stay, is_login_event};
 ghost use Rattle.tally_sessions.specs.inside.Tracking.{pending_at};
@@ -97,7 +98,7 @@ pub(crate) fn begin_of(start: i32, moved: i64) -> i32
 
 /// The length of a stay in seconds.
 pub(crate) fn seconds_between(begin: i32, end_time: i32) -> u64
-    ensures value { result ≡ stays.seconds_between begin end_time }
+    ensures value { result ≡ seconds_between begin end_time }
     ensures fits { result < 2 ^ 32 }
 {
     (i64::from(end_time) - i64::from(begin)).max(0) as u64

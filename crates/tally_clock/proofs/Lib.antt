@@ -1,0 +1,7 @@
+pub mod DayLemmas
+pub mod Reached
+pub mod RowLemmas
+pub mod RuleSteps
+pub mod Tests
+pub mod YearSteps
+pub mod ZoneSteps

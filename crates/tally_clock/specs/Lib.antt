@@ -1,0 +1,5 @@
+pub mod Days
+pub mod Rows
+pub mod Time
+pub mod Zones
+pub mod inside

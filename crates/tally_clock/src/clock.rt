@@ -1,0 +1,93 @@
+//! A clock as a table.
+ghost use Rattle.tally_clock.specs.Rows.{IsRising};
+
+use crate::row::Row;
+use jiff_core::Offset;
+use std::alloc::Global;
+use std::marker::Model;
+
+/// The most rows of a clock. A file of 64 KiB has fewer, and so has a rule.
+pub const ROW_LIMIT: usize = 65_536;
+
+/// How far a place's clock is ahead of UTC, in seconds, at each second that a record can have.
+#[derive(Drop)]
+pub struct Clock {
+    first: Offset,
+    rows: Vec<Row>,
+}
+
+impl Model for Clock {
+    ghost use Rattle.tally_clock.specs.Rows.{ClockRows};
+
+    ghost Value = { ClockRows };
+
+    ghost use Rattle.tally_clock.specs.inside.Kept.{rows_of, IsSound};
+
+    ghost view = { rows_of };
+
+    ghost invariant = { IsSound };
+}
+
+impl Clock {
+    ghost use Rattle.std.specs.Prelude.{◌≡◌, ℤ, int_le, length, vec_len, ◌≤◌, ◌≤ℤ◌, ◌<ℤ◌};
+    ghost use Rattle.tally_clock.specs.Rows.{count_at, offset_at, utc};
+
+    /// The clock of UTC, which has no rows.
+    pub fn utc(alloc: Global) -> Clock
+        ensures { result ≡ utc }
+    {
+        Clock {
+            first: Offset::UTC,
+            rows: Vec::new(alloc),
+        }
+    }
+
+    /// A clock from its rows.
+    pub(crate) fn from_rows(first: Offset, rows: Vec<Row>) -> Clock
+        requires rising { IsRising rows.items }
+        requires few { vec_len rows ≤ ROW_LIMIT }
+        ensures { result ≡ record { first = first; rows = rows.items } }
+    {
+        Clock { first, rows }
+    }
+
+    /// The offset before the first row.
+    pub fn first(&self) -> Offset
+        ensures { result ≡ self.now.first }
+    {
+        self.first
+    }
+
+    /// The rows, in order of the seconds from which they hold.
+    pub fn rows(&self) -> &[Row]
+        ensures value { result.now ≡ self.now.rows }
+        ensures rising { IsRising self.now.rows }
+        ensures few { length self.now.rows ≤ ROW_LIMIT }
+    {
+        self.rows.as_slice()
+    }
+
+    /// How many rows have begun at a second.
+    pub fn count_at(&self, time: i32) -> usize
+        ensures value { result ≡ count_at self.now.rows time }
+        ensures bound { result ≤ length self.now.rows }
+    {
+        self.rows.as_slice().partition_point(
+            |row: &Row| -> bool
+                ensures { result ≡ int_le row.now.from time }
+            { row.from <= time },
+        )
+    }
+
+    /// The offset at a second.
+    pub fn offset_at(&self, time: i32) -> Offset
+        ensures { result.seconds ≡ offset_at self.now time }
+    {
+        let count = self.count_at(time);
+        if count == 0 {
+            self.first
+        } else {
+            self.rows[count - 1].offset
+        }
+    }
+}

@@ -1,0 +1,12 @@
+//! The clock of a place: how far it is ahead of UTC at each second, and the days that this makes.
+#![tactic(auto)]
+
+mod clock;
+mod days;
+mod row;
+mod zone;
+
+pub use clock::{Clock, ROW_LIMIT};
+pub use days::{days_add_up, days_hold_their_times};
+pub use row::Row;
+pub use zone::ClockFault;

@@ -1,3 +1,0 @@
--- The days of a stay.
-pub mod DaysLemmas
-pub mod StayDays
