@@ -3,7 +3,7 @@ use Rattle.tally_clock.proofs.clock.Clock.of_file.Goals as goal
 
 pub returns-clause-value : goal.returns-clause-value
 returns-clause-value c = record {
-  small = c.if-bytes-gt-FILE_LIMIT.false;
+  small = omega arith;
   no_leap_seconds = omega (arith, c.leap_count.ensures);
   table = c.in_ok-table.table;
   holds = c.in_ok-table.ensures.value;
