@@ -1,5 +1,13 @@
 # bash completion for tally(1)
 
+# The names of zones: those of the files below /usr/share/zoneinfo, and local.
+_tally_zones() {
+    echo local
+    if [ -d /usr/share/zoneinfo ]; then
+        find -L /usr/share/zoneinfo \( -name posix -o -name right \) -prune -o -type f -name '[A-Z]*' -printf '%P\n'
+    fi
+}
+
 _tally() {
     local word=${COMP_WORDS[COMP_CWORD]} before=${COMP_WORDS[COMP_CWORD - 1]} options=
     COMPREPLY=()
@@ -8,15 +16,22 @@ _tally() {
         return
     fi
     case ${COMP_WORDS[1]} in
-        last) options='-n --until --csv --feeders --east --west -h --help' ;;
-        ac) options='-d -p --until --csv --feeders --east --west -h --help' ;;
-        sa) options='-a -m -n -r --csv --feeders --east --west -h --help' ;;
-        all) options='--askers --until --feeders --east --west -h --help' ;;
+        last) options='-n --until --csv --feeders --east --west --zone -h --help' ;;
+        ac) options='-d -p --until --csv --feeders --east --west --zone -h --help' ;;
+        sa) options='-a -m -n -r --csv --feeders --east --west --zone -h --help' ;;
+        all) options='--askers --until --feeders --east --west --zone -h --help' ;;
         help)
             COMPREPLY=($(compgen -W 'last ac sa all help' -- "$word"))
             return
             ;;
     esac
+    if [ "$before" = --zone ]; then
+        case $word in
+            /* | .*) COMPREPLY=($(compgen -f -- "$word")) ;;
+            *) COMPREPLY=($(compgen -W "$(_tally_zones)" -- "$word")) ;;
+        esac
+        return
+    fi
     case ${COMP_WORDS[1]}:$before in
         last:-n | *:--until | *:--feeders | *:--east | *:--west | *:--askers) return ;;
     esac

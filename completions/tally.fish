@@ -1,5 +1,13 @@
 # fish completion for tally(1)
 
+# The names of zones: those of the files below /usr/share/zoneinfo, and local.
+function __tally_zones
+    echo local
+    if test -d /usr/share/zoneinfo
+        find -L /usr/share/zoneinfo \( -name posix -o -name right \) -prune -o -type f -name '[A-Z]*' -printf '%P\n'
+    end
+end
+
 complete -c tally -n __fish_use_subcommand -f -a last -d 'List login sessions and running times'
 complete -c tally -n __fish_use_subcommand -f -a ac -d 'Sum connect time'
 complete -c tally -n __fish_use_subcommand -f -a sa -d 'Sum the usage of commands or users'
@@ -14,6 +22,7 @@ complete -c tally -n '__fish_seen_subcommand_from last' -l csv -d 'Print one tab
 complete -c tally -n '__fish_seen_subcommand_from last' -l feeders -x -d 'Read files with up to N threads'
 complete -c tally -n '__fish_seen_subcommand_from last' -l east -x -d 'Minutes east of UTC'
 complete -c tally -n '__fish_seen_subcommand_from last' -l west -x -d 'Minutes west of UTC'
+complete -c tally -n '__fish_seen_subcommand_from last' -l zone -r -a '(__tally_zones)' -d 'Local time of a zone'
 complete -c tally -n '__fish_seen_subcommand_from last' -s h -l help -d 'Print help'
 
 complete -c tally -n '__fish_seen_subcommand_from ac' -s d -d 'Sum by day'
@@ -23,6 +32,7 @@ complete -c tally -n '__fish_seen_subcommand_from ac' -l csv -d 'Print one table
 complete -c tally -n '__fish_seen_subcommand_from ac' -l feeders -x -d 'Read files with up to N threads'
 complete -c tally -n '__fish_seen_subcommand_from ac' -l east -x -d 'Minutes east of UTC'
 complete -c tally -n '__fish_seen_subcommand_from ac' -l west -x -d 'Minutes west of UTC'
+complete -c tally -n '__fish_seen_subcommand_from ac' -l zone -r -a '(__tally_zones)' -d 'Local time of a zone'
 complete -c tally -n '__fish_seen_subcommand_from ac' -s h -l help -d 'Print help'
 
 complete -c tally -n '__fish_seen_subcommand_from sa' -s a -d 'Give a row to every command'
@@ -33,6 +43,7 @@ complete -c tally -n '__fish_seen_subcommand_from sa' -l csv -d 'Print one table
 complete -c tally -n '__fish_seen_subcommand_from sa' -l feeders -x -d 'Read files with up to N threads'
 complete -c tally -n '__fish_seen_subcommand_from sa' -l east -x -d 'Changes nothing of sa'
 complete -c tally -n '__fish_seen_subcommand_from sa' -l west -x -d 'Changes nothing of sa'
+complete -c tally -n '__fish_seen_subcommand_from sa' -l zone -r -a '(__tally_zones)' -d 'Changes nothing of sa'
 complete -c tally -n '__fish_seen_subcommand_from sa' -s h -l help -d 'Print help'
 
 complete -c tally -n '__fish_seen_subcommand_from all' -l askers -x -d 'Ask reports with N threads meanwhile'
@@ -40,4 +51,5 @@ complete -c tally -n '__fish_seen_subcommand_from all' -l until -x -d 'Count ope
 complete -c tally -n '__fish_seen_subcommand_from all' -l feeders -x -d 'Read files with up to N threads'
 complete -c tally -n '__fish_seen_subcommand_from all' -l east -x -d 'Minutes east of UTC'
 complete -c tally -n '__fish_seen_subcommand_from all' -l west -x -d 'Minutes west of UTC'
+complete -c tally -n '__fish_seen_subcommand_from all' -l zone -r -a '(__tally_zones)' -d 'Local time of a zone'
 complete -c tally -n '__fish_seen_subcommand_from all' -s h -l help -d 'Print help'

@@ -1,2 +1,3 @@
+pub mod FrontLemmas
 mod NamedFiles
 mod SameKinds

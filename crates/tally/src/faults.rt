@@ -3,10 +3,13 @@
 ghost use Rattle.std.specs.Prelude.{ℕ, length};
 ghost use Rattle.tally_cli.specs.Runs.{IsNamed};
 
+use crate::hint::hint_on;
 use crate::shown::{ErrorsTo, Shown};
+use crate::zone::ZoneFault;
 use std::fmt::Display;
 use std::process::ExitCode;
 use tally_cli::{FileArg, RunFault};
+use tally_records::Memory;
 
 /// The status of a fault.
 pub(crate) const FAULT: u8 = 1;
@@ -34,6 +37,22 @@ pub(crate) fn file_fault<R: Eprint, F: Display + Drop>(
 /// Prints that a file could not be opened.
 pub(crate) fn not_opened<R: Eprint>(rt: &R, path: Shown<'_>) -> ExitCode {
     file_fault(rt, FAULT, path, "cannot be opened")
+}
+
+/// Prints why a word names no zone.
+pub(crate) fn zone_fault<R: Eprint>(
+    rt: &R,
+    to: ErrorsTo,
+    word: &str,
+    found: ZoneFault,
+) -> ExitCode {
+    let shown = Shown::new(word, to);
+    match found {
+        ZoneFault::Memory => fault(rt, FAULT, Memory),
+        ZoneFault::NotFound => file_fault(rt, FAULT, shown, "no such zone"),
+        ZoneFault::NoZone => file_fault(rt, FAULT, shown, "no time zone file"),
+        ZoneFault::Mistaken => file_fault(rt, REFUSED, shown, hint_on(word)),
+    }
 }
 
 /// Prints the text of a refused command line.

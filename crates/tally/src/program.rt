@@ -1,11 +1,14 @@
 //! The program over a runtime.
+ghost use Rattle.std.specs.Prelude.{◌≡◌, None, Ok};
+ghost use Rattle.tally_clock.specs.Rows.{utc};
 ghost use Rattle.tally_line.specs.Jobs.{IsRunnable};
 
-use crate::faults::{FAULT, REFUSED, fault, file_fault, not_opened, run_fault, usage};
+use crate::faults::{FAULT, REFUSED, fault, file_fault, not_opened, run_fault, usage, zone_fault};
 use crate::opened::{OpenFault, ROOT, hold_closed_streams, open_all};
 use crate::output::Watched;
 use crate::shown::{ErrorsTo, Shown, printable};
 use crate::words::{WordsFault, words};
+use crate::zone::clock_of;
 use std::hash::RandomState;
 use std::io;
 use std::os::fd::AsRawFd;
@@ -15,6 +18,7 @@ use std::rt::{Env, Files};
 use std::sync::Wait;
 use std::thread::Threads;
 use tally_cli::{FileArg, Job, Line, LineFault, RunFault, file_word, job_of, run};
+use tally_clock::Clock;
 use tally_desk::OpenGate;
 use tally_print::Writing;
 use tally_records::Memory;
@@ -32,7 +36,9 @@ where
         Err(WordsFault::NoText) => return fault(rt, REFUSED, "a word is no UTF-8 text"),
     };
     match job_of(rt.alloc(), words.as_slice()) {
-        Ok(Line::Run { job, files }) => hold_and_report(rt, to, &job, files.as_slice()),
+        Ok(Line::Run { job, zone, files }) => {
+            hold_and_report(rt, to, &job, zone.as_ref(), files.as_slice())
+        }
         Ok(Line::Help { text }) => help(rt, text.as_str()),
         Err(LineFault::Memory) => fault(rt, FAULT, Memory),
         Err(LineFault::Usage { text }) => refused(rt, to, words.as_slice(), text.as_str()),
@@ -84,8 +90,24 @@ fn no_prefix<R: Eprint + AllocGlobal>(
     }
 }
 
-/// Opens all files, and then reads them and prints the report.
-fn report<R>(rt: &R, to: ErrorsTo, job: &Job, files: &[FileArg]) -> ExitCode
+/// The clock of the zone that the command line names, and UTC where it names none.
+fn clock_for<R>(rt: &R, to: ErrorsTo, zone: Option<&String>) -> Result<Clock, ExitCode>
+where
+    R: Files + Eprint + AllocGlobal,
+    R::File: Drop,
+    ensures { zone ≡ None → result ≡ Ok utc }
+{
+    let Some(word) = zone else {
+        return Ok(Clock::utc(rt.alloc()));
+    };
+    match clock_of(rt, word.as_str()) {
+        Ok(clock) => Ok(clock),
+        Err(found) => Err(zone_fault(rt, to, word.as_str(), found)),
+    }
+}
+
+/// Reads the zone, opens all files, and then reads them and prints the report.
+fn report<R>(rt: &R, to: ErrorsTo, job: &Job, zone: Option<&String>, files: &[FileArg]) -> ExitCode
 where
     R: Files + Input + Print + Eprint + AllocGlobal + RandomSource + Threads + Wait + Sync,
     R::File: Drop + Send,
@@ -96,20 +118,39 @@ where
         Ok(keys) => keys,
         Err(_) => return fault(rt, FAULT, "no random bytes"),
     };
+    let clock = match clock_for(rt, to, zone) {
+        Ok(clock) => clock,
+        Err(status) => return status,
+    };
     let sources = match open_all(rt, rt.alloc(), files) {
         Ok(sources) => sources,
         Err(OpenFault::Memory) => return fault(rt, FAULT, Memory),
         Err(OpenFault::NotOpened(path)) => return not_opened(rt, Shown::new(path, to)),
     };
     let mut out = Writing::new(Watched::new(io::writer(rt)));
-    match run(rt, rt.alloc(), keys, job, sources, &OpenGate, &mut out) {
+    match run(
+        rt,
+        rt.alloc(),
+        keys,
+        clock,
+        job,
+        sources,
+        &OpenGate,
+        &mut out,
+    ) {
         Ok(()) => ExitCode::SUCCESS,
         Err(found) => run_fault(rt, to, files, found, out.writer().is_reader_gone()),
     }
 }
 
 /// Reports with the closed standard streams held, so that no file takes the place of one.
-fn hold_and_report<R>(rt: &R, to: ErrorsTo, job: &Job, files: &[FileArg]) -> ExitCode
+fn hold_and_report<R>(
+    rt: &R,
+    to: ErrorsTo,
+    job: &Job,
+    zone: Option<&String>,
+    files: &[FileArg],
+) -> ExitCode
 where
     R: Files + Input + Print + Eprint + AllocGlobal + RandomSource + Threads + Wait + Sync,
     R::File: AsRawFd + Drop + Send,
@@ -117,7 +158,7 @@ where
     requires { IsRunnable job.now }
 {
     match hold_closed_streams(rt) {
-        Ok(_held) => report(rt, to, job, files),
+        Ok(_held) => report(rt, to, job, zone, files),
         Err(_) => not_opened(rt, Shown::new(ROOT, to)),
     }
 }

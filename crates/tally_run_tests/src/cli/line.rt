@@ -35,7 +35,7 @@ fn asks_until(alloc: Global, line: &str, report: Report, until: Option<i32>) -> 
         offset: 0,
         until,
     };
-    matches!(read(alloc, line), Ok(Line::Run { job, files: _ }) if job == plain)
+    matches!(read(alloc, line), Ok(Line::Run { job, .. }) if job == plain)
 }
 
 #[test]
@@ -64,7 +64,7 @@ fn a_report_may_be_csv(rt: HostRuntime) {
         "sa -m f --csv",
     ] {
         assert!(rt;
-            matches!(read(rt.alloc(), line), Ok(Line::Run { job, files: _ }) if job.form == Form::Csv),
+            matches!(read(rt.alloc(), line), Ok(Line::Run { job, .. }) if job.form == Form::Csv),
             "{line}"
         );
     }
@@ -153,7 +153,7 @@ fn feeders_askers_and_the_offset_are_set(rt: HostRuntime) {
             until: None,
         };
         assert!(rt;
-            matches!(read(rt.alloc(), line), Ok(Line::Run { job, files: _ }) if job == want),
+            matches!(read(rt.alloc(), line), Ok(Line::Run { job, .. }) if job == want),
             "{line}"
         );
     }

@@ -13,7 +13,7 @@ fn has_file(files: &[FileArg], at: usize, kind: Kind, path: &str) -> bool {
 
 #[test]
 fn prefixes_tell_the_kinds_of_files_of_all(rt: HostRuntime) -> Result<(), Fail> {
-    let Line::Run { job: _, files } = read(rt.alloc(), "all w:a p:b w:p:c p:")? else {
+    let Line::Run { files, .. } = read(rt.alloc(), "all w:a p:b w:p:c p:")? else {
         panic!(rt; "no run");
     };
     assert!(rt; files.len() == 4);
@@ -33,7 +33,7 @@ fn a_report_tells_the_kind_of_its_files(rt: HostRuntime) -> Result<(), Fail> {
         ("sa -m a w:b -- -c", Kind::Proc),
     ];
     for (line, kind) in rows {
-        let Line::Run { job: _, files } = read(rt.alloc(), line)? else {
+        let Line::Run { files, .. } = read(rt.alloc(), line)? else {
             panic!(rt; "{line}: no run");
         };
         assert!(rt; files.len() == 3, "{line}");

@@ -1,0 +1,130 @@
+//! The clock of a zone's word.
+ghost use Rattle.std.specs.Prelude.{◌≡◌, IfOk, IfSome};
+ghost use Rattle.tally_clock.specs.Files.{IsClockOfFile};
+ghost use Rattle.tally_clock.specs.Rules.{IsClockOfRule};
+ghost use Rattle.tally.specs.Zones.{front_of};
+
+use std::alloc::{AllocError, AllocFailed, Global};
+use std::fs;
+use std::io::{self, ErrorKind, Read};
+use std::rt::Files;
+use tally_clock::{
+    Clock, FILE_LIMIT, FileFault, RuleFault, ZoneText, ZoneWord, zone_text, zone_word,
+};
+
+/// The file of the machine's own zone.
+const LOCAL: &str = "/etc/localtime";
+
+/// The folder of zones by name.
+const FOLDER: &str = "/usr/share/zoneinfo/";
+
+/// Why a word gives no clock.
+#[derive(Clone, Copy)]
+pub(crate) enum ZoneFault {
+    Memory,
+    /// It names no file, and is no rule.
+    NotFound,
+    /// It names what is no time zone file.
+    NoZone,
+    /// It is an offset from UTC that POSIX reads the other way round.
+    Mistaken,
+}
+
+impl From<AllocError> for ZoneFault {
+    fn from(_error: AllocError) -> ZoneFault {
+        ZoneFault::Memory
+    }
+}
+
+impl<T: Drop> From<AllocFailed<T>> for ZoneFault {
+    fn from(_error: AllocFailed<T>) -> ZoneFault {
+        ZoneFault::Memory
+    }
+}
+
+impl From<FileFault> for ZoneFault {
+    fn from(found: FileFault) -> ZoneFault {
+        match found {
+            FileFault::Memory => ZoneFault::Memory,
+            _ => ZoneFault::NoZone,
+        }
+    }
+}
+
+impl From<RuleFault> for ZoneFault {
+    fn from(found: RuleFault) -> ZoneFault {
+        match found {
+            RuleFault::Memory => ZoneFault::Memory,
+            _ => ZoneFault::NotFound,
+        }
+    }
+}
+
+/// The clock of the zone that a word names.
+pub(crate) fn clock_of<R: Files + AllocGlobal>(rt: &R, word: &str) -> Result<Clock, ZoneFault>
+where
+    R::File: Drop,
+{
+    match zone_word(word) {
+        ZoneWord::Local => clock_of_machine(rt),
+        ZoneWord::Path => match fs::open(rt, word) {
+            Ok(file) => clock_read(rt.alloc(), file),
+            Err(_) => Err(ZoneFault::NotFound),
+        },
+        ZoneWord::Name => clock_of_name(rt, word),
+        ZoneWord::Text => clock_of_text(rt.alloc(), word),
+    }
+}
+
+/// The machine's clock: UTC where it names no zone.
+fn clock_of_machine<R: Files + AllocGlobal>(rt: &R) -> Result<Clock, ZoneFault>
+where
+    R::File: Drop,
+{
+    match fs::open(rt, LOCAL) {
+        Ok(file) => clock_read(rt.alloc(), file),
+        Err(_) => Ok(Clock::utc(rt.alloc())),
+    }
+}
+
+/// The clock of the file that has a name, and else of the name as a text.
+fn clock_of_name<R: Files + AllocGlobal>(rt: &R, name: &str) -> Result<Clock, ZoneFault>
+where
+    R::File: Drop,
+{
+    let path = format!(in rt.alloc(); "{FOLDER}{name}")?;
+    match fs::open(rt, path.as_str()) {
+        Ok(file) => clock_read(rt.alloc(), file),
+        Err(_) => clock_of_text(rt.alloc(), name),
+    }
+}
+
+/// The clock of a rule.
+fn clock_of_text(alloc: Global, text: &str) -> Result<Clock, ZoneFault>
+    ensures { IfOk result (IsClockOfRule text.now) }
+{
+    match zone_text(text) {
+        ZoneText::MistakenOffset => Err(ZoneFault::Mistaken),
+        ZoneText::Rule => Ok(Clock::of_rule(alloc, text.as_bytes())?),
+    }
+}
+
+/// The clock of the time zone file that a reader has left.
+fn clock_read<F: Read + Drop>(alloc: Global, file: F) -> Result<Clock, ZoneFault>
+    ensures { IfOk result (λ clock. IfSome (F.remaining file) (λ bytes. IsClockOfFile bytes clock)) }
+{
+    match front(alloc, file) {
+        Ok(bytes) => Ok(Clock::of_file(alloc, bytes.as_slice())?),
+        Err(error) if error.kind() == ErrorKind::OutOfMemory => Err(ZoneFault::Memory),
+        Err(_) => Err(ZoneFault::NoZone),
+    }
+}
+
+/// As much of a file as shows whether it is too large: another may have no end.
+fn front<F: Read + Drop>(alloc: Global, file: F) -> io::Result<Vec<u8>>
+    ensures { IfOk result (λ bytes. IfSome (F.remaining file) (λ all. bytes.items ≡ front_of all)) }
+{
+    let mut bytes = Vec::new(alloc);
+    file.take(FILE_LIMIT as u64 + 1).read_to_end(&mut bytes)?;
+    Ok(bytes)
+}
