@@ -59,23 +59,36 @@ zones : map zone (pos 0 ∷ pos 3600 ∷ negsuc 19_799 ∷ negsuc 2669 ∷ negsu
 unfolding zone
 zones = refl
 
--- Berlin in March 2026: an hour ahead, and two from 2026-03-29 01:00:00 UTC on
+-- the date of a day, its year and month first
+berlin_year : year_of (pos 20_541) ≡ 2026
+unfolding year_of days_from_civil day_count days_of_years days_of_months
+berlin_year = refl
+
+berlin_month : month_of (pos 20_541) ≡ 3
+unfolding month_of days_from_civil day_count days_of_years days_of_months
+berlin_month = rw berlin_year refl
+
+berlin_day : date (pos 20_541) ≡ codes "2026-03-29"
+unfolding date day_of_month days_from_civil day_count days_of_years days_of_months
+berlin_day = rw (berlin_year, berlin_month) refl
+
+-- Berlin in March 2026: an hour ahead of UTC, and two hours from 2026-03-29 01:00:00 UTC on
 abbrev berlin : ℤ → ℤ
 berlin time = if int_le (pos 1_774_746_000) time then pos 7200 else pos 3600
 
 -- where clocks go forward, 03:00:00 follows 01:59:59
 berlin_moments : map (λ time. moment time berlin) (pos 1_774_745_999 ∷ pos 1_774_746_000 ∷ []) ≡ codes "2026-03-29 01:59:59" ∷ codes "2026-03-29 03:00:00" ∷ []
-unfolding moment date time_of_day year_of month_of day_of_month days_from_civil day_count days_of_years days_of_months
-berlin_moments = refl
+unfolding moment time_of_day
+berlin_moments = rw berlin_day refl
 
 berlin_iso : map (λ time. iso_moment time berlin) (pos 1_774_745_999 ∷ pos 1_774_746_000 ∷ []) ≡ codes "2026-03-29T01:59:59+01:00" ∷ codes "2026-03-29T03:00:00+02:00" ∷ []
-unfolding iso_moment zone date time_of_day year_of month_of day_of_month days_from_civil day_count days_of_years days_of_months
-berlin_iso = refl
+unfolding iso_moment zone time_of_day
+berlin_iso = rw berlin_day refl
 
--- Monrovia in 1970 was 44 minutes and 30 seconds behind UTC
-monrovia : moment (pos 0) (λ time. negsuc 2669) ∷ iso_moment (pos 0) (λ time. negsuc 2669) ∷ [] ≡ codes "1969-12-31 23:15:30" ∷ codes "1969-12-31T23:15:30-00:44" ∷ []
-unfolding moment iso_moment zone date time_of_day year_of month_of day_of_month days_from_civil day_count days_of_years days_of_months
-monrovia = refl
+-- a clock 44 minutes and 30 seconds behind UTC, as Monrovia's was up to 1972
+behind : moment (pos 1_774_746_000) (λ time. negsuc 2669) ∷ iso_moment (pos 1_774_746_000) (λ time. negsuc 2669) ∷ [] ≡ codes "2026-03-29 00:15:30" ∷ codes "2026-03-29T00:15:30-00:44" ∷ []
+unfolding moment iso_moment zone time_of_day
+behind = rw berlin_day refl
 
 -- a comma and quotes are quoted, a quote twice; an empty field is empty
 quoted_row : csv_text ((codes "a,b" ∷ (34 ∷ []) ∷ [] ∷ codes "x y" ∷ []) ∷ []) ≡ 34 ∷ (codes "a,b" ++ 34 ∷ 44 ∷ 34 ∷ 34 ∷ 34 ∷ 34 ∷ 44 ∷ 44 ∷ (codes "x y" ++ 10 ∷ []))

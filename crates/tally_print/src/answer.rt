@@ -9,8 +9,8 @@ use tally_book::Answer;
 use tally_clock::Clock;
 
 /// Prints an answer as its kind of report, moments by a clock with an offset in minutes east of it,
-/// with the moment that its question gave. `Write` is a failure of the output in this call; a first part of
-/// the text was written then.
+/// with the moment that its question gave. `Write` is a failure of the output in this call; a first
+/// part of the text was written then.
 pub fn print_answer<O: Output>(
     alloc: Global,
     clock: &Clock,

@@ -154,9 +154,9 @@ impl Line<Stay> for StayLine<'_> {
 }
 
 /// Prints stays as last(1) does: a line for each, then the time of the host's first record, all by
-/// a clock with an offset in minutes east of it. Where stays that nothing has ended were counted up to a
-/// moment, their lines have their span. `Write` is a failure of the output in this call; a first
-/// part of the text was written then.
+/// a clock with an offset in minutes east of it. Where stays that nothing has ended were counted up
+/// to a moment, their lines have their span. `Write` is a failure of the output in this call; a
+/// first part of the text was written then.
 pub fn print_last<O: Output>(
     alloc: Global,
     clock: &Clock,

@@ -82,8 +82,9 @@ fn print_answer_rows<O: Output>(
 }
 
 /// Prints the answers of a report as one table in CSV: the header, and then a row for each row of
-/// each answer, moments by a clock with an offset in minutes east of it. `Write` is a failure of the
-/// output in this call; a first part of the text was written then.
+/// each answer, moments by a clock with an offset in minutes east of it. A moment has the offset
+/// that held at that second, its seconds cut off. `Write` is a failure of the output in this call; a
+/// first part of the text was written then.
 pub fn print_table<O: Output>(
     alloc: Global,
     clock: &Clock,

@@ -5,7 +5,7 @@ use Rattle.tally_print.specs.declared.local.Local.{Local}
 
 -- how far local time is ahead of UTC at each second, in seconds
 abbrev pub clock_of : Local → ℤ → ℤ
-clock_of l = local l.clock.now l.offset
+clock_of here = local here.clock.now here.offset
 
 -- how far it can be: a clock's 25:59:59 and a question's 23:59
 pub record IsAhead (ahead : ℤ) : Type 0 where
