@@ -140,7 +140,7 @@ def local_moment(time):
     return '%04d-%02d-%02d %02d:%02d:%02d' % (datetime.datetime(1970, 1, 1) + datetime.timedelta(seconds=time)).timetuple()[:6]
 
 
-def date(day):
+def date_of(day):
     return local_moment(86400 * day)[:10]
 
 
@@ -171,7 +171,7 @@ def last_text(host, limit, clock, until):
 
 
 def ac_line(name, seconds, day=None):
-    date = '' if day is None else date(day) + ' '
+    date = '' if day is None else date_of(day) + ' '
     return '%s%-20s %12s\n' % (date, name, hundredths((seconds + 18) // 36))
 
 
@@ -279,7 +279,7 @@ def ac_table(hosts, by_day, by_user, clock, until):
     if not by_day and not by_user:
         return table('seconds', [(sum(stay['seconds'] for stay in stays),)])
     names = 'day,' * by_day + 'user,' * by_user + 'seconds'
-    return table(names, [([date(day)] if by_day else []) + ([shown(name)] if by_user else []) + [seconds]
+    return table(names, [([date_of(day)] if by_day else []) + ([shown(name)] if by_user else []) + [seconds]
                          for day, name, seconds in ac_rows(stays, by_day, by_user, clock)])
 
 
