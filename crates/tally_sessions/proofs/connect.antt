@@ -1,6 +1,9 @@
 -- Rows of connect time.
 pub mod Ahead
+pub mod CountLemmas
 pub mod CutLemmas
+pub mod DayChanges
 pub mod RowLemmas
+pub mod RowWalk
 pub mod UserRows
 pub mod Weights

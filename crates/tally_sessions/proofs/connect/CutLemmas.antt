@@ -6,13 +6,13 @@ use Rattle.std.proofs.Math.ListN.{get_or-eq_default}
 use Rattle.std.specs.Int.{int_max, int_min}
 use Rattle.tally_clock.proofs.DayLemmas.{days_of_one_offset, parts_add_up}
 use Rattle.tally_clock.proofs.RowLemmas.{count_fits, count_is, in_list, passed, rises, stopped}
-use Rattle.tally_clock.specs.Days.{seconds_between, seconds_on}
+use Rattle.tally_clock.specs.Days.{seconds_between, seconds_from, seconds_on}
 use Rattle.tally_clock.specs.Days as clocks
 use Rattle.tally_clock.specs.Rows.{ClockRows, IsRising, count_at, no_row, offset_after, row_at}
 use Rattle.tally_clock.specs.declared.row.Row.{Row}
 use Rattle.tally_sessions.specs.Days.{local}
-use Rattle.tally_sessions.specs.inside.Counts.{row_after_all, seconds_since, start_of}
-use Rattle.tally_sessions.specs.inside.Spans.{day_start, span_on}
+use Rattle.tally_sessions.specs.inside.Counts.{change_since, row_after_all, seconds_since, start_of}
+use Rattle.tally_sessions.specs.inside.Spans.{day_start, span_change, span_on}
 
 max_moved : (b s o : ℤ) → int_max (b +ℤ o) s ≡ int_max b (s -ℤ o) +ℤ o
 max_moved b s o = grind (arith, ints, clamps)
@@ -110,4 +110,23 @@ pub after_begun : (rows : List Row) (t : ℤ) (row : ℕ) → row < count_at row
 after_begun rows t row lt =
     let start = start_in rows row (let fits = count_fits rows t in omega arith) in
     let begun = passed rows t row lt in
+    omega (arith, ints)
+
+-- past the last row there is nothing
+pub since_past : (clock : ℤ → ℤ) (rows : List Row) (day : ℤ) (row : ℕ) → length rows ≤ row → seconds_since clock rows day row ≡ 0
+unfolding seconds_from
+since_past clock rows day row past = ap (λ (z : ℤ). seconds_on clock day z (pos (2 ^ 31))) (start_past rows row past)
+
+pub change_past : (clock : ℤ → ℤ) (rows : List Row) (day : ℤ) (row : ℕ) → length rows ≤ row → change_since clock rows day row ≡ pos 0
+change_past clock rows day row past =
+    let one = since_past clock rows day row past in
+    let two = since_past clock rows (day -ℤ pos 1) row past in
+    omega (arith, ints)
+
+-- the change from a row on is that of the row and that from the next on
+pub change_next : (clock : ℤ → ℤ) (rows : List Row) (b e : ℤ) (row : ℕ) → ((day : ℤ) → seconds_since clock rows day row ≡ span_on day b e + seconds_since clock rows day (row + 1))
+    → (day : ℤ) → change_since clock rows day row ≡ span_change day b e +ℤ change_since clock rows day (row + 1)
+change_next clock rows b e row is day =
+    let one = is day in
+    let two = is (day -ℤ pos 1) in
     omega (arith, ints)

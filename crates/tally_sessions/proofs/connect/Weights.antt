@@ -35,3 +35,6 @@ product-high c x m n h k = omega (arith, ints, unsigned_abs-mul c x, mul-le-mul 
 
 pub product-low : (c x : ℤ) (m n : ℕ) → unsigned_abs c ≤ m → unsigned_abs x ≤ n → neg_ℤ (pos (m * n)) ≤ℤ (c *ℤ x)
 product-low c x m n h k = omega (arith, ints, unsigned_abs-mul c x, mul-le-mul h k)
+
+pub times_of_sum : (c x y : ℤ) → c *ℤ (x +ℤ y) ≡ c *ℤ x +ℤ c *ℤ y
+times_of_sum c x y = *ℤ_comm c (x +ℤ y) ∙ times_sum x y c ∙ (λ i. *ℤ_comm x c i +ℤ *ℤ_comm y c i)

@@ -1,5 +1,5 @@
 //! Sums of seconds over the days of sessions.
-ghost use Rattle.std.specs.Prelude.{◌≡◌, ◌≤◌, ◌<◌, ◌+◌, ◌^◌, ℕ, ℤ, pos, neg_ℤ, ◌+ℤ◌, ◌*ℤ◌, ◌≤ℤ◌, IfOk, length, vec_len};
+ghost use Rattle.std.specs.Prelude.{◌≡◌, ◌≤◌, ◌<◌, ◌+◌, ◌^◌, ℕ, ℤ, pos, neg_ℤ, ◌+ℤ◌, ◌-ℤ◌, ◌*ℤ◌, ◌≤ℤ◌, IfOk, length, vec_len};
 ghost use Rattle.std.specs.Ordering.{int_cmp};
 ghost use Rattle.tally_clock.specs.Days.{seconds_on};
 ghost use Rattle.tally_sessions.specs.inside.Changes as changes;
@@ -51,7 +51,7 @@ fn add_changes(table: &mut [i64], span: &Span, times: i64)
     requires high { (place : ℕ) → changes.change_at table.old place ≤ℤ pos (2 ^ 62) }
     requires times_low { neg_ℤ (pos 2097152) ≤ℤ times }
     requires times_high { times ≤ℤ pos 2097152 }
-    ensures value { (place : ℕ) → place < DAY_COUNT → changes.change_at table.new place
+    ensures { (place : ℕ) → place < DAY_COUNT → changes.change_at table.new place
         ≡ changes.change_at table.old place +ℤ times *ℤ span_change (changes.day_at place) span.now.begin span.now.end_time }
 {
     let first = place_of(day_of(span.begin));
@@ -65,6 +65,19 @@ fn add_changes(table: &mut [i64], span: &Span, times: i64)
             place + 1
         };
     }
+}
+
+/// Adds one session that has whole each row from one up to another.
+fn count_rows(counts: &mut [i64], from: usize, to: usize)
+    requires from_in { from < length counts.old }
+    requires to_in { to < length counts.old }
+    requires small { size_of (changes.change_at counts.old) (length counts.old) ≤ 2 ^ 21 }
+    ensures value { (change : ℕ → ℤ) → stand_for (changes.change_at counts.new) change (length counts.old)
+        ≡ (stand_for (changes.change_at counts.old) change (length counts.old) +ℤ change from) -ℤ change to }
+    ensures two { size_of (changes.change_at counts.new) (length counts.old) ≤ size_of (changes.change_at counts.old) (length counts.old) + 2 }
+{
+    counts[from] += 1;
+    counts[to] -= 1;
 }
 
 /// Adds a session: the changes of its seconds in the rows of the clock where it begins and ends to the
@@ -94,8 +107,7 @@ fn add_session(
         None => {}
         Some(rest) => {
             add_changes(table, &rest.last, 1);
-            counts[rest.from] += 1;
-            counts[rest.to] -= 1;
+            count_rows(counts, rest.from, rest.to);
         }
     }
 }
@@ -108,7 +120,7 @@ fn add_rows(table: &mut [i64], counts: &[i64], clock: &Clock, offset: i32)
     requires low { (place : ℕ) → neg_ℤ (pos (2 ^ 61)) ≤ℤ changes.change_at table.old place }
     requires high { (place : ℕ) → changes.change_at table.old place ≤ℤ pos (2 ^ 61) }
     requires small { size_of (changes.change_at counts.now) (length clock.now.rows) ≤ 2 ^ 21 }
-    ensures value { (place : ℕ) → place < DAY_COUNT → changes.change_at table.new place
+    ensures { (place : ℕ) → place < DAY_COUNT → changes.change_at table.new place
         ≡ changes.told_at (local clock.now offset) clock.now.rows table.old counts.now place }
 {
     let mut times = 0;
