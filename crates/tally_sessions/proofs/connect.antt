@@ -3,6 +3,7 @@ pub mod Ahead
 pub mod CountLemmas
 pub mod CutLemmas
 pub mod DayChanges
+pub mod DayTable
 pub mod RowLemmas
 pub mod RowWalk
 pub mod UserRows
