@@ -15,6 +15,7 @@ use std::rt::{Env, Files};
 use std::sync::Wait;
 use std::thread::Threads;
 use tally_cli::{FileArg, Job, Line, LineFault, RunFault, file_word, job_of, run};
+use tally_clock::Clock;
 use tally_desk::OpenGate;
 use tally_print::Writing;
 use tally_records::Memory;
@@ -101,8 +102,9 @@ where
         Err(OpenFault::Memory) => return fault(rt, FAULT, Memory),
         Err(OpenFault::NotOpened(path)) => return not_opened(rt, Shown::new(path, to)),
     };
+    let clock = Clock::utc(rt.alloc());
     let mut out = Writing::new(Watched::new(io::writer(rt)));
-    match run(rt, rt.alloc(), keys, job, sources, &OpenGate, &mut out) {
+    match run(rt, rt.alloc(), keys, &clock, job, sources, &OpenGate, &mut out) {
         Ok(()) => ExitCode::SUCCESS,
         Err(found) => run_fault(rt, to, files, found, out.writer().is_reader_gone()),
     }

@@ -30,7 +30,7 @@ impl Model for Clock {
 
 impl Clock {
     ghost use Rattle.std.specs.Prelude.{◌≡◌, IfOk, int_le, length, vec_len, ◌≤◌};
-    ghost use Rattle.tally_clock.specs.Rows.{count_at, offset_at, utc};
+    ghost use Rattle.tally_clock.specs.Rows.{count_at, offset_after, offset_at, utc};
 
     /// The clock of UTC, which has no rows.
     pub fn utc(alloc: Global) -> Clock
@@ -91,15 +91,22 @@ impl Clock {
         )
     }
 
-    /// The offset at a second.
-    pub fn offset_at(&self, time: i32) -> Offset
-        ensures { result.seconds ≡ offset_at self.now time }
+    /// The offset after so many rows have begun.
+    pub fn offset_after(&self, count: usize) -> Offset
+        requires { count ≤ length self.now.rows }
+        ensures { result ≡ offset_after self.now.first self.now.rows count }
     {
-        let count = self.count_at(time);
         if count == 0 {
             self.first
         } else {
             self.rows[count - 1].offset
         }
+    }
+
+    /// The offset at a second.
+    pub fn offset_at(&self, time: i32) -> Offset
+        ensures { result.seconds ≡ offset_at self.now time }
+    {
+        self.offset_after(self.count_at(time))
     }
 }
