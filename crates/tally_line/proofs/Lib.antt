@@ -7,3 +7,4 @@ pub mod OffsetLemmas
 pub mod OptionLemmas
 pub mod WalkSteps
 pub mod WorkedRows
+pub mod ZoneLemmas

@@ -1,6 +1,6 @@
 -- Matches and the answers to them.
 use Rattle.std.proofs.Common.{◌≡◌, ◌∙◌, ◌<◌, ◌⊎◌, inl, inr, ◌≤◌, true, ℕ, List, [], Option, Some, None, Result, Err, ap, sym, subst, refl, length, arith, IfOk, IfErr}
-use Rattle.std.specs.Prelude.{option_map, unwrap_or, codes, slice_get, slice_index_or}
+use Rattle.std.specs.Prelude.{String, option_map, unwrap_or, codes, slice_get, slice_index_or}
 use Rattle.std.specs.Borrow.{Bor}
 use Rattle.std.proofs.lemmas.List.{length-map}
 use Rattle.std.proofs.lemmas.Option.{slice_get-map, unwrap_or-slice_get}
@@ -16,10 +16,11 @@ use Rattle.clap.proofs.WalkLemmas.{one_text-rows, raw_values-rows}
 use Rattle.tally_line.proofs.Accepted.{accepted_are_complete}
 use Rattle.tally_line.specs.CommandLine.{tally_app}
 use Rattle.tally_line.specs.FileWords.{IsFirstBare, NamesFiles}
-use Rattle.tally_line.specs.Lines.{Answers, AreAccepted, AsksFor, HasNoWord, AsksForm, IsRunOf, Refuses, file_words, met_in, name_of, rows_met, words_in}
+use Rattle.tally_line.specs.Lines.{Answers, AreAccepted, AsksFor, HasNoWord, HasSoundTimes, AsksForm, IsRunOf, Refuses, file_words, met_in, name_of, rows_met, words_in}
 use Rattle.tally_line.specs.inside.LineSteps.{IsComplete, IsFaultFor, IsHelpFor, IsFaultOf, IsFileFault, IsLineOf, IsMemoryOrUsage}
 use Rattle.tally_line.specs.Jobs.{IsRunnable}
-use Rattle.tally_line.specs.Offsets.{HasPlainOffsets}
+use Rattle.tally_line.specs.Zones.{IsZoneOf}
+use Rattle.std.specs.declared.alloc.Global.{Global}
 use Rattle.tally_line.specs.Options.{SetsJob}
 use Rattle.tally_line.specs.declared.line.FileArg.{FileArg}
 use Rattle.tally_line.specs.declared.job.Job.{Job}
@@ -66,17 +67,19 @@ file_fault name rows r words (fault.Usage text) named words_are h = absurd h
 file_fault name rows r words (fault.Prefix index) named words_are h =
     (ap Some (named ∙ ap name_of h.0), rw words_are h.1)
 
-pub run_found : (name : Text) (rows : List Row) (r : Report) (words : List (Bor Text)) (job : Job) (files : List FileArg) → name ≡ name_of r
+pub run_found : (name : Text) (rows : List Row) (r : Report) (words : List (Bor Text)) (job : Job) (zone : Option (String Global)) (files : List FileArg) → name ≡ name_of r
     → words_in rows ≡ texts words → 0 < length (words_in rows) → job.report ≡ r → IsRunnable job → job.askers ≤ 64 → (job.askers ≡ 0) ⊎ (r ≡ report.All)
-    → AsksForm r rows job.form → SetsJob rows job → HasPlainOffsets rows → NamesFiles r (texts words) files → IsRunOf (Some (name, rows)) job files
-run_found name rows r words job files named words_are some is runnable few asked form options plain names = record {
+    → AsksForm r rows job.form → SetsJob rows job → IsZoneOf rows zone → HasSoundTimes rows → NamesFiles r (texts words) files
+    → IsRunOf (Some (name, rows)) job zone files
+run_found name rows r words job zone files named words_are some is runnable few asked form options zone_word times names = record {
   named = ap Some (named ∙ ap name_of (sym is));
   runnable = runnable;
   form = rw is form;
   few_askers = few;
   all_is_asked = rw is asked;
   options = options;
-  plain = plain;
+  zone_word = zone_word;
+  times = times;
   some_file = omega (arith, some, ap length words_are, length-map {A = FileArg} {B = Text}, length-map {A = Bor Text} {B = Text}, ap length names.each_word);
   names_files = rw (is, words_are) names;
 }
@@ -112,14 +115,14 @@ module _ (words : List Text) (command : Command) (is : app_of command ≡ tally_
   pub answers : (m : ArgMatches) (l : Line) → HasMatchesOf (app_of command) words m
       → (is_simple_and_free (app_of command) ≡ true → fault_of (app_of command) words ≡ [])
       → IsLineOf (subcommand_rows_of m) l → Answers words l
-  answers m (line.Run job files) has taken found = (accepted taken, subst (λ met. IsRunOf met job files.items) (met_in_words m has) found)
+  answers m (line.Run job zone files) has taken found = (accepted taken, subst (λ met. IsRunOf met job zone files.items) (met_in_words m has) found)
   answers m (line.Help text) has taken found = absurd found
 
   pub refuses : (m : ArgMatches) (f : LineFault) → HasMatchesOf (app_of command) words m
       → (is_simple_and_free (app_of command) ≡ true → fault_of (app_of command) words ≡ [])
       → IsFaultOf (subcommand_rows_of m) f → Refuses words f
   refuses m fault.Memory has taken found = tt
-  refuses m (fault.Usage text) has taken found = inr (accepted taken, subst (λ met. ¬ HasPlainOffsets (rows_met met)) (met_in_words m has) found)
+  refuses m (fault.Usage text) has taken found = inr (accepted taken, subst (λ met. ¬ HasSoundTimes (rows_met met)) (met_in_words m has) found)
   refuses m (fault.Prefix index) has taken found =
       let all = subst (λ met. AsksFor report.All met × IsFirstBare (file_words met) index) (met_in_words m has) found in (accepted taken, all.0, all.1)
 
@@ -132,7 +135,7 @@ module _ (words : List Text) (command : Command) (is : app_of command ≡ tally_
   ]
 
   as_help : (e : Error) (l : Line) → IsAmong (kind_of e) (fault_of tally_app words) → IsHelpFor (kind_of e) l → Answers words l
-  as_help e (line.Run job files) one h = absurd h
+  as_help e (line.Run job zone files) one h = absurd h
   as_help e (line.Help text) one h = (kind_of e, one, h)
 
   as_fault : (e : Error) (f : LineFault) → IsAmong (kind_of e) (fault_of tally_app words) → IsFaultFor (kind_of e) f → Refuses words f

@@ -7,7 +7,7 @@ use Rattle.clap.proofs.WalkLemmas.{first_value-rows}
 use Rattle.tally_line.specs.Offsets.{IsPlain, IsPlainIn}
 
 -- what `get_str` gives is the first value in the rows
-in_rows : (f : Found) (id : Text) (found : Option Text) → found ≡ first_value f id → first_of id (rows_of f) ≡ found
+pub in_rows : (f : Found) (id : Text) (found : Option Text) → found ≡ first_value f id → first_of id (rows_of f) ≡ found
 in_rows f id found is = sym (is ∙ first_value-rows f id)
 
 some_is : (t u : Text) → Some t ≡ Some u → t ≡ u

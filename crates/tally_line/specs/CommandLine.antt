@@ -5,7 +5,7 @@ use Rattle.clap.specs.Simple.{on_top}
 use Rattle.clap.specs.Words.{App, Rule, Text, new_app, new_rule, with_rule, with_subcommand}
 use Rattle.clap.specs.declared.builder.action.ArgAction.TheVariants.{SetTrue}
 use Rattle.clap.specs.declared.builder.value_parser.ValueParser.{ValueParser}
-use Rattle.clap.specs.declared.builder.value_parser.ValueParser.TheVariants.{Signed}
+use Rattle.clap.specs.declared.builder.value_parser.ValueParser.TheVariants.{NonEmptyString, Signed}
 
 -- `-x`
 abbrev pub flag_rule : Text → ℕ → Rule
@@ -64,6 +64,14 @@ until_rule = record (new_rule (codes "until")) {
   parser = Some (between 0 2147483647);
 }
 
+-- the zone whose local time is shown: any word but the empty one
+abbrev pub zone_rule : Rule
+zone_rule = record (new_rule (codes "zone")) {
+  long = Some (codes "zone");
+  value_names = 1;
+  parser = Some NonEmptyString;
+}
+
 -- the files, one or more
 abbrev pub file_rule : Rule
 file_rule = record (new_rule (codes "file")) {
@@ -74,7 +82,8 @@ file_rule = record (new_rule (codes "file")) {
 
 -- the options and the files that each subcommand has, after its own
 abbrev pub with_common : App → App
-with_common app = with_rule (with_rule (with_rule (with_rule app feeders_rule) east_rule) west_rule) file_rule
+with_common app =
+    with_rule (with_rule (with_rule (with_rule (with_rule app feeders_rule) east_rule) west_rule) zone_rule) file_rule
 
 -- `last`
 abbrev pub last_app : App

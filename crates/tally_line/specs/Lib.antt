@@ -4,4 +4,5 @@ pub mod Jobs
 pub mod Lines
 pub mod Offsets
 pub mod Options
+pub mod Zones
 pub mod inside

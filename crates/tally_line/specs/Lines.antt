@@ -1,5 +1,5 @@
 -- What a command line asks for.
-use Rattle.std.specs.Prelude.{◌≡◌, ◌⊎◌, ◌≤◌, ◌<◌, List, [], Option, Some, None, ⊤, codes, length}
+use Rattle.std.specs.Prelude.{◌≡◌, ◌⊎◌, ◌≤◌, ◌<◌, List, [], Option, Some, None, String, ⊤, codes, length}
 use Rattle.std.specs.Prelude.{option_map, unwrap_or}
 use Rattle.clap.specs.Words.{IsAmong, Row, Text, all_of, fault_of, one_of, subcommand_of}
 use Rattle.clap.specs.declared.error.kind.ErrorKind.{ErrorKind}
@@ -9,6 +9,8 @@ use Rattle.tally_line.specs.FileWords.{IsFirstBare, NamesFiles}
 use Rattle.tally_line.specs.Jobs.{IsRunnable}
 use Rattle.tally_line.specs.Offsets.{HasPlainOffsets}
 use Rattle.tally_line.specs.Options.{SetsJob}
+use Rattle.tally_line.specs.Zones.{HasOneClock, IsZoneOf}
+use Rattle.std.specs.declared.alloc.Global.{Global}
 use Rattle.tally_line.specs.declared.line.FileArg.{FileArg}
 use Rattle.tally_line.specs.declared.job.Form.{Form}
 use Rattle.tally_line.specs.declared.job.Form.TheVariants as form
@@ -65,15 +67,20 @@ name_of report.All = codes "all"
 abbrev pub AsksFor : Report → Met → Type 0
 AsksFor r met = option_map (λ found. found.0) met ≡ Some (name_of r)
 
+-- offsets are plain, and none stands beside a zone
+abbrev pub HasSoundTimes : List Row → Type 0
+HasSoundTimes rows = HasPlainOffsets rows × HasOneClock rows
+
 -- a run that the matches ask for
-pub record IsRunOf (met : Met) (job : Job) (files : List FileArg) : Type 0 where
+pub record IsRunOf (met : Met) (job : Job) (zone : Option (String Global)) (files : List FileArg) : Type 0 where
   pub named : AsksFor job.report met
   pub runnable : IsRunnable job
   pub form : AsksForm job.report (rows_met met) job.form
   pub few_askers : job.askers ≤ 64
   pub all_is_asked : (job.askers ≡ 0) ⊎ (job.report ≡ report.All)
   pub options : SetsJob (rows_met met) job
-  pub plain : HasPlainOffsets (rows_met met)
+  pub zone_word : IsZoneOf (rows_met met) zone
+  pub times : HasSoundTimes (rows_met met)
   pub some_file : 0 < length files
   pub names_files : NamesFiles job.report (file_words met) files
 
@@ -99,13 +106,13 @@ AreAccepted words = fault_of tally_app words ≡ []
 
 -- the answer to words
 abbrev pub Answers : List Text → Line → Type 0
-Answers words (line.Run job files) = AreAccepted words × IsRunOf (met_in words) job files.items
+Answers words (line.Run job zone files) = AreAccepted words × IsRunOf (met_in words) job zone files.items
 Answers words (line.Help text) = AskForHelp words
 
 -- why words are refused
 abbrev pub Refuses : List Text → LineFault → Type 0
 Refuses words fault.Memory = ⊤
-Refuses words (fault.Usage text) = AreMistaken words ⊎ (AreAccepted words × ¬ HasPlainOffsets (rows_met (met_in words)))
+Refuses words (fault.Usage text) = AreMistaken words ⊎ (AreAccepted words × ¬ HasSoundTimes (rows_met (met_in words)))
 Refuses words (fault.Prefix index) =
     AreAccepted words × AsksFor report.All (met_in words) × IsFirstBare (file_words (met_in words)) index
 

@@ -3,7 +3,7 @@ ghost use Rattle.std.specs.Prelude.{◌≡◌, IfOk, false};
 ghost use Rattle.clap.specs.Words.{App, Rule, new_app, rule_of, with_rule, with_subcommand};
 ghost use Rattle.tally_line.specs.CommandLine.{all_app, askers_rule, connect_app, csv_rule, feeders_rule, file_rule, flag_rule, last_app, limit_rule};
 ghost use Rattle.tally_line.specs.inside.Commands.{IsCommand};
-ghost use Rattle.tally_line.specs.CommandLine.{minutes_rule, number_rule, tally_app, top_app, until_rule, usage_app, with_common};
+ghost use Rattle.tally_line.specs.CommandLine.{minutes_rule, number_rule, tally_app, top_app, until_rule, usage_app, with_common, zone_rule};
 
 use clap::builder::ValueParser;
 use clap::{Arg, ArgAction, Command, value_parser};
@@ -156,6 +156,7 @@ fn with_options<'a>(alloc: Global, command: Made<'a>, files: &'a str) -> Made<'a
             "Show times and cut days M minutes west of UTC, 0 to 1439; 300 for -0500; sa has neither",
         ),
     );
+    let command = with(command, zone(alloc));
     with(command, file(alloc, files))
 }
 
@@ -226,6 +227,19 @@ fn until<'a>(alloc: Global) -> Arg<'a>
             "Count open sessions up to SECONDS since 1970, 0 to 2147483647 [default: the last record]",
         )
         .value_parser(value_parser!(i32).range(0..=2_147_483_647))
+}
+
+fn zone<'a>(alloc: Global) -> Arg<'a>
+    ensures rule { rule_of result ≡ zone_rule }
+    ensures local { result.global ≡ false }
+{
+    Arg::new(alloc, "zone")
+        .long("zone")
+        .value_name("ZONE")
+        .help(
+            "Show times and cut days by the local time of ZONE: local, a name as Europe/Berlin, a file or a rule",
+        )
+        .value_parser(ValueParser::NonEmptyString)
 }
 
 fn file<'a>(alloc: Global, help: &'a str) -> Arg<'a>

@@ -17,10 +17,16 @@ pub struct FileArg {
 /// What a command line asks for.
 #[derive(Debug, Drop)]
 pub enum Line {
-    /// A run over files.
-    Run { job: Job, files: Vec<FileArg> },
+    /// A run over files. The zone is the word that names it, as it was given.
+    Run {
+        job: Job,
+        zone: Option<String>,
+        files: Vec<FileArg>,
+    },
     /// The text of a request for help.
-    Help { text: String },
+    Help {
+        text: String,
+    },
 }
 
 /// Why a command line is refused.

@@ -1,7 +1,7 @@
 //! The command line's words read as a job.
-ghost use Rattle.std.specs.Prelude.{◌≡◌, [], Some, IfOk, IfErr, map, slice_index_or, string_bytes};
+ghost use Rattle.std.specs.Prelude.{◌≡◌, [], Some, IfErr, IfNone, IfOk, IfSome, map, slice_index_or, string_bytes};
 ghost use Rattle.clap.specs.Words.{found_of, rows_of, subcommand_rows_of};
-ghost use Rattle.tally_line.specs.Lines.{Answers, HasNoWord, Refuses, file_words, met_in, words_in};
+ghost use Rattle.tally_line.specs.Lines.{Answers, HasNoWord, HasSoundTimes, Refuses, file_words, met_in, words_in};
 ghost use Rattle.tally_line.specs.inside.LineSteps.{IsComplete, IsFaultOf, IsLineOf};
 
 use crate::command;
@@ -10,6 +10,7 @@ use crate::line::{Line, LineFault};
 use crate::offsets::{NOT_PLAIN, has_plain_offsets};
 use crate::options::{job_from, report_of};
 use crate::refused::{fault_of, refused};
+use crate::zones::{TWO_CLOCKS, has_one_clock, zone_of};
 use clap::ArgMatches;
 use std::alloc::Global;
 
@@ -86,11 +87,26 @@ fn run_under(alloc: Global, name: &str, matches: &ArgMatches<'_>) -> Result<Line
     let Some(words) = matches.get_raw("file") else {
         unreachable!()
     };
-    if !has_plain_offsets(matches) {
-        let text = String::from_str(alloc, NOT_PLAIN)?;
+    if let Some(mistake) = mistake_in(matches) {
+        let text = String::from_str(alloc, mistake)?;
         return Err(LineFault::Usage { text });
     }
     let files = files_of(alloc, report, words)?;
+    let zone = zone_of(alloc, matches)?;
     let job = job_from(report, matches);
-    Ok(Line::Run { job, files })
+    Ok(Line::Run { job, zone, files })
+}
+
+/// What is wrong with the offsets and the zone, where anything is.
+fn mistake_in(matches: &ArgMatches<'_>) -> Option<&'static str>
+    ensures some { IfSome result (λ text. ¬ HasSoundTimes (rows_of (found_of matches.now))) }
+    ensures none { IfNone result (HasSoundTimes (rows_of (found_of matches.now))) }
+{
+    if !has_plain_offsets(matches) {
+        Some(NOT_PLAIN)
+    } else if !has_one_clock(matches) {
+        Some(TWO_CLOCKS)
+    } else {
+        None
+    }
 }

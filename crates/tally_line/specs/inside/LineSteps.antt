@@ -6,21 +6,20 @@ use Rattle.tally_line.specs.FileWords.{IsFirstBare}
 use Rattle.tally_line.specs.declared.job.Report.{Report}
 use Rattle.tally_line.specs.declared.line.Line.{Line}
 use Rattle.tally_line.specs.declared.line.LineFault.{LineFault}
-use Rattle.tally_line.specs.Lines.{Met, file_words, rows_met, AsksFor, IsRunOf, IsShown}
-use Rattle.tally_line.specs.Offsets.{HasPlainOffsets}
+use Rattle.tally_line.specs.Lines.{Met, file_words, rows_met, AsksFor, HasSoundTimes, IsRunOf, IsShown}
 use Rattle.tally_line.specs.declared.job.Report.TheVariants as report
 use Rattle.tally_line.specs.declared.line.Line.TheVariants as line
 use Rattle.tally_line.specs.declared.line.LineFault.TheVariants as fault
 
 -- the answer to matches
 abbrev pub IsLineOf : Met → Line → Type 0
-IsLineOf met (line.Run job files) = IsRunOf met job files.items
+IsLineOf met (line.Run job zone files) = IsRunOf met job zone files.items
 IsLineOf met (line.Help text) = ⊥
 
 -- why complete matches are refused
 abbrev pub IsFaultOf : Met → LineFault → Type 0
 IsFaultOf met fault.Memory = ⊤
-IsFaultOf met (fault.Usage text) = ¬ HasPlainOffsets (rows_met met)
+IsFaultOf met (fault.Usage text) = ¬ HasSoundTimes (rows_met met)
 IsFaultOf met (fault.Prefix index) = AsksFor report.All met × IsFirstBare (file_words met) index
 
 -- why words name no files to a report
@@ -31,7 +30,7 @@ IsFileFault r words (fault.Prefix index) = (r ≡ report.All) × IsFirstBare wor
 
 -- the answer where `clap` ends the words with a kind
 abbrev pub IsHelpFor : ErrorKind → Line → Type 0
-IsHelpFor k (line.Run job files) = ⊥
+IsHelpFor k (line.Run job zone files) = ⊥
 IsHelpFor k (line.Help text) = IsShown k
 
 -- why there is none then
