@@ -5,9 +5,16 @@ pub mod CountLemmas
 pub mod CutLemmas
 pub mod DayChanges
 pub mod DayRows
+pub mod DaySpread
 pub mod DayTable
+pub mod DayUsers
+pub mod KeyLemmas
 pub mod RowLemmas
+pub mod RowOrder
+pub mod RowSteps
 pub mod RowWalk
+pub mod UserChanges
+pub mod UserCounts
 pub mod UserRows
 pub mod Walked
 pub mod Weights
