@@ -2,6 +2,7 @@
 pub mod Ahead
 pub mod Candidates
 pub mod CountLemmas
+pub mod CutChanges
 pub mod CutLemmas
 pub mod DayChanges
 pub mod DayRows
@@ -15,6 +16,7 @@ pub mod RowSteps
 pub mod RowWalk
 pub mod UserChanges
 pub mod UserCounts
+pub mod UserRowWalk
 pub mod UserRows
 pub mod Walked
 pub mod Weights
