@@ -10,7 +10,7 @@ use Rattle.tally_sessions.specs.inside.Counts.{change_since, size_of, stand_for}
 use Rattle.tally_sessions.specs.inside.Spans.{span_change}
 use Rattle.tally_sessions.proofs.connect.CountLemmas.{change_since-few, stand_if, stand_none, stand_small}
 use Rattle.tally_sessions.proofs.connect.UserCounts.{count_few, IsPopped, popped_at, popped_few, popped_in, popped_size, popped_within, rows_ahead-cons}
-use Rattle.tally_sessions.proofs.connect.Weights.{times_none, times_of_sum}
+use Rattle.tally_sessions.proofs.connect.Weights.{none_times, times_of_sum, times_sum}
 use Rattle.tally_sessions.proofs.days.ClockDays.{IsNear}
 
 -- what the changes and the counts that are left say is what all say
@@ -38,7 +38,10 @@ left_bounds clock rows told changes counts near h low high k =
     bounds (day_change changes k) (stand_for (count_of counts k.user) x (length rows)) (told k) (h.value k) (omega (arith, stand, size)) (low k) (high k)
 
 neg_times : (c x : ℤ) → neg_ℤ c *ℤ x ≡ neg_ℤ (c *ℤ x)
-neg_times c x = omega (arith, ints)
+neg_times c x = opposite (neg_ℤ c *ℤ x) (c *ℤ x) (sym (times_sum (neg_ℤ c) c x) ∙ none_times (neg_ℤ c +ℤ c) x (omega (arith, ints)))
+  where
+    opposite : (a b : ℤ) → a +ℤ b ≡ pos 0 → a ≡ neg_ℤ b
+    opposite a b e = omega (arith, ints)
 
 step_value : (t t' s m s' v x d y vx vd vy : ℤ) (p : Bool) → t' ≡ t +ℤ cond p vd (pos 0) → m ≡ s +ℤ cond p (neg_ℤ vx) (pos 0) → s' ≡ m +ℤ cond p vy (pos 0) → vx ≡ vd +ℤ vy → t' +ℤ s' ≡ t +ℤ s
 step_value t t' s m s' v x d y vx vd vy true added popped counted parts = omega (arith, ints)
@@ -89,9 +92,6 @@ module _ (clock : ℤ → ℤ) (rows : List Row) (told : DayUser → ℤ) (chang
   none_value t s m z true is none = omega (arith, ints)
   none_value t s m z false is none = omega (arith, ints)
 
-  none_times : (x : ℤ) → v ≡ pos 0 → v *ℤ x ≡ pos 0
-  none_times x none = ap (λ (z : ℤ). z *ℤ x) none ∙ (let e : pos 0 *ℤ x ≡ pos 0 = omega (arith, ints) in e)
-
   -- a count of 0 may be left out
   pub left_past : v ≡ pos 0 → IsLeft clock rows told changes popped
   left_past none = record {
@@ -99,7 +99,7 @@ module _ (clock : ℤ → ℤ) (rows : List Row) (told : DayUser → ℤ) (chang
     small = smaller;
     value = λ k.
         let x = change_since clock rows k.day in
-        none_value (day_change changes k) (stand_for (count_of counts k.user) x n) (stand_for (count_of popped k.user) x n) (v *ℤ x at.row) (bytes_eq at.user k.user) (popped_stands k) (none_times (x at.row) none)
+        none_value (day_change changes k) (stand_for (count_of counts k.user) x n) (stand_for (count_of popped k.user) x n) (v *ℤ x at.row) (bytes_eq at.user k.user) (popped_stands k) (none_times v (x at.row) none)
         ∙ h.value k;
   }
 
