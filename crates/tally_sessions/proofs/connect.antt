@@ -18,5 +18,6 @@ pub mod UserChanges
 pub mod UserCounts
 pub mod UserRowWalk
 pub mod UserRows
+pub mod UserTable
 pub mod Walked
 pub mod Weights
