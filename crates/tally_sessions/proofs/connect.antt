@@ -1,6 +1,7 @@
 -- Rows of connect time.
 pub mod Ahead
 pub mod Candidates
+pub mod CompleteRows
 pub mod CountLemmas
 pub mod CutChanges
 pub mod CutLemmas
