@@ -10,6 +10,7 @@ ghost use Rattle.tally_sessions.specs.Totals.{connect_of};
 
 mod cut;
 mod day_sums;
+mod day_user_rows;
 pub(crate) mod keys;
 mod span;
 mod user_sums;
@@ -106,6 +107,6 @@ impl Sessions {
         ensures value { IfOk result (λ rows. rows ≡ day_user_times (local clock.now offset) self.now.entries until) }
         ensures days { IfOk result (All (λ row. IsDay row.day)) }
     {
-        Err(Memory)
+        List::from_vec(alloc, self.day_user_rows(alloc, clock, offset, until)?)
     }
 }

@@ -1,5 +1,5 @@
 -- What counts by row stand for.
-use Rattle.std.proofs.Common.{◌≡◌, ◌≢◌, ◌⊎◌, inl, inr, ◌∙◌, ℕ, zero, suc, ◌+◌, ◌*◌, ◌<◌, ◌≤◌, ◌^◌, ℤ, pos, neg_ℤ, ◌+ℤ◌, ◌-ℤ◌, ◌*ℤ◌, ◌≤ℤ◌, List, length, set, refl, sym, ap, subst, mul-le-mul, arith}
+use Rattle.std.proofs.Common.{◌≡◌, ◌≢◌, ◌⊎◌, inl, inr, ◌∙◌, ℕ, zero, suc, ◌+◌, ◌*◌, ◌<◌, ◌≤◌, ◌^◌, ℤ, pos, neg_ℤ, ◌+ℤ◌, ◌-ℤ◌, ◌*ℤ◌, ◌≤ℤ◌, Bool, true, false, cond, List, length, set, refl, sym, ap, subst, mul-le-mul, arith}
 use Rattle.std.proofs.lemmas.Bool.{cases_eq}
 use Rattle.std.proofs.lemmas.Grind.{get_or-set_at}
 use Rattle.std.proofs.lemmas.Int.{ints, unsigned_abs-mul}
@@ -24,7 +24,7 @@ unfolding stand_for
 stand_same old new change zero same = refl
 stand_same old new change (suc n) same = λ i. stand_same old new change n (λ k lt. same k (omega arith)) i +ℤ same n (omega arith) i *ℤ change n
 
-size_same : (old new : ℕ → ℤ) (n : ℕ) → ((k : ℕ) → k < n → new k ≡ old k) → size_of new n ≡ size_of old n
+pub size_same : (old new : ℕ → ℤ) (n : ℕ) → ((k : ℕ) → k < n → new k ≡ old k) → size_of new n ≡ size_of old n
 unfolding size_of
 size_same old new zero same = refl
 size_same old new (suc n) same = λ i. size_same old new n (λ k lt. same k (omega arith)) i + unsigned_abs (same n (omega arith) i)
@@ -156,3 +156,35 @@ counted old mid new from to n from_in to_in up down = record {
   where
     sum : (a b c x y : ℤ) → b ≡ a +ℤ pos 1 *ℤ x → c ≡ b +ℤ neg_ℤ (pos 1) *ℤ y → c ≡ (a +ℤ x) -ℤ y
     sum a b c x y e f = omega (arith, ints)
+
+-- a count that is gone
+pub size_gone : (old new : ℕ → ℤ) (row n : ℕ) → row < n → new row ≡ pos 0 → ((k : ℕ) → k ≢ row → new k ≡ old k) → size_of new n + unsigned_abs (old row) ≡ size_of old n
+unfolding size_of
+size_gone old new row zero lt none others = absurd (omega arith)
+size_gone old new row (suc n) lt none others = by (cases_eq row n) (λ below. size_gone old new row n below none others)
+  where
+    by : (row ≡ n) ⊎ (row ≢ n) → (row < n → size_of new n + unsigned_abs (old row) ≡ size_of old n) → (size_of new n + unsigned_abs (new n)) + unsigned_abs (old row) ≡ size_of old n + unsigned_abs (old n)
+    by (inl e) rest =
+        let gone : unsigned_abs (new n) ≡ 0 = ap unsigned_abs (subst (λ (k : ℕ). new k ≡ pos 0) e none) in
+        let was : unsigned_abs (old row) ≡ unsigned_abs (old n) = ap (λ (k : ℕ). unsigned_abs (old k)) e in
+        let same = size_same old new n (λ k below. others k (λ is. absurd (omega arith))) in
+        omega (arith, gone, was, same)
+    by (inr other) rest =
+        let below = rest (omega (arith, other)) in
+        let same : unsigned_abs (new n) ≡ unsigned_abs (old n) = ap unsigned_abs (others n (λ is. other (sym is))) in
+        omega (arith, below, same)
+
+-- what a single count more stands for, and how large it makes all
+pub stand_if : (old new change : ℕ → ℤ) (row n : ℕ) (b : Bool) (more : ℤ) → row < n → IsMoreAt old new row (cond b more (pos 0)) → stand_for new change n ≡ stand_for old change n +ℤ cond b (more *ℤ change row) (pos 0)
+stand_if old new change row n b more lt h = stand_more old new change row n (cond b more (pos 0)) lt h ∙ ap (λ (z : ℤ). stand_for old change n +ℤ z) (by b)
+  where
+    by : (b : Bool) → cond b more (pos 0) *ℤ change row ≡ cond b (more *ℤ change row) (pos 0)
+    by true = refl
+    by false = none_times (pos 0) (change row) refl
+
+pub size_if : (old new : ℕ → ℤ) (row n : ℕ) (b : Bool) (more : ℤ) → row < n → IsMoreAt old new row (cond b more (pos 0)) → size_of new n ≤ size_of old n + cond b (unsigned_abs more) 0
+size_if old new row n b more lt h = subst (λ (m : ℕ). size_of new n ≤ size_of old n + m) (by b) (size_more old new row n (cond b more (pos 0)) lt h)
+  where
+    by : (b : Bool) → unsigned_abs (cond b more (pos 0)) ≡ cond b (unsigned_abs more) 0
+    by true = refl
+    by false = refl

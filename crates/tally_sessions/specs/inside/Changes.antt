@@ -1,11 +1,10 @@
 -- How the seconds of the days change from each day to the next, of all sessions and of each user's. A table by day has a
 -- place for each day that a time can have.
-use Rattle.std.specs.Prelude.{ℕ, ℤ, ◌+◌, List, map, filter, sum_by, pos, get_or, length, nat_lt, unsigned_abs, unwrap_or, ◌+ℤ◌, ◌-ℤ◌}
+use Rattle.std.specs.Prelude.{ℕ, ℤ, ◌+◌, ◌-◌, ◌<◌, IsSome, List, map, filter, sum_by, pos, get_or, length, nat_lt, unsigned_abs, ◌+ℤ◌, ◌-ℤ◌}
 use Rattle.std.specs.Int.{int_max}
 use Rattle.std.specs.List.{flat_map}
 use Rattle.std.specs.Map.{lookup}
 use Rattle.std.specs.Ordering.{is_eq}
-use Rattle.std.specs.declared.cmp.Ordering.{Ordering}
 use Rattle.tally_clock.specs.Days.{days_of_seconds, seconds_on}
 use Rattle.tally_clock.specs.declared.row.Row.{Row}
 use Rattle.tally_records.specs.Sorted.{in_order}
@@ -15,8 +14,8 @@ use Rattle.tally_sessions.specs.declared.sums.Session.{Session}
 use Rattle.tally_sessions.specs.declared.times.DayUserTime.{DayUserTime}
 use Rattle.tally_sessions.specs.Rows.{day_user_time_cmp}
 use Rattle.tally_sessions.specs.Sums.{seconds_of_day, seconds_of_day_user}
-use Rattle.tally_sessions.specs.inside.Counts.{change_since, size_of, stand_for}
-use Rattle.tally_sessions.specs.inside.Sums.{day_user_cmp, row_user_cmp}
+use Rattle.tally_sessions.specs.inside.Counts.{change_since, stand_for}
+use Rattle.tally_sessions.specs.inside.Sums.{change_of, day_user_cmp, row_user_cmp}
 
 -- the day of a place
 abbrev pub day_at : ℕ → ℤ
@@ -38,10 +37,6 @@ change_at changes place = get_or changes place (pos 0)
 abbrev pub told_at : (ℤ → ℤ) → List Row → List ℤ → List ℤ → ℕ → ℤ
 told_at clock rows table counts place = change_at table place +ℤ stand_for (change_at counts) (change_since clock rows (day_at place)) (length rows)
 
--- the change at a key, where a table without an entry has none
-abbrev pub change_of : {K : Type 0} → (K → K → Ordering) → List (K × ℤ) → K → ℤ
-change_of cmp changes k = unwrap_or (lookup (λ j. is_eq (cmp k j)) changes) (pos 0)
-
 -- the change of a user on a day
 abbrev pub day_change : List (DayUser × ℤ) → DayUser → ℤ
 day_change changes k = change_of day_user_cmp changes k
@@ -49,6 +44,14 @@ day_change changes k = change_of day_user_cmp changes k
 -- the count of a user at a row
 abbrev pub count_of : List (RowUser × ℤ) → List ℕ → ℕ → ℤ
 count_of counts user row = change_of row_user_cmp counts (record { row = row; user = user })
+
+-- the row of each count is one of so many
+abbrev pub AreWithin : List (RowUser × ℤ) → ℕ → Type 0
+AreWithin counts rows = (k : RowUser) → IsSome (lookup (λ j. is_eq (row_user_cmp k j)) counts) → k.row < rows
+
+-- how many rows there are from those of the counts on
+abbrev pub rows_ahead : ℕ → List (RowUser × ℤ) → ℕ
+rows_ahead rows counts = sum_by (λ e. rows - e.0.row) counts
 
 -- the change that changes by day and counts by row give a user on a day
 abbrev pub told_of : (ℤ → ℤ) → List Row → List (DayUser × ℤ) → List (RowUser × ℤ) → DayUser → ℤ

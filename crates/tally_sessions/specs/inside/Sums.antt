@@ -1,5 +1,5 @@
 -- Tables of sums, and the rows that they give.
-use Rattle.std.specs.Prelude.{ℕ, ℤ, Bool, List, nat_lt, unwrap_or}
+use Rattle.std.specs.Prelude.{ℕ, ℤ, pos, Bool, List, nat_lt, unwrap_or}
 use Rattle.std.specs.Map.{lookup}
 use Rattle.std.specs.Cmp.Lexicographic.{slice_cmp}
 use Rattle.std.specs.Ordering.{int_cmp, is_eq, nat_cmp, ordering_then}
@@ -21,6 +21,10 @@ row_user_cmp a b = ordering_then (nat_cmp a.row b.row) (slice_cmp nat_cmp a.user
 -- the sum that a table in order has at a key
 abbrev pub sum_at : {K : Type 0} → (K → K → Ordering) → List (K × ℕ) → K → ℕ
 sum_at cmp sums k = unwrap_or (lookup (λ j. is_eq (cmp k j)) sums) 0
+
+-- the same of sums that may go below 0
+abbrev pub change_of : {K : Type 0} → (K → K → Ordering) → List (K × ℤ) → K → ℤ
+change_of cmp changes k = unwrap_or (lookup (λ j. is_eq (cmp k j)) changes) (pos 0)
 
 -- a sum of seconds is above 0
 abbrev pub above_zero : {K : Type 0} → K × ℕ → Bool

@@ -4,6 +4,7 @@ use Rattle.std.proofs.lemmas.Int.{ints, to_z-of_z}
 use Rattle.std.specs.Option.{IfNone, IfSome}
 use Rattle.tally_clock.specs.Days.{seconds_on}
 use Rattle.tally_clock.specs.declared.row.Row.{Row}
+use Rattle.tally_sessions.proofs.connect.CutChanges.{one_change, several_change}
 use Rattle.tally_sessions.proofs.connect.DayChanges.{past_end}
 use Rattle.tally_sessions.proofs.connect.Weights.{once}
 use Rattle.tally_sessions.proofs.days.SpanLemmas.{span_on-le}
@@ -37,19 +38,8 @@ within old new b e low high h place = by (cases_lt place 49717)
         (omega (arith, ints, is, few, few', low place), omega (arith, ints, is, few, few', high place))
     by (inr past) = let none = past_end new place h.all_days past in (omega (arith, ints, none), omega (arith, ints, none))
 
-one_change : (clock : ℤ → ℤ) (b e x y : ℤ) → ((day : ℤ) → seconds_on clock day b e ≡ span_on day x y) → (day : ℤ) → change_on clock day b e ≡ span_change day x y
-one_change clock b e x y same day = λ i. pos (same day i) -ℤ pos (same (day -ℤ pos 1) i)
-
 one_told : (t t' s c d : ℤ) → t' ≡ t +ℤ c → d ≡ c → t' +ℤ s ≡ (t +ℤ s) +ℤ d
 one_told t t' s c d is same = omega (arith, ints)
-
-several_change : (clock : ℤ → ℤ) (rows : List Row) (b e x y z w : ℤ) (from to : ℕ)
-    → ((day : ℤ) → seconds_on clock day b e + seconds_since clock rows day to ≡ span_on day x y + span_on day z w + seconds_since clock rows day from)
-    → (day : ℤ) → change_on clock day b e +ℤ change_since clock rows day to ≡ (span_change day x y +ℤ span_change day z w) +ℤ change_since clock rows day from
-several_change clock rows b e x y z w from to same day =
-    let one = same day in
-    let two = same (day -ℤ pos 1) in
-    omega (arith, ints, one, two)
 
 several_told : (t m t' s s' c c' f l d : ℤ) → m ≡ t +ℤ c → t' ≡ m +ℤ c' → s' ≡ (s +ℤ f) -ℤ l → d +ℤ l ≡ (c +ℤ c') +ℤ f → t' +ℤ s' ≡ (t +ℤ s) +ℤ d
 several_told t m t' s s' c c' f l d first last stands same = omega (arith, ints)
