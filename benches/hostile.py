@@ -19,6 +19,7 @@ LOGIN, LOGOUT, BOOT, OLD, NEW = 7, 8, 2, 4, 3
 LOGIN_RECORD = struct.Struct('<hhi32s4s32s256shhiii36x')
 FACTOR = struct.pack('<Q', 0x9E3779B97F4A7C15)      # what the hasher's second factor is combined with: the two make 0
 LEAST, MOST = -2 ** 31, 2 ** 31 - 1
+RULE = 'EST5EDT4,M3.2.0,M11.1.0'                         # its clock changes 272 times within these
 
 
 def login(kind, line, user, time):
@@ -98,6 +99,8 @@ CASES = [
     ('colliding commands', ['sa', '-a'], commands(colliding), commands(plain)),
     ('sessions over all days', ['ac', '-d'], sessions(LEAST, MOST), sessions(0, 3600)),
     ('sessions over all days, by user', ['ac', '-d', '-p'], sessions(LEAST, MOST), sessions(0, 3600)),
+    ('sessions over all days of a zone', ['ac', '-d', '--zone', RULE], sessions(LEAST, MOST), sessions(0, 3600)),
+    ('sessions over all days of a zone, by user', ['ac', '-d', '-p', '--zone', RULE], sessions(LEAST, MOST), sessions(0, 3600)),
     ('boots after many lines', ['ac'], open_lines(boot), open_lines(message)),
     ('clock changes in many sessions', ['ac'], open_lines(clock), open_lines(message)),
 ]

@@ -14,6 +14,7 @@ import sys
 
 sys.dont_write_bytecode = True
 from common import ROOMS, TOP
+from zone_rows import add_rows as add_zone_rows
 
 
 def field(value, size):
@@ -488,6 +489,10 @@ row('offset-with-a-leading-zero', 'ac,offset', '060 may mean 60 minutes, or an h
 row('offset-of-zero', 'ac,offset', 'A single zero is a number of minutes.', ['ac', '--east', '0', '--west', '0', 'f'], TOTAL_ONE,
     files={'f': ONE_HOUR})
 
+# --- local time by the rules of a zone
+
+add_zone_rows(row, lines, session)
+
 # --- closed standard streams
 
 BESIDE = 'A file and standard input, with '
@@ -726,7 +731,7 @@ In a folder:
 
 Needs: `ac`, `last`, `sa`, `all` are the subcommands, with `ac -d` and the like for flags; `offset` is
 `--east` and `--west`; `clock` that clock changes move sessions; `files` several files; `feeders`, `askers`,
-`until` and `csv` these options; `version3` acct records of version 3; `big` an input of 402 MB; `full-device`
+`until`, `csv` and `zone` these options; `version3` acct records of version 3; `big` an input of 402 MB; `full-device`
 /dev/full.
 
 A wanted output of status 2 has no text of its own (the command line parser's), but for a missing prefix.

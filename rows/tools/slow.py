@@ -8,6 +8,8 @@ import datetime
 import io
 import struct
 
+from clocks import fixed, of_zone
+
 BLOCK = 1024                      # records that are read at once
 SIZES = {'w': 384, 'p': 64}
 VERSIONS = (2, 3)
@@ -120,15 +122,6 @@ def stays_of(host, until):
     return [stay_of(host, at, until) for at in reversed(range(len(host))) if host[at]['event'] in ('Login', 'Boot')]
 
 
-def day_of(time, offset):
-    return (time + 60 * offset) // 86400
-
-
-def on_day(stay, day, offset):
-    begins = 86400 * day - 60 * offset
-    return max(0, min(stay['end_time'], begins + 86400) - max(stay['begin'], begins))
-
-
 # Text
 
 def shown(text):
@@ -139,9 +132,16 @@ def hundredths(number):
     return '%d.%02d' % (number // 100, number % 100)
 
 
-def moment(time, offset):
-    moved = datetime.datetime(1970, 1, 1) + datetime.timedelta(seconds=time + 60 * offset)
-    return '%04d-%02d-%02d %02d:%02d:%02d' % moved.timetuple()[:6]
+def moment(time, clock):
+    return local_moment(time + clock.at(time))
+
+
+def local_moment(time):
+    return '%04d-%02d-%02d %02d:%02d:%02d' % (datetime.datetime(1970, 1, 1) + datetime.timedelta(seconds=time)).timetuple()[:6]
+
+
+def date_of(day):
+    return local_moment(86400 * day)[:10]
 
 
 def span(seconds):
@@ -149,29 +149,29 @@ def span(seconds):
     return '(%d+%s)' % (days, clock) if days else '(%s)' % clock
 
 
-def tail(stay, offset, until):
+def tail(stay, clock, until):
     length = span(stay['seconds'])
     if stay['end'] == 'Still':
         how = 'still running' if stay['is_boot'] else 'still logged in'
         return '   ' + how if until is None else ' - %-19s %s' % (how, length)
     if stay['end'] in ('down', 'crash'):
         return ' - %-19s %s' % (stay['end'], length)
-    return ' - %s %s' % (moment(stay['end_time'], offset), length)
+    return ' - %s %s' % (moment(stay['end_time'], clock), length)
 
 
-def last_text(host, limit, offset, until):
+def last_text(host, limit, clock, until):
     if not host:
         return 'wtmp has no records\n'
     text = ''
     for stay in stays_of(host, until)[:limit]:
         user, line = ('reboot', 'system boot') if stay['is_boot'] else (shown(stay['user']), shown(stay['line']))
-        start = moment(stay['time'], offset)
-        text += '%-8s %-12s %-16s %s%s\n' % (user, line, shown(stay['remote']), start, tail(stay, offset, until))
-    return text + '\nwtmp begins %s\n' % moment(host[0]['time'], offset)
+        start = moment(stay['time'], clock)
+        text += '%-8s %-12s %-16s %s%s\n' % (user, line, shown(stay['remote']), start, tail(stay, clock, until))
+    return text + '\nwtmp begins %s\n' % moment(host[0]['time'], clock)
 
 
 def ac_line(name, seconds, day=None):
-    date = '' if day is None else moment(86400 * day, 0)[:10] + ' '
+    date = '' if day is None else date_of(day) + ' '
     return '%s%-20s %12s\n' % (date, name, hundredths((seconds + 18) // 36))
 
 
@@ -179,27 +179,23 @@ def sessions_of(hosts, until):
     return [stay for host in hosts for stay in stays_of(host, until) if not stay['is_boot']]
 
 
-def ac_rows(stays, by_day, by_user, offset):
+def ac_rows(stays, by_day, by_user, clock):
     """Day, user and seconds of each row; the day or the user is None where it is not asked for."""
     names = sorted({stay['user'] for stay in stays}) if by_user else [None]
-    days = [None]
-    if by_day:
-        days = sorted({day for stay in stays if stay['seconds'] for day in
-                       range(day_of(stay['begin'], offset), day_of(stay['end_time'] - 1, offset) + 1)})
+    by_days = [(stay['user'], clock.seconds_by_day(stay['begin'], stay['end_time']) if by_day else {None: stay['seconds']}) for stay in stays]
     rows = []
-    for day in days if by_day or by_user else []:
+    for day in sorted({day for _, days in by_days for day in days}) if by_day or by_user else []:
         for name in names:
-            mine = [stay for stay in stays if name is None or stay['user'] == name]
-            seconds = sum(stay['seconds'] if day is None else on_day(stay, day, offset) for stay in mine)
+            seconds = sum(days.get(day, 0) for user, days in by_days if name is None or user == name)
             if seconds:
                 rows.append((day, name, seconds))
     return rows
 
 
-def ac_text(hosts, by_day, by_user, offset, until):
+def ac_text(hosts, by_day, by_user, clock, until):
     stays = sessions_of(hosts, until)
     text = ''
-    for day, name, seconds in ac_rows(stays, by_day, by_user, offset):
+    for day, name, seconds in ac_rows(stays, by_day, by_user, clock):
         text += ac_line('total' if name is None else shown(name), seconds, day)
     return text + ac_line('total', sum(stay['seconds'] for stay in stays))
 
@@ -262,29 +258,29 @@ def table(names, rows):
     return out.getvalue()
 
 
-def iso(time, offset):
-    minutes = abs(offset)
-    zone = '%s%02d:%02d' % ('-' if offset < 0 else '+', minutes // 60, minutes % 60)
-    return moment(time, offset).replace(' ', 'T') + zone
+def iso(time, clock):
+    offset = clock.at(time)
+    zone = '%s%02d:%02d' % ('-' if offset < 0 else '+', abs(offset) // 3600, abs(offset) // 60 % 60)
+    return moment(time, clock).replace(' ', 'T') + zone
 
 
-def last_table(hosts, limit, offset, until):
+def last_table(hosts, limit, clock, until):
     rows = []
     for number, host in enumerate(hosts, 1):
         for stay in stays_of(host, until)[:limit]:
             who = ('reboot', '') if stay['is_boot'] else (shown(stay['user']), shown(stay['line']))
-            rows.append((number, *who, shown(stay['remote']), stay['time'], iso(stay['time'], offset), stay['begin'],
-                         stay['end'].lower(), stay['end_time'], iso(stay['end_time'], offset), stay['seconds']))
+            rows.append((number, *who, shown(stay['remote']), stay['time'], iso(stay['time'], clock), stay['begin'],
+                         stay['end'].lower(), stay['end_time'], iso(stay['end_time'], clock), stay['seconds']))
     return table('file,user,line,remote,start,start_at,begin,end,end_time,end_at,seconds', rows)
 
 
-def ac_table(hosts, by_day, by_user, offset, until):
+def ac_table(hosts, by_day, by_user, clock, until):
     stays = sessions_of(hosts, until)
     if not by_day and not by_user:
         return table('seconds', [(sum(stay['seconds'] for stay in stays),)])
     names = 'day,' * by_day + 'user,' * by_user + 'seconds'
-    return table(names, [([moment(86400 * day, 0)[:10]] if by_day else []) + ([shown(name)] if by_user else []) + [seconds]
-                         for day, name, seconds in ac_rows(stays, by_day, by_user, offset)])
+    return table(names, [([date_of(day)] if by_day else []) + ([shown(name)] if by_user else []) + [seconds]
+                         for day, name, seconds in ac_rows(stays, by_day, by_user, clock)])
 
 
 def sums(use):
@@ -312,21 +308,22 @@ def output(job, files):
             return 1, '', 'tally: %s: %s\n' % (path, fault)
     hosts = [records for kind, records in read if kind == 'w']
     processes = [record for kind, records in read if kind == 'p' for record in records]
-    offset, until = job.get('east', 0) - job.get('west', 0), job.get('until')
+    clock = of_zone(job['zone']) if 'zone' in job else fixed(job.get('east', 0) - job.get('west', 0))
+    until = job.get('until')
     flag = lambda name: job.get(name, False)
     if flag('csv'):
         return 0, {
-            'last': lambda: last_table(hosts, job.get('limit'), offset, until),
-            'ac': lambda: ac_table(hosts, flag('d'), flag('p'), offset, until),
+            'last': lambda: last_table(hosts, job.get('limit'), clock, until),
+            'ac': lambda: ac_table(hosts, flag('d'), flag('p'), clock, until),
             'sa': lambda: users_table(processes, flag('n'), flag('r')) if flag('m')
             else sa_table(processes, flag('a'), flag('n'), flag('r')),
         }[job['command']](), ''
-    lasts = [last_text(host, job.get('limit'), offset, until) for host in hosts]
+    lasts = [last_text(host, job.get('limit'), clock, until) for host in hosts]
     sections = {
         'last': lambda: lasts,
-        'ac': lambda: [ac_text(hosts, flag('d'), flag('p'), offset, until)],
+        'ac': lambda: [ac_text(hosts, flag('d'), flag('p'), clock, until)],
         'sa': lambda: [users_text(processes, flag('n'), flag('r')) if flag('m')
                        else sa_text(processes, flag('a'), flag('n'), flag('r'))],
-        'all': lambda: lasts + [ac_text(hosts, False, False, offset, until), sa_text(processes, False, False, False)],
+        'all': lambda: lasts + [ac_text(hosts, False, False, clock, until), sa_text(processes, False, False, False)],
     }[job['command']]()
     return 0, '\n'.join(sections), ''

@@ -14,6 +14,7 @@ use Rattle.tally_sessions.specs.declared.entry.Entry.{Entry}
 use Rattle.tally_sessions.specs.Hosts.{posted_by}
 use Rattle.tally_usage.specs.declared.entry.ProcEntry.{ProcEntry}
 use Rattle.tally_usage.specs.Summary.{entries_of}
+use Rattle.tally_clock.specs.Rows.{ClockRows}
 use Rattle.tally_book.specs.Answers.{answer_of, NamesHostBelow}
 use Rattle.tally_book.specs.Books.{IsCall, Chains, IsLegal, before_of, after_of, between, counts_of, counts_with, nothing, posted, asked}
 use Rattle.tally_book.specs.Contents.{Contents}
@@ -28,8 +29,8 @@ between-added : {X : Type 0} (xs more : List X) (n : ℕ) → length more ≡ n 
 between-added xs more n long =
     ap (drop (length xs)) (take_all (length xs + n) (xs ++ more) (omega (arith, length-append xs more, long))) ∙ drop_at xs more (length xs) refl
 
-call_more : (callers : ℕ) (logins more : List Entry) (procs others : List ProcEntry) (c : Call) → IsCall callers logins procs c → IsCall callers (logins ++ more) (procs ++ others) c
-call_more callers logins more procs others (Posted caller before after) h = record {
+call_more : (callers : ℕ) (clock : ClockRows) (logins more : List Entry) (procs others : List ProcEntry) (c : Call) → IsCall callers clock logins procs c → IsCall callers clock (logins ++ more) (procs ++ others) c
+call_more callers clock logins more procs others (Posted caller before after) h = record {
   caller_in = h.caller_in;
   logins_grow = h.logins_grow;
   procs_grow = h.procs_grow;
@@ -41,14 +42,14 @@ call_more callers logins more procs others (Posted caller before after) h = reco
   own_logins = subst (All (λ (e : Entry). e.host ≡ caller)) (sym (between-append before.logins after.logins logins more h.logins_in)) h.own_logins;
   own_procs = subst (All (λ (e : ProcEntry). e.host ≡ caller)) (sym (between-append before.procs after.procs procs others h.procs_in)) h.own_procs;
 }
-call_more callers logins more procs others (Asked caller at question answer) h = record {
+call_more callers clock logins more procs others (Asked caller at question answer) h = record {
   caller_in = h.caller_in;
   logins_in = omega (arith, h.logins_in, length-append logins more);
   procs_in = omega (arith, h.procs_in, length-append procs others);
   host_in = h.host_in;
   defined = h.defined
-      ∙ ap (λ (l : List Entry). answer_of question l (take at.procs procs)) (sym (take-append-le at.logins logins more h.logins_in))
-      ∙ ap (answer_of question (take at.logins (logins ++ more))) (sym (take-append-le at.procs procs others h.procs_in));
+      ∙ ap (λ (l : List Entry). answer_of clock question l (take at.procs procs)) (sym (take-append-le at.logins logins more h.logins_in))
+      ∙ ap (answer_of clock question (take at.logins (logins ++ more))) (sym (take-append-le at.procs procs others h.procs_in));
 }
 
 chains_push : (start end : Counts) (cs : List Call) (c : Call) → Chains start cs end → before_of c ≡ end → Chains start (cs ++ c ∷ []) (after_of c)
@@ -94,8 +95,8 @@ posted_legal b caller batch legal near room fits few =
       few_logins = omega (arith, long, fits.logins);
       few_procs = omega (arith, longer, fits.procs);
       chained = subst (Chains nothing (b.calls ++ c ∷ [])) ends (chains_push nothing (counts_of b) b.calls c legal.chained refl);
-      sound = All-push (IsCall b.callers (b.logins ++ more) (b.procs ++ others)) b.calls c
-          (All-weaker (IsCall b.callers b.logins b.procs) (IsCall b.callers (b.logins ++ more) (b.procs ++ others)) (λ x h. call_more b.callers b.logins more b.procs others x h) b.calls legal.sound)
+      sound = All-push (IsCall b.callers b.clock (b.logins ++ more) (b.procs ++ others)) b.calls c
+          (All-weaker (IsCall b.callers b.clock b.logins b.procs) (IsCall b.callers b.clock (b.logins ++ more) (b.procs ++ others)) (λ x h. call_more b.callers b.clock b.logins more b.procs others x h) b.calls legal.sound)
           (record {
             caller_in = near;
             logins_grow = omega arith;
@@ -112,7 +113,7 @@ posted_legal b caller batch legal near room fits few =
 
 pub asked_legal : (b : Contents) (caller : ℕ) (question : Question) → IsLegal b → caller < b.callers → length b.calls < 65536 → NamesHostBelow b.callers question → IsLegal (asked b caller question)
 asked_legal b caller question legal near room host =
-    let c : Call = Asked caller (counts_of b) question (answer_of question b.logins b.procs) in
+    let c : Call = Asked caller (counts_of b) question (answer_of b.clock question b.logins b.procs) in
     let all : take (length b.logins) b.logins ≡ b.logins = take_all (length b.logins) b.logins (omega arith) in
     let every : take (length b.procs) b.procs ≡ b.procs = take_all (length b.procs) b.procs (omega arith) in
     record {
@@ -122,11 +123,11 @@ asked_legal b caller question legal near room host =
       few_logins = legal.few_logins;
       few_procs = legal.few_procs;
       chained = chains_push nothing (counts_of b) b.calls c legal.chained refl;
-      sound = All-push (IsCall b.callers b.logins b.procs) b.calls c legal.sound (record {
+      sound = All-push (IsCall b.callers b.clock b.logins b.procs) b.calls c legal.sound (record {
         caller_in = near;
         logins_in = omega arith;
         procs_in = omega arith;
         host_in = host;
-        defined = ap (λ (l : List Entry). answer_of question l b.procs) (sym all) ∙ ap (answer_of question (take (length b.logins) b.logins)) (sym every);
+        defined = ap (λ (l : List Entry). answer_of b.clock question l b.procs) (sym all) ∙ ap (answer_of b.clock question (take (length b.logins) b.logins)) (sym every);
       });
     }

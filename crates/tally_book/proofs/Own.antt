@@ -20,7 +20,7 @@ All-mapped f P Q h (x ∷ xs) all = All-cons Q _ _ (h x (All-head P x xs all)) (
 -- a list of a book: its entries, how many of them a count has, and what a deed adds
 module _ (b : Contents) {E R : Type 0} (host : E → ℕ) (item : E → R) (entries : List E) (count : Counts → ℕ) (added : Deed → List R) where
   abbrev Sound : Call → Type 0
-  Sound = IsCall b.callers b.logins b.procs
+  Sound = IsCall b.callers b.clock b.logins b.procs
 
   abbrev done : Call → Deed
   done = deed b.logins b.procs
@@ -68,13 +68,13 @@ entries_are_posts b legal = record {
   procs = λ caller. are_posts b (λ (e : ProcEntry). e.host) (λ (e : ProcEntry). e.item) b.procs (λ n. n.procs) procs_added procs_is caller legal refl refl;
 }
   where
-    logins_is : (c : Call) → IsCall b.callers b.logins b.procs c → IsPart (λ (e : Entry). e.host) (λ (e : Entry). e.item) b.logins (part b (λ (e : Entry). e.host) (λ (e : Entry). e.item) b.logins (λ n. n.logins) logins_added c)
+    logins_is : (c : Call) → IsCall b.callers b.clock b.logins b.procs c → IsPart (λ (e : Entry). e.host) (λ (e : Entry). e.item) b.logins (part b (λ (e : Entry). e.host) (λ (e : Entry). e.item) b.logins (λ n. n.logins) logins_added c)
         × (logins_added (deed b.logins b.procs c) ≡ map (λ (e : Entry). e.item) (between (before_of c).logins (after_of c).logins b.logins))
     logins_is (Posted caller before after) h = (record { ordered = h.logins_grow; within = h.logins_in; own = h.own_logins }, refl)
     logins_is (Asked caller at question answer) h =
         (asked_part b (λ (e : Entry). e.host) (λ (e : Entry). e.item) b.logins (λ n. n.logins) logins_added caller at.logins h.logins_in, ap (map (λ (e : Entry). e.item)) (sym (nothing_between at.logins b.logins h.logins_in)))
 
-    procs_is : (c : Call) → IsCall b.callers b.logins b.procs c → IsPart (λ (e : ProcEntry). e.host) (λ (e : ProcEntry). e.item) b.procs (part b (λ (e : ProcEntry). e.host) (λ (e : ProcEntry). e.item) b.procs (λ n. n.procs) procs_added c)
+    procs_is : (c : Call) → IsCall b.callers b.clock b.logins b.procs c → IsPart (λ (e : ProcEntry). e.host) (λ (e : ProcEntry). e.item) b.procs (part b (λ (e : ProcEntry). e.host) (λ (e : ProcEntry). e.item) b.procs (λ n. n.procs) procs_added c)
         × (procs_added (deed b.logins b.procs c) ≡ map (λ (e : ProcEntry). e.item) (between (before_of c).procs (after_of c).procs b.procs))
     procs_is (Posted caller before after) h = (record { ordered = h.procs_grow; within = h.procs_in; own = h.own_procs }, refl)
     procs_is (Asked caller at question answer) h =

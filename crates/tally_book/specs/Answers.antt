@@ -5,11 +5,12 @@ use Rattle.tally_book.specs.declared.question.Question.TheVariants as questions
 use Rattle.tally_book.specs.declared.question.Answer.{Answer}
 use Rattle.tally_book.specs.declared.question.Answer.TheVariants as answers
 use Rattle.tally_book.specs.declared.question.ConnectRow.{ConnectRow}
+use Rattle.tally_clock.specs.Rows.{ClockRows}
 use Rattle.tally_sessions.specs.declared.entry.Entry.{Entry}
 use Rattle.tally_sessions.specs.declared.times.DayTime.{DayTime}
 use Rattle.tally_sessions.specs.declared.times.DayUserTime.{DayUserTime}
 use Rattle.tally_sessions.specs.declared.times.UserTime.{UserTime}
-use Rattle.tally_sessions.specs.Days.{IsDay, IsOffset}
+use Rattle.tally_sessions.specs.Days.{IsDay, IsOffset, local}
 use Rattle.tally_sessions.specs.Rows.{day_times, day_user_times, user_times}
 use Rattle.tally_sessions.specs.Totals.{first_time, latest_stays, total_of}
 use Rattle.tally_usage.specs.declared.entry.ProcEntry.{ProcEntry}
@@ -51,12 +52,12 @@ row_of_day time = record { day = Some time.day; user = None; seconds = time.seco
 abbrev pub row_of_day_user : DayUserTime → ConnectRow
 row_of_day_user time = record { day = Some time.day; user = Some time.user; seconds = time.seconds }
 
--- the rows of connect times: by day, by user, by both or none
-abbrev pub connect_rows : Bool → Bool → ℤ → List Entry → Option ℤ → List ConnectRow
-connect_rows false false offset logins until = []
-connect_rows false true offset logins until = map row_of_user (user_times logins until)
-connect_rows true false offset logins until = map row_of_day (day_times offset logins until)
-connect_rows true true offset logins until = map row_of_day_user (day_user_times offset logins until)
+-- the rows of connect times: by day of a clock, by user, by both or none
+abbrev pub connect_rows : Bool → Bool → (ℤ → ℤ) → List Entry → Option ℤ → List ConnectRow
+connect_rows false false clock logins until = []
+connect_rows false true clock logins until = map row_of_user (user_times logins until)
+connect_rows true false clock logins until = map row_of_day (day_times clock logins until)
+connect_rows true true clock logins until = map row_of_day_user (day_user_times clock logins until)
 
 -- a row's day is one that a time can have
 abbrev pub HasDay : ConnectRow → Type 0
@@ -69,13 +70,13 @@ HasDays (answers.Connect rows total) = All HasDay rows
 HasDays (answers.Commands rows total) = Unit {0}
 HasDays (answers.Users rows total) = Unit {0}
 
--- the answer over the stored entries
-unfoldable pub answer_of : Question → List Entry → List ProcEntry → Answer
-answer_of (questions.Last host limit until) logins procs =
+-- the answer over the stored entries, with days by a clock
+unfoldable pub answer_of : ClockRows → Question → List Entry → List ProcEntry → Answer
+answer_of clock (questions.Last host limit until) logins procs =
     answers.Last (latest_stays host limit logins until) (first_time host logins)
-answer_of (questions.Connect by_day by_user offset until) logins procs =
-    answers.Connect (connect_rows by_day by_user offset logins until) (total_of logins until)
-answer_of (questions.Commands order reverse all) logins procs =
+answer_of clock (questions.Connect by_day by_user offset until) logins procs =
+    answers.Connect (connect_rows by_day by_user (local clock offset) logins until) (total_of logins until)
+answer_of clock (questions.Commands order reverse all) logins procs =
     answers.Commands (command_rows order all reverse (records_of procs)) (usage_of (records_of procs))
-answer_of (questions.Users order reverse) logins procs =
+answer_of clock (questions.Users order reverse) logins procs =
     answers.Users (user_rows order reverse (records_of procs)) (usage_of (records_of procs))

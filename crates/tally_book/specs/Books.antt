@@ -9,6 +9,7 @@ use Rattle.tally_book.specs.declared.history.Served.{Served}
 use Rattle.tally_book.specs.declared.question.Question.{Question}
 use Rattle.tally_book.specs.declared.question.Answer.{Answer}
 use Rattle.tally_book.specs.declared.book.TheConstants.{CALL_LIMIT}
+use Rattle.tally_clock.specs.Rows.{ClockRows}
 use Rattle.tally_records.specs.declared.batch.TheConstants.{BATCH_LIMIT}
 use Rattle.tally_records.specs.Records.{Records, logins_in, procs_in}
 use Rattle.tally_sessions.specs.declared.sessions.TheConstants as sessions
@@ -53,17 +54,17 @@ pub record IsPost (callers : ℕ) (logins : List Entry) (procs : List ProcEntry)
   pub own_procs : All (λ (e : ProcEntry). e.host ≡ caller) (between before.procs after.procs procs)
 
 -- a report is the defined answer over what was stored before it
-pub record IsReport (callers : ℕ) (logins : List Entry) (procs : List ProcEntry) (caller : ℕ) (at : Counts) (question : Question) (answer : Answer) : Type 0 where
+pub record IsReport (callers : ℕ) (clock : ClockRows) (logins : List Entry) (procs : List ProcEntry) (caller : ℕ) (at : Counts) (question : Question) (answer : Answer) : Type 0 where
   pub caller_in : caller < callers
   pub logins_in : at.logins ≤ length logins
   pub procs_in : at.procs ≤ length procs
   pub host_in : NamesHostBelow callers question
-  pub defined : answer ≡ answer_of question (take at.logins logins) (take at.procs procs)
+  pub defined : answer ≡ answer_of clock question (take at.logins logins) (take at.procs procs)
 
 -- a call did what its kind does
-abbrev pub IsCall : ℕ → List Entry → List ProcEntry → Call → Type 0
-IsCall callers logins procs (Posted caller before after) = IsPost callers logins procs caller before after
-IsCall callers logins procs (Asked caller at question answer) = IsReport callers logins procs caller at question answer
+abbrev pub IsCall : ℕ → ClockRows → List Entry → List ProcEntry → Call → Type 0
+IsCall callers clock logins procs (Posted caller before after) = IsPost callers logins procs caller before after
+IsCall callers clock logins procs (Asked caller at question answer) = IsReport callers clock logins procs caller at question answer
 
 -- each call begins at the counts where the one before it ended
 abbrev pub Chains : Counts → List Call → Counts → Type 0
@@ -86,11 +87,11 @@ pub record IsLegal (b : Contents) : Type 0 where
   pub few_logins : length b.logins ≤ sessions.ENTRY_LIMIT
   pub few_procs : length b.procs ≤ usage.ENTRY_LIMIT
   pub chained : Chains nothing b.calls (counts_of b)
-  pub sound : All (IsCall b.callers b.logins b.procs) b.calls
+  pub sound : All (IsCall b.callers b.clock b.logins b.procs) b.calls
 
--- a book of so many callers without calls
-abbrev pub empty : ℕ → Contents
-empty callers = record { callers = callers; logins = []; procs = []; calls = [] }
+-- a book of so many callers without calls, with days by a clock
+abbrev pub empty : ClockRows → ℕ → Contents
+empty clock callers = record { callers = callers; clock = clock; logins = []; procs = []; calls = [] }
 
 -- how much is stored once a batch was added
 abbrev pub counts_with : Contents → Records → Counts
@@ -103,6 +104,7 @@ counts_with b batch = record {
 abbrev pub posted : Contents → ℕ → Records → Contents
 posted b caller batch = record {
   callers = b.callers;
+  clock = b.clock;
   logins = b.logins ++ posted_by caller (logins_in batch);
   procs = b.procs ++ entries_of caller (procs_in batch);
   calls = b.calls ++ Posted caller (counts_of b) (counts_with b batch) ∷ [];
@@ -112,9 +114,10 @@ posted b caller batch = record {
 abbrev pub asked : Contents → ℕ → Question → Contents
 asked b caller question = record {
   callers = b.callers;
+  clock = b.clock;
   logins = b.logins;
   procs = b.procs;
-  calls = b.calls ++ Asked caller (counts_of b) question (answer_of question b.logins b.procs) ∷ [];
+  calls = b.calls ++ Asked caller (counts_of b) question (answer_of b.clock question b.logins b.procs) ∷ [];
 }
 
 -- the calls of one caller, in order
@@ -131,4 +134,4 @@ pub record IsReceipt (old new : Contents) (receipt : Receipt) : Type 0 where
 pub record IsServed (old new : Contents) (question : Question) (served : Served) : Type 0 where
   pub call : served.call ≡ length new.calls
   pub at : served.at ≡ counts_of old
-  pub answer : served.answer ≡ answer_of question old.logins old.procs
+  pub answer : served.answer ≡ answer_of old.clock question old.logins old.procs

@@ -7,6 +7,7 @@ use crate::connect::connect_rows;
 use crate::fault::AskFault;
 use crate::question::{Answer, Question};
 use std::alloc::Global;
+use tally_clock::Clock;
 use tally_sessions::Sessions;
 use tally_usage::Summary;
 
@@ -21,10 +22,11 @@ pub(crate) fn check_host(hosts: u32, question: &Question) -> Result<(), AskFault
     }
 }
 
-/// The answer to a question.
+/// The answer to a question, with days by a clock.
 #[tactic(auto, unfolding(crate::specs::Answers::answer_of))]
 pub(crate) fn answer(
     alloc: Global,
+    clock: &Clock,
     sessions: &Sessions,
     hosts: u32,
     summary: &Summary,
@@ -33,7 +35,7 @@ pub(crate) fn answer(
     requires hosts { hosts ≡ sessions.now.hosts }
     requires host { NamesHostBelow hosts question.now }
     requires askable { IsAskable question.now }
-    ensures value { IfOk result (λ a. a ≡ answer_of question.now sessions.now.entries summary.now.entries) }
+    ensures value { IfOk result (λ a. a ≡ answer_of clock.now question.now sessions.now.entries summary.now.entries) }
     ensures days { IfOk result HasDays }
     ensures cause { IfErr result (λ f. f ≡ AskFault.Memory) }
 {
@@ -48,7 +50,7 @@ pub(crate) fn answer(
             offset,
             until,
         } => Ok(Answer::Connect {
-            rows: connect_rows(alloc, sessions, by_day, by_user, offset, until)?,
+            rows: connect_rows(alloc, clock, sessions, by_day, by_user, offset, until)?,
             total: sessions.total(until),
         }),
         Question::Commands {

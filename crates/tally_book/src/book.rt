@@ -2,6 +2,7 @@ ghost use Rattle.std.specs.Prelude.{◌≡◌, ◌≢◌, ◌+◌, ◌++◌, ◌
 ghost use Rattle.tally_book.specs.Answers.{answer_of, HasDays, IsAskable};
 ghost use Rattle.tally_book.specs.Books.{IsLegal, IsReceipt, IsServed, counts_of, empty, posted, asked};
 ghost use Rattle.tally_book.specs.Refusals.{HasRoom, IsPostRefusal, IsAskRefusal};
+ghost use Rattle.tally_clock.specs.Rows.{utc};
 ghost use Rattle.tally_sessions.specs.Hosts.{posted_by};
 ghost use Rattle.tally_sessions.specs.Lent.{entries_in as lent_logins};
 ghost use Rattle.tally_usage.specs.Entries.{entries_in};
@@ -17,6 +18,7 @@ use std::alloc::Global;
 use std::hash::RandomState;
 use std::marker::Model;
 use std::thread::Threads;
+use tally_clock::Clock;
 use tally_records::{BATCH_LIMIT, Batch, Kind, Memory};
 use tally_sessions::{ENTRY_LIMIT as LOGIN_LIMIT, Entries, EntryList, HOST_LIMIT};
 use tally_usage::{ENTRY_LIMIT as PROC_LIMIT, ProcEntries, ProcList, Summary};
@@ -29,6 +31,7 @@ pub const CALL_LIMIT: usize = 65_536;
 #[derive(Drop)]
 pub struct Book {
     callers: u32,
+    clock: Clock,
     logins: LoginStore,
     summary: Summary,
     calls: Vec<Call>,
@@ -123,15 +126,31 @@ fn record(calls: &mut Vec<Call>, call: Call) -> u64
 }
 
 impl Book {
-    /// An empty book of so many callers. Its tables are hashed by the keys.
+    /// An empty book of so many callers, with the days of UTC. Its tables are hashed by the keys.
     pub fn new(alloc: Global, keys: RandomState, callers: u32) -> Result<Book, Memory>
         requires some { 1 ≤ callers }
         requires few { callers ≤ HOST_LIMIT }
-        ensures empty { IfOk result (λ b. b ≡ empty callers) }
+        ensures empty { IfOk result (λ b. b ≡ empty utc callers) }
+        ensures legal { IfOk result IsLegal }
+    {
+        Book::on(alloc, keys, Clock::utc(alloc), callers)
+    }
+
+    /// The same with the days of a clock.
+    pub fn on(
+        alloc: Global,
+        keys: RandomState,
+        clock: Clock,
+        callers: u32,
+    ) -> Result<Book, Memory>
+        requires some { 1 ≤ callers }
+        requires few { callers ≤ HOST_LIMIT }
+        ensures empty { IfOk result (λ b. b ≡ empty clock callers) }
         ensures legal { IfOk result IsLegal }
     {
         Ok(Book {
             callers,
+            clock,
             logins: LoginStore::new(alloc, keys, callers),
             summary: Summary::new(alloc, keys),
             calls: Vec::new(alloc),
@@ -143,6 +162,13 @@ impl Book {
         ensures { result ≡ self.now.callers }
     {
         self.callers
+    }
+
+    /// The clock of its days.
+    pub fn clock(&self) -> &Clock
+        ensures { result.now ≡ self.now.clock }
+    {
+        &self.clock
     }
 
     /// The stored login entries, in stored order.
@@ -174,6 +200,7 @@ impl Book {
     {
         let Book {
             callers: _,
+            clock: _,
             logins,
             summary,
             calls,
@@ -249,7 +276,7 @@ impl Book {
             unreachable!()
         };
         let at = counts(&self.logins, &self.summary);
-        let answer = answer(alloc, sessions, self.callers, &self.summary, question)?;
+        let answer = answer(alloc, &self.clock, sessions, self.callers, &self.summary, question)?;
         let kept = answer.try_copy(alloc)?;
         let asked = Call::Asked {
             caller,

@@ -1,10 +1,11 @@
 //! The rows of connect times.
 ghost use Rattle.std.specs.Prelude.{◌≡◌, All, IfOk, map};
 ghost use Rattle.tally_book.specs.Answers.{HasDay, connect_rows, row_of_day, row_of_day_user, row_of_user};
-ghost use Rattle.tally_sessions.specs.Days.{IsDay, IsOffset};
+ghost use Rattle.tally_sessions.specs.Days.{IsDay, IsOffset, local};
 
 use crate::question::ConnectRow;
 use std::alloc::{AllocError, Global};
+use tally_clock::Clock;
 use tally_records::{List, Memory};
 use tally_sessions::{DayTime, DayUserTime, Sessions, UserTime};
 
@@ -47,9 +48,10 @@ fn day_user_rows(alloc: Global, times: &[DayUserTime]) -> Result<Vec<ConnectRow>
         .collect(alloc)
 }
 
-/// The rows of connect times by day, by user, by both or none.
+/// The rows of connect times by day, by user, by both or none, with days by a clock and an offset in minutes east of it.
 pub(crate) fn connect_rows(
     alloc: Global,
+    clock: &Clock,
     sessions: &Sessions,
     by_day: bool,
     by_user: bool,
@@ -57,7 +59,7 @@ pub(crate) fn connect_rows(
     until: Option<i32>,
 ) -> Result<List<ConnectRow>, Memory>
     requires { IsOffset offset }
-    ensures value { IfOk result (λ rows. rows ≡ connect_rows by_day by_user offset sessions.now.entries until) }
+    ensures value { IfOk result (λ rows. rows ≡ connect_rows by_day by_user (local clock.now offset) sessions.now.entries until) }
     ensures days { IfOk result (All HasDay) }
 {
     match (by_day, by_user) {
@@ -67,11 +69,11 @@ pub(crate) fn connect_rows(
             List::from_vec(alloc, user_rows(alloc, times.as_slice())?)
         }
         (true, false) => {
-            let times = sessions.connect_by_day(alloc, offset, until)?;
+            let times = sessions.connect_by_day(alloc, clock, offset, until)?;
             List::from_vec(alloc, day_rows(alloc, times.as_slice())?)
         }
         (true, true) => {
-            let times = sessions.connect_by_day_user(alloc, offset, until)?;
+            let times = sessions.connect_by_day_user(alloc, clock, offset, until)?;
             List::from_vec(alloc, day_user_rows(alloc, times.as_slice())?)
         }
     }

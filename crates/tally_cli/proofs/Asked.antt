@@ -5,6 +5,7 @@ use Rattle.std.proofs.lemmas.List.Elements.{All-append, All-cons, All-filter, Al
 use Rattle.std.proofs.lemmas.List.FromFn.{get_or-enumerate_from, length-enumerate_from}
 use Rattle.std.proofs.lemmas.List.Sums.{count_by-le-length, length-filter}
 use Rattle.std.specs.List.{All, enumerate_from}
+use Rattle.tally_clock.specs.Rows.{ClockRows}
 use Rattle.tally_book.specs.declared.question.Answer.{Answer}
 use Rattle.tally_book.specs.declared.question.Question.{Question}
 use Rattle.tally_book.specs.declared.question.Question.TheVariants as questions
@@ -12,6 +13,7 @@ use Rattle.tally_book.specs.Answers.{answer_of}
 use Rattle.tally_records.specs.declared.batch.Kind.{Kind}
 use Rattle.tally_records.specs.declared.batch.Kind.TheVariants.{Login}
 use Rattle.tally_sessions.specs.declared.entry.Entry.{Entry}
+use Rattle.tally_sessions.specs.Days.{local}
 use Rattle.tally_usage.specs.declared.entry.ProcEntry.{ProcEntry}
 use Rattle.tally_usage.specs.declared.order.Order.TheVariants as order
 use Rattle.tally_line.specs.declared.job.Job.{Job}
@@ -59,8 +61,9 @@ question_count report.All offset until kinds =
     omega (arith, stays_count (Some Login) (λ n. questions.Last n None until) kinds, length-append (stays_asked (Some Login) None kinds until) (questions.Connect false false offset until ∷ questions.Commands order.Cpu false false ∷ []))
 
 -- the text of the answers is that of the report
-pub report_is : (job : Job) (kinds : List Kind) (asked : List Question) (answers : List Answer) (logins : List Entry) (procs : List ProcEntry)
-    → asked ≡ questions_of job.report job.offset kinds job.until → answers ≡ map (λ q. answer_of q logins procs) asked
-    → form_text job.form job.report job.offset job.until answers ≡ report_text job kinds logins procs
-report_is job kinds asked answers logins procs e f =
-    ap (form_text job.form job.report job.offset job.until) (f ∙ ap (map (λ q. answer_of q logins procs)) e)
+pub report_is : (clock held : ClockRows) (job : Job) (kinds : List Kind) (asked : List Question) (answers : List Answer) (logins : List Entry) (procs : List ProcEntry)
+    → held ≡ clock → asked ≡ questions_of job.report job.offset kinds job.until → answers ≡ map (λ q. answer_of held q logins procs) asked
+    → form_text job.form job.report (local clock job.offset) job.until answers ≡ report_text clock job kinds logins procs
+report_is clock held job kinds asked answers logins procs same e f =
+    ap (form_text job.form job.report (local clock job.offset) job.until)
+    (f ∙ ap (map (λ q. answer_of held q logins procs)) e ∙ (λ i. map (λ q. answer_of (same i) q logins procs) (questions_of job.report job.offset kinds job.until)))

@@ -7,6 +7,7 @@ use Rattle.std.proofs.Math.ListN.{get_or-map}
 use Rattle.std.proofs.lemmas.List.Elements.{All-contains, All-from_get_or, All-head, All-tail, All-weaker}
 use Rattle.std.specs.Prelude.{slice_get}
 use Rattle.std.specs.List.{All, Contains, flat_map}
+use Rattle.tally_clock.specs.Rows.{ClockRows}
 use Rattle.tally_book.specs.declared.history.Call.{Call}
 use Rattle.tally_book.specs.declared.history.Call.TheVariants.{Posted, Asked}
 use Rattle.tally_book.specs.Contents.{Contents}
@@ -14,7 +15,7 @@ use Rattle.tally_book.specs.Books.{IsCall, IsLegal, calls_of, caller_of}
 use Rattle.tally_book.specs.Deeds.{EntriesArePosts, SameOfEachHost, deed, deeds_of, logins_added, procs_added, procs_of_host}
 use Rattle.tally_desk.specs.Blocks.{feed_fault}
 use Rattle.tally_desk.specs.Batches.{records_in}
-use Rattle.tally_desk.specs.Passes.{HasDone, PassState, deeds, first_pass, first_passes}
+use Rattle.tally_desk.specs.Passes.{HasDone, PassState, Stands, deeds, first_pass, first_passes}
 use Rattle.tally_records.specs.Records.{Records, logins_in, procs_in}
 use Rattle.tally_records.specs.declared.batch.Kind.TheVariants.{Login}
 use Rattle.tally_sessions.specs.declared.entry.Entry.{Entry}
@@ -35,17 +36,17 @@ use Rattle.tally_cli.proofs.Limits.{few_calls}
 use Rattle.tally_cli.proofs.Posted.{Added, AddedNothing, FilePosted, logins_of_file, no_logins_past, no_procs_past, posted_file, procs_of_file}
 use Rattle.tally_cli.proofs.FirstPasses.{are_first}
 
-caller_in : (callers : ℕ) (logins : List Entry) (procs : List ProcEntry) (c : Call) → IsCall callers logins procs c → caller_of c < callers
-caller_in callers logins procs (Posted caller before after) h = h.caller_in
-caller_in callers logins procs (Asked caller at question answer) h = h.caller_in
+caller_in : (callers : ℕ) (clock : ClockRows) (logins : List Entry) (procs : List ProcEntry) (c : Call) → IsCall callers clock logins procs c → caller_of c < callers
+caller_in callers clock logins procs (Posted caller before after) h = h.caller_in
+caller_in callers clock logins procs (Asked caller at question answer) h = h.caller_in
 
 -- a number that is no caller's made no call
-pub no_calls : (callers host : ℕ) (logins : List Entry) (procs : List ProcEntry) (cs : List Call) → callers ≤ host → All (IsCall callers logins procs) cs → calls_of host cs ≡ []
-no_calls callers host logins procs [] h s = refl
-no_calls callers host logins procs (c ∷ cs) h s =
-    let near : caller_of c < callers = caller_in callers logins procs c (All-head (IsCall callers logins procs) c cs s) in
+pub no_calls : (callers host : ℕ) (clock : ClockRows) (logins : List Entry) (procs : List ProcEntry) (cs : List Call) → callers ≤ host → All (IsCall callers clock logins procs) cs → calls_of host cs ≡ []
+no_calls callers host clock logins procs [] h s = refl
+no_calls callers host clock logins procs (c ∷ cs) h s =
+    let near : caller_of c < callers = caller_in callers clock logins procs c (All-head (IsCall callers clock logins procs) c cs s) in
     let apart : caller_of c ≢ host = λ e. omega (arith, near, e, h) in
-    ap (λ b. cond b (c ∷ calls_of host cs) (calls_of host cs)) (ne_eqb (caller_of c) host apart) ∙ no_calls callers host logins procs cs h (All-tail (IsCall callers logins procs) c cs s)
+    ap (λ b. cond b (c ∷ calls_of host cs) (calls_of host cs)) (ne_eqb (caller_of c) host apart) ∙ no_calls callers host clock logins procs cs h (All-tail (IsCall callers clock logins procs) c cs s)
 
 pub source_or_none : {I : Type 0} (xs : List I) (k : ℕ) → ((s : I) × (slice_get xs k ≡ Some s)) ⊎ ((slice_get xs k ≡ None) × (length xs ≤ k))
 source_or_none [] k = inr (refl, omega arith)
@@ -66,15 +67,15 @@ pub record Ended {I : Type 0} (to_come : I → Option (List ℕ)) (can_fail : I 
   pub worked : AreWorkedThrough to_come can_fail asking sources passes b failure
 
 -- where the passes are those of a new desk
-pub ended_of : {I : Type 0} {to_come : I → Option (List ℕ)} {can_fail : I → Bool} {asking : Asking} {sources : List (Source I)} {b : Contents} {failure : Option Failure} (id : _) (callers : ℕ) (passes : List PassState) → passes ≡ first_passes id callers → b.callers ≡ callers → length sources ≤ callers
-    → IsLegal b → EntriesArePosts b → AreWorkedThrough to_come can_fail asking sources passes b failure → Ended to_come can_fail asking sources passes (first_pass id 0 0) b failure
-ended_of id callers passes new same enough legal posts worked =
-    let first = are_first (first_pass id callers) callers passes new in
+pub ended_of : {I : Type 0} {to_come : I → Option (List ℕ)} {can_fail : I → Bool} {asking : Asking} {sources : List (Source I)} {b : Contents} {failure : Option Failure} (id : _) (clock : ClockRows) (callers : ℕ) (passes : List PassState) → passes ≡ first_passes id clock callers → b.callers ≡ callers → length sources ≤ callers
+    → IsLegal b → EntriesArePosts b → AreWorkedThrough to_come can_fail asking sources passes b failure → Ended to_come can_fail asking sources passes (first_pass id clock 0 0) b failure
+ended_of id clock callers passes new same enough legal posts worked =
+    let first = are_first (first_pass id clock callers) callers passes new in
     record {
       legal = legal;
       all = first.count ∙ sym same;
       enough = omega (arith, first.count, enough);
-      first = λ k l. let is = first.each k (first_pass id 0 0) l in (ap (λ (p : PassState). p.number) is, ap deeds is);
+      first = λ k l. let is = first.each k (first_pass id clock 0 0) l in (ap (λ (p : PassState). p.number) is, ap deeds is);
       posts = posts;
       worked = worked;
     }
@@ -97,6 +98,14 @@ module _ {I : Type 0} {to_come : I → Option (List ℕ)} {can_fail : I → Bool
       let mine : u.pass.number ≡ host = r.2.keeps.number ∙ (ended.first host near).0 in
       let has : deeds_of u.pass.number b ≡ deeds u.pass = All-contains (λ (t : Task I). HasDone b t.pass) ended.worked.tasks u ended.worked.did r.1 in
       record { task = u; held = r.1; number = mine; outcome_is = r.2.outcome_is; done = ap (λ n. deeds_of n b) (sym mine) ∙ has }
+
+  -- the book's clock is that of the first pass
+  pub same_clock : 0 < b.callers → b.clock ≡ (get_or passes 0 d).seen.clock
+  same_clock l =
+      let near : 0 < length passes = omega (arith, ended.all, l) in
+      let r = ended.worked.carried.each 0 d near in
+      let stands = All-contains (λ (t : Task I). Stands b t.pass) ended.worked.tasks r.0 ended.worked.stand r.1 in
+      stands.seen.clock ∙ r.2.keeps.seen.clock
 
   -- what a caller before the failure did is its file
   pub host_posted : (host : ℕ) → host < b.callers → IsBefore host failure → (q : PassState) × FilePosted to_come (slice_get sources host) q × (deeds_of host b ≡ deeds q)
@@ -161,7 +170,7 @@ module _ {I : Type 0} {to_come : I → Option (List ℕ)} {can_fail : I → Bool
       ))
       (source_or_none sources host))
       (λ (l : b.callers ≤ host).
-      let idle : deeds_of host b ≡ [] = ap (map (deed b.logins b.procs)) (no_calls b.callers host b.logins b.procs b.calls l ended.legal.sound) in
+      let idle : deeds_of host b ≡ [] = ap (map (deed b.logins b.procs)) (no_calls b.callers host b.clock b.logins b.procs b.calls l ended.legal.sound) in
       let past : length files ≤ host = omega (arith, count, ended.enough, ended.all, l) in (
         ended.posts.logins host ∙ ap (flat_map logins_added) idle ∙ sym (no_logins_past files host past),
         ended.posts.procs host ∙ ap (flat_map procs_added) idle ∙ sym (no_procs_past files host past),
@@ -178,7 +187,7 @@ module _ {I : Type 0} {to_come : I → Option (List ℕ)} {can_fail : I → Bool
   -- the calls are few
   pub few : length b.calls ≤ 4224
   few = few_calls b ended.legal ended.posts
-      (All-weaker (IsCall b.callers b.logins b.procs) (λ c. caller_of c < b.callers) (λ c h. caller_in b.callers b.logins b.procs c h) b.calls ended.legal.sound)
+      (All-weaker (IsCall b.callers b.clock b.logins b.procs) (λ c. caller_of c < b.callers) (λ c h. caller_in b.callers b.clock b.logins b.procs c h) b.calls ended.legal.sound)
       (λ host l.
       let m = did host l in
       let near : host < length passes = omega (arith, ended.all, l) in

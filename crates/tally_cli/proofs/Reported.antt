@@ -2,6 +2,7 @@
 use Rattle.std.proofs.Common.{◌≡◌, ℕ, zero, suc, ◌+◌, Bool, true, IsTrue, List, [], ◌∷◌, ◌++◌, Option, Result, Ok, Err, inl, inr, length, map, refl, sym, subst, ap, ◌∙◌, append-nil, add-zero, arith}
 use Rattle.std.specs.Prelude.{IfErr, OnOk, slice_index_or}
 use Rattle.std.specs.List.{All}
+use Rattle.tally_clock.specs.Rows.{ClockRows}
 use Rattle.tally_book.specs.Contents.{Contents}
 use Rattle.tally_book.specs.Answers.{answer_of}
 use Rattle.tally_book.specs.Deeds.{SameOfEachHost}
@@ -12,6 +13,7 @@ use Rattle.tally_print.specs.declared.output.PrintFault.{PrintFault}
 use Rattle.tally_print.specs.declared.output.PrintFault.TheVariants as print
 use Rattle.tally_records.specs.declared.batch.Kind.{Kind}
 use Rattle.tally_sessions.specs.declared.entry.Entry.{Entry}
+use Rattle.tally_sessions.specs.Days.{local}
 use Rattle.tally_usage.specs.declared.entry.ProcEntry.{ProcEntry}
 use Rattle.tally_line.specs.declared.job.Job.{Job}
 use Rattle.tally_cli.specs.declared.running.source.Source.{Source}
@@ -29,15 +31,15 @@ kinds_told to_come (s ∷ ss) [] h = absurd (omega (arith, h.0))
 kinds_told to_come (s ∷ ss) (i ∷ is) h = λ j. (h.1 zero s i (omega arith)).kind j ∷ kinds_told to_come ss is (omega (arith, h.0), λ k x y l. h.1 (suc k) x y (omega (arith, l))) j
 
 -- the report of a book over the files' records is the output of what the sources tell
-pub output_is : {I : Type 0} (to_come : I → Option (List ℕ)) (job : Job) (sources : List (Source I)) (inputs : List Told) (b : Contents) {kinds shown : List Kind} {lent : List (Source I)}
+pub output_is : {I : Type 0} (to_come : I → Option (List ℕ)) (clock : ClockRows) (job : Job) (sources : List (Source I)) (inputs : List Told) (b : Contents) {kinds shown : List Kind} {lent : List (Source I)}
     → shown ≡ kinds → kinds ≡ map (λ (s : Source I). s.kind) lent → lent ≡ sources
-    → ((logins others : List Entry) (procs rest : List ProcEntry) → SameOfEachHost logins others procs rest → (q : Question) → answer_of q logins procs ≡ answer_of q others rest)
+    → ((logins others : List Entry) (procs rest : List ProcEntry) → SameOfEachHost logins others procs rest → (clock : ClockRows) (q : Question) → answer_of clock q logins procs ≡ answer_of clock q others rest)
     → Tell to_come sources inputs → AreRead inputs b
-    → report_text job shown b.logins b.procs ≡ output_told job inputs
-output_is {I} to_come job sources inputs b {shown = shown} e f h order tell read =
-    let same = order b.logins (login_entries (map records_told inputs)) b.procs (proc_entries (map records_told inputs)) read.same in
-    (λ j. form_text job.form job.report job.offset job.until (map (λ q. same q j) (questions_of job.report job.offset shown job.until)))
-    ∙ ap (λ ks. report_text job ks (login_entries (map records_told inputs)) (proc_entries (map records_told inputs)))
+    → report_text clock job shown b.logins b.procs ≡ output_told clock job inputs
+output_is {I} to_come clock job sources inputs b {shown = shown} e f h order tell read =
+    let same = order b.logins (login_entries (map records_told inputs)) b.procs (proc_entries (map records_told inputs)) read.same clock in
+    (λ j. form_text job.form job.report (local clock job.offset) job.until (map (λ q. same q j) (questions_of job.report job.offset shown job.until)))
+    ∙ ap (λ ks. report_text clock job ks (login_entries (map records_told inputs)) (proc_entries (map records_told inputs)))
     (e ∙ f ∙ ap (map (λ (s : Source I). s.kind)) h ∙ kinds_told to_come sources inputs tell)
 
 no_front : (front rest : List ℕ) → [] ≡ front ++ rest → front ≡ []
@@ -115,11 +117,11 @@ unwritten now (Asker caller fault) = λ told. refl
 unwritten now Write = tt
 
 -- a run that failed before it wrote
-pub failed_unwritten : {I : Type 0} {to_come : I → Option (List ℕ)} {can_fail : I → Bool} {job : Job} {sources : List (Source I)} {now : OutputNow} {fault : RunFault}
+pub failed_unwritten : {I : Type 0} {to_come : I → Option (List ℕ)} {can_fail : I → Bool} {clock : ClockRows} {job : Job} {sources : List (Source I)} {now : OutputNow} {fault : RunFault}
     → IsAllowed (length sources + job.askers) fault → IsNamed (length sources) (length sources + job.askers) fault → IsFullList sources fault
     → ((host : ℕ) → fault ≡ File host feed.Read → (s : Source I) → can_fail (slice_index_or sources host s).input ≡ true)
-    → ((inputs : List Told) → Tell to_come sources inputs → IsReadCause inputs fault) → IsFailedRun to_come can_fail job sources now now fault
-failed_unwritten {job = job} {now = now} {fault = fault} allowed named full read cause = record {
+    → ((inputs : List Told) → Tell to_come sources inputs → IsReadCause inputs fault) → IsFailedRun to_come can_fail clock job sources now now fault
+failed_unwritten {clock = clock} {job = job} {now = now} {fault = fault} allowed named full read cause = record {
   allowed = allowed;
   named = named;
   full = full;
@@ -127,14 +129,14 @@ failed_unwritten {job = job} {now = now} {fault = fault} allowed named full read
   unwritten = unwritten now fault;
   told = λ inputs tell. record {
     cause = read_cause inputs now fault (cause inputs tell);
-    prefix = λ told. record { front = []; rest = output_told job inputs; appended = sym (append-nil now.written); whole = refl };
+    prefix = λ told. record { front = []; rest = output_told clock job inputs; appended = sym (append-nil now.written); whole = refl };
   };
 }
 
 -- a run that failed in printing, of files that are good
-pub failed_printing : {I : Type 0} {to_come : I → Option (List ℕ)} {can_fail : I → Bool} {job : Job} {sources : List (Source I)} {old new : OutputNow} (fault : RunFault)
-    → IsPrintFault fault → ((inputs : List Told) → Tell to_come sources inputs → All IsGood inputs × (IsTrue old.tells → AppendsPrefix old.written new.written (output_told job inputs)))
-    → IsFailedRun to_come can_fail job sources old new fault
+pub failed_printing : {I : Type 0} {to_come : I → Option (List ℕ)} {can_fail : I → Bool} {clock : ClockRows} {job : Job} {sources : List (Source I)} {old new : OutputNow} (fault : RunFault)
+    → IsPrintFault fault → ((inputs : List Told) → Tell to_come sources inputs → All IsGood inputs × (IsTrue old.tells → AppendsPrefix old.written new.written (output_told clock job inputs)))
+    → IsFailedRun to_come can_fail clock job sources old new fault
 failed_printing Memory printing told = record {
   allowed = tt;
   named = tt;

@@ -3,6 +3,7 @@ use Rattle.std.proofs.Common.{◌≡◌, ℕ, zero, suc, ◌+◌, ◌<◌, Bool,
 use Rattle.std.proofs.lemmas.List.{append-nil, map-append, take_more}
 use Rattle.std.proofs.lemmas.List.Elements.{filter-append}
 use Rattle.std.specs.List.{enumerate_from}
+use Rattle.tally_clock.specs.Rows.{ClockRows}
 use Rattle.tally_book.specs.declared.question.Question.{Question}
 use Rattle.tally_book.specs.Answers.{answer_of}
 use Rattle.tally_sessions.specs.declared.entry.Entry.{Entry}
@@ -54,5 +55,5 @@ stays_same wanted ask kinds i d h e =
 pub map_next : {X Y : Type 0} (f : X → Y) (xs : List X) (i : ℕ) (x : X) → i < length xs → map f (take (i + 1) xs) ≡ map f (take i xs) ++ f (get_or xs i x) ∷ []
 map_next f xs i x h = ap (map f) (take_more xs i x h) ∙ map-append f (take i xs) (get_or xs i x ∷ [])
 
-pub answer_same : (q : Question) (logins others : List Entry) (procs rest : List ProcEntry) → logins ≡ others → procs ≡ rest → answer_of q logins procs ≡ answer_of q others rest
-answer_same q logins others procs rest e f = λ j. answer_of q (e j) (f j)
+pub answer_same : (clock other : ClockRows) (q : Question) (logins others : List Entry) (procs rest : List ProcEntry) → clock ≡ other → logins ≡ others → procs ≡ rest → answer_of clock q logins procs ≡ answer_of other q others rest
+answer_same clock other q logins others procs rest same e f = λ j. answer_of (same j) q (e j) (f j)

@@ -49,7 +49,7 @@ module _ {I : Type 0} {to_come : I → Option (List ℕ)} {can_fail : I → Bool
       (λ (never : (slice_get sources h ≡ None) × (length sources ≤ h)).
       omega (arith, mine, asker_much added size posted asked to_come can_fail asking (get_or passes h d) m.task.pass m.task.outcome start (subst (λ o. IsOutcome to_come can_fail (work_of asking o) (get_or passes h d) m.task.pass m.task.outcome) never.0 m.outcome_is)))
       (source_or_none sources h) in
-      let none_past : (h : ℕ) → b.callers ≤ h → used h ≡ 0 = λ h l. used_is h ∙ ap (λ cs. length (flat_map added (map (deed b.logins b.procs) cs))) (no_calls b.callers h b.logins b.procs b.calls l ended.legal.sound) in
+      let none_past : (h : ℕ) → b.callers ≤ h → used h ≡ 0 = λ h l. used_is h ∙ ap (λ cs. length (flat_map added (map (deed b.logins b.procs) cs))) (no_calls b.callers h b.clock b.logins b.procs b.calls l ended.legal.sound) in
       omega (
         arith,
         shares owner es b.callers (all_below owner es b.callers none_past),

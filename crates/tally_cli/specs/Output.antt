@@ -1,6 +1,7 @@
 -- The output of a job, as a function of the job and the files alone.
 use Rattle.std.specs.Prelude.{◌++◌, ◌∷◌, [], ℕ, ℤ, Bool, List, Option, Some, None, false, true, map, filter}
 use Rattle.std.specs.List.{enumerate_from, flat_map}
+use Rattle.tally_clock.specs.Rows.{ClockRows}
 use Rattle.tally_book.specs.declared.question.Question.{Question}
 use Rattle.tally_book.specs.declared.question.Question.TheVariants as questions
 use Rattle.tally_book.specs.Answers.{answer_of}
@@ -12,6 +13,7 @@ use Rattle.tally_print.specs.declared.report_table.Table.TheVariants as tables
 use Rattle.tally_records.specs.Records.{Records, logins_in, procs_in}
 use Rattle.tally_records.specs.declared.batch.Kind.{Kind}
 use Rattle.tally_records.specs.declared.batch.Kind.TheVariants.{Login, Proc}
+use Rattle.tally_sessions.specs.Days.{local}
 use Rattle.tally_sessions.specs.Hosts.{posted_by}
 use Rattle.tally_sessions.specs.declared.entry.Entry.{Entry}
 use Rattle.tally_usage.specs.Summary.{entries_of}
@@ -59,26 +61,26 @@ table_of (Commands by reverse all) = Some tables.Commands
 table_of (Users by reverse) = Some tables.Users
 table_of All = None
 
--- the text of answers as that table
-abbrev pub csv_of : Option Table → ℤ → List Answer → List ℕ
-csv_of (Some table) offset answers = table_text table offset answers
-csv_of None offset answers = []
+-- the text of answers as that table, in the local time of a clock
+abbrev pub csv_of : Option Table → (ℤ → ℤ) → List Answer → List ℕ
+csv_of (Some table) clock answers = table_text table clock answers
+csv_of None clock answers = []
 
 -- the text of a report's answers in a form
-abbrev pub form_text : Form → Report → ℤ → Option ℤ → List Answer → List ℕ
-form_text Text report offset until answers = sections_text answers offset until
-form_text Csv report offset until answers = csv_of (table_of report) offset answers
+abbrev pub form_text : Form → Report → (ℤ → ℤ) → Option ℤ → List Answer → List ℕ
+form_text Text report clock until answers = sections_text answers clock until
+form_text Csv report clock until answers = csv_of (table_of report) clock answers
 
 -- the answers to a report's questions over login and process entries, of which each file of these kinds is a host
-abbrev pub answers_of : Job → List Kind → List Entry → List ProcEntry → List Answer
-answers_of job kinds logins procs =
-    map (λ q. answer_of q logins procs) (questions_of job.report job.offset kinds job.until)
+abbrev pub answers_of : ClockRows → Job → List Kind → List Entry → List ProcEntry → List Answer
+answers_of clock job kinds logins procs =
+    map (λ q. answer_of clock q logins procs) (questions_of job.report job.offset kinds job.until)
 
--- the text of a job's report over these entries
-abbrev pub report_text : Job → List Kind → List Entry → List ProcEntry → List ℕ
-report_text job kinds logins procs =
-    form_text job.form job.report job.offset job.until (answers_of job kinds logins procs)
+-- the text of a job's report over these entries, in the time of a clock
+abbrev pub report_text : ClockRows → Job → List Kind → List Entry → List ProcEntry → List ℕ
+report_text clock job kinds logins procs =
+    form_text job.form job.report (local clock job.offset) job.until (answers_of clock job kinds logins procs)
 
 -- the output of a job over files, each a kind and its records
-abbrev pub output : Job → List Kind → List Records → List ℕ
-output job kinds files = report_text job kinds (login_entries files) (proc_entries files)
+abbrev pub output : ClockRows → Job → List Kind → List Records → List ℕ
+output clock job kinds files = report_text clock job kinds (login_entries files) (proc_entries files)

@@ -31,6 +31,7 @@ use std::sync::Wait;
 use std::thread::Threads;
 use tally_book::{Book, entries_are_posts, host_order_is_enough};
 use tally_desk::{Desk, Gate, Input, OpenFault, Pass};
+use tally_clock::Clock;
 use tally_line::Job;
 use tally_print::Output;
 use tally_sessions::HOST_LIMIT;
@@ -69,14 +70,20 @@ fn callers_of(sources: usize, askers: u32) -> Result<u32, RunFault>
     Ok(callers)
 }
 
-/// A desk of so many callers.
-fn open(alloc: Global, keys: RandomState, callers: u32) -> Result<(Desk, Vec<Pass>), AllocError>
+/// A desk of so many callers, whose book has an equal clock.
+fn open(
+    alloc: Global,
+    keys: RandomState,
+    clock: &Clock,
+    callers: u32,
+) -> Result<(Desk, Vec<Pass>), AllocError>
     requires some { 0 < callers }
     requires few { callers ≤ HOST_LIMIT }
     ensures opened { IfOk result (λ r. (r.0.callers ≡ callers)
-        × (r.1.items ≡ first_passes r.0.id callers)) }
+        × (r.1.items ≡ first_passes r.0.id clock.now callers)) }
 {
-    match Desk::open(alloc, keys, callers) {
+    let clock = clock.try_copy(alloc)?;
+    match Desk::open_on(alloc, keys, clock, callers) {
         Ok(opened) => Ok(opened),
         Err(OpenFault::Memory) => Err(AllocError),
         Err(OpenFault::Callers(_)) => unreachable!(),
@@ -133,6 +140,7 @@ fn feed_all<R: Threads + Wait + Sync, I: Input + Send, G: Gate + Sync>(
     rt: &R,
     alloc: Global,
     keys: RandomState,
+    clock: &Clock,
     job: &Job,
     callers: u32,
     sources: Vec<Source<I>>,
@@ -145,6 +153,7 @@ fn feed_all<R: Threads + Wait + Sync, I: Input + Send, G: Gate + Sync>(
     requires readable { All (IsReadable I.failures) sources.items }
     ensures whole { IfOk result (λ b. (inputs : List Told) → Tell I.to_come sources.items inputs → AreRead inputs b) }
     ensures callers { IfOk result (λ b. b.callers ≡ callers) }
+    ensures clock { IfOk result (λ b. b.clock ≡ clock.now) }
     ensures calls { IfOk result (λ b. length b.calls ≤ 4224) }
     ensures cause { IfErr result (λ f. (inputs : List Told) → Tell I.to_come sources.items inputs → IsReadCause inputs f) }
     ensures allowed { IfErr result (IsAllowed callers) }
@@ -154,7 +163,7 @@ fn feed_all<R: Threads + Wait + Sync, I: Input + Send, G: Gate + Sync>(
     ensures read { IfErr result (λ f. (host : ℕ) → f ≡ RunFault.File host feed_fault_of.Read
         → (s : Source _) → I.can_fail (slice_index_or sources.items host s).input ≡ true) }
 {
-    let (desk, passes) = open(alloc, keys, callers)?;
+    let (desk, passes) = open(alloc, keys, clock, callers)?;
     let feeders = job.feeders as usize;
     entries_are_posts();
     let asking = Asking { until: job.until };
@@ -166,12 +175,13 @@ fn feed_all<R: Threads + Wait + Sync, I: Input + Send, G: Gate + Sync>(
 }
 
 /// Reads each file as one caller of a desk, several at once, and then prints the job's report on
-/// all of them. Nothing is written before every file is found to be good. A fault is that of the
+/// all of them, in the time of a clock, with the job's offset on top. Nothing is written before every file is found to be good. A fault is that of the
 /// first file at fault, else that of the first asker.
 pub fn run<R: Threads + Wait + Sync, I: Input + Send, G: Gate + Sync, O: Output>(
     rt: &R,
     alloc: Global,
     keys: RandomState,
+    clock: &Clock,
     job: &Job,
     sources: Vec<Source<I>>,
     gate: &G,
@@ -180,8 +190,8 @@ pub fn run<R: Threads + Wait + Sync, I: Input + Send, G: Gate + Sync, O: Output>
     requires runnable { IsRunnable job.now }
     requires readable { All (IsReadable I.failures) sources.items }
     requires writable { IsWritable (O.state out.old) }
-    ensures whole { OnOk result (IsWholeRun I.to_come job.now sources.items (O.state out.old) (O.state out.new)) }
-    ensures failed { IfErr result (IsFailedRun I.to_come I.can_fail job.now sources.items (O.state out.old) (O.state out.new)) }
+    ensures whole { OnOk result (IsWholeRun I.to_come clock.now job.now sources.items (O.state out.old) (O.state out.new)) }
+    ensures failed { IfErr result (IsFailedRun I.to_come I.can_fail clock.now job.now sources.items (O.state out.old) (O.state out.new)) }
     ensures callers { IsWrongNumber (length sources.items + job.now.askers)
         → result ≡ Err (callers_fault (length sources.items + job.now.askers)) }
     ensures counts { (O.state out.new).failures ≡ (O.state out.old).failures + failed_writes result }
@@ -189,8 +199,8 @@ pub fn run<R: Threads + Wait + Sync, I: Input + Send, G: Gate + Sync, O: Output>
 {
     let callers = callers_of(sources.len(), job.askers)?;
     let kinds = kinds_of(alloc, sources.as_slice())?;
-    let book = feed_all(rt, alloc, keys, job, callers, sources, gate)?;
+    let book = feed_all(rt, alloc, keys, clock, job, callers, sources, gate)?;
     host_order_is_enough();
-    report(rt, alloc, job, kinds.as_slice(), book, out)?;
+    report(rt, alloc, clock, job, kinds.as_slice(), book, out)?;
     finish(out)
 }

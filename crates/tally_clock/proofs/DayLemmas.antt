@@ -137,7 +137,7 @@ most : (x y z : ℤ) → x ≤ℤ z → y ≤ℤ z → int_max x y ≤ℤ z
 most x y z l m = grind (arith, ints, clamps)
 
 -- a second more of a span
-step_in : (b t s e : ℤ) → b ≤ℤ t → s ≤ℤ t → t <ℤ e → seconds_between (int_max b s) (int_min (t +ℤ pos 1) e) ≡ seconds_between (int_max b s) (int_min t e) + 1
+pub step_in : (b t s e : ℤ) → b ≤ℤ t → s ≤ℤ t → t <ℤ e → seconds_between (int_max b s) (int_min (t +ℤ pos 1) e) ≡ seconds_between (int_max b s) (int_min t e) + 1
 step_in b t s e in_stay from to =
     let low = most b s t in_stay from in
     let last = least (t +ℤ pos 1) e (omega (arith, signed_arith)) in

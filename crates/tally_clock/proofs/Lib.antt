@@ -1,4 +1,5 @@
 pub mod DayLemmas
+pub mod FaultLemmas
 pub mod Reached
 pub mod RowLemmas
 pub mod RuleSteps

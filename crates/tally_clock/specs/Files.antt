@@ -8,6 +8,8 @@ use Rattle.jiff_tz.specs.Tzif as Table
 use Rattle.jiff_tz.specs.TzifReader.{be_u32, header_at, read_tzif}
 use Rattle.tally_clock.specs.Rows.{ClockRows, offset_at}
 use Rattle.tally_clock.specs.Time.{IsTime}
+use Rattle.tally_clock.specs.Zones.{ChangesOften}
+use Rattle.tally_clock.specs.declared.clock.TheConstants.{ROW_LIMIT}
 use Rattle.tally_clock.specs.declared.file.FileFault.{FileFault}
 use Rattle.tally_clock.specs.declared.file.FileFault.TheVariants as fault
 use Rattle.tally_clock.specs.declared.zone.ClockFault.{ClockFault}
@@ -38,9 +40,13 @@ header_start bytes = if slice_index bytes 4 == 0 then 0 else first_block_end byt
 abbrev pub leap_count : List ℕ → ℕ
 leap_count bytes = be_u32 bytes (header_start bytes + 28)
 
+-- the offset of a table at a second
+abbrev pub table_offset : Tzif → ℤ → ℤ
+table_offset table time = (Table.offset_at table (nanos_of_seconds time)).seconds
+
 -- a clock that has a table's offset at each second that a record can have
 abbrev pub ShowsTable : Tzif → ClockRows → Type 0
-ShowsTable table clock = (time : ℤ) → IsTime time → offset_at clock time ≡ (Table.offset_at table (nanos_of_seconds time)).seconds
+ShowsTable table clock = (time : ℤ) → IsTime time → offset_at clock time ≡ table_offset table time
 
 -- the clock of a file
 pub record IsClockOfFile (bytes : List ℕ) (clock : ClockRows) : Type 0 where
@@ -61,4 +67,4 @@ RefusesFile bytes fault.Memory = ⊤
 RefusesFile bytes fault.Large = FILE_LIMIT < length bytes
 RefusesFile bytes fault.NoZone = (length bytes ≤ FILE_LIMIT) × HoldsNoTable bytes
 RefusesFile bytes fault.LeapSeconds = (length bytes ≤ FILE_LIMIT) × (0 < leap_count bytes)
-RefusesFile bytes fault.Long = length bytes ≤ FILE_LIMIT
+RefusesFile bytes fault.Long = (length bytes ≤ FILE_LIMIT) × ((table : Tzif) × IsTableOf bytes table × ChangesOften ROW_LIMIT (table_offset table))

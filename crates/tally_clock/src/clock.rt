@@ -3,7 +3,7 @@ ghost use Rattle.tally_clock.specs.Rows.{IsRising};
 
 use crate::row::Row;
 use jiff_core::Offset;
-use std::alloc::Global;
+use std::alloc::{AllocError, Global};
 use std::marker::Model;
 
 /// The most rows of a clock. A file of 64 KiB has fewer, and so has a rule.
@@ -29,8 +29,8 @@ impl Model for Clock {
 }
 
 impl Clock {
-    ghost use Rattle.std.specs.Prelude.{◌≡◌, ℤ, int_le, length, vec_len, ◌≤◌, ◌≤ℤ◌, ◌<ℤ◌};
-    ghost use Rattle.tally_clock.specs.Rows.{count_at, offset_at, utc};
+    ghost use Rattle.std.specs.Prelude.{◌≡◌, IfOk, int_le, length, vec_len, ◌≤◌};
+    ghost use Rattle.tally_clock.specs.Rows.{count_at, offset_after, offset_at, utc};
 
     /// The clock of UTC, which has no rows.
     pub fn utc(alloc: Global) -> Clock
@@ -49,6 +49,18 @@ impl Clock {
         ensures { result ≡ record { first = first; rows = rows.items } }
     {
         Clock { first, rows }
+    }
+
+    /// An equal clock.
+    pub fn try_copy(&self, alloc: Global) -> Result<Clock, AllocError>
+        ensures { IfOk result (λ copy. copy ≡ self.now) }
+    {
+        let mut rows = Vec::new(alloc);
+        rows.extend_from_slice(self.rows.as_slice())?;
+        Ok(Clock {
+            first: self.first,
+            rows,
+        })
     }
 
     /// The offset before the first row.
@@ -79,15 +91,22 @@ impl Clock {
         )
     }
 
-    /// The offset at a second.
-    pub fn offset_at(&self, time: i32) -> Offset
-        ensures { result.seconds ≡ offset_at self.now time }
+    /// The offset after so many rows have begun.
+    pub fn offset_after(&self, count: usize) -> Offset
+        requires { count ≤ length self.now.rows }
+        ensures { result ≡ offset_after self.now.first self.now.rows count }
     {
-        let count = self.count_at(time);
         if count == 0 {
             self.first
         } else {
             self.rows[count - 1].offset
         }
+    }
+
+    /// The offset at a second.
+    pub fn offset_at(&self, time: i32) -> Offset
+        ensures { result.seconds ≡ offset_at self.now time }
+    {
+        self.offset_after(self.count_at(time))
     }
 }

@@ -3,9 +3,10 @@ ghost use Rattle.std.specs.Prelude.{◌≡◌, ◌⊎◌, ◌+◌, ◌<◌, ◌�
 ghost use Rattle.jiff_core.specs.declared.error.TzifFault.{TzifFault};
 ghost use Rattle.jiff_tz.specs.TzifReader.{be_u32, read_tzif};
 ghost use Rattle.tally_clock.specs.Files as Spec;
+ghost use Rattle.tally_clock.specs.Zones.{ChangesOften};
 ghost use Rattle.tally_clock.specs.declared.file.FileFault.TheVariants as file_fault;
 
-use crate::clock::Clock;
+use crate::clock::{Clock, ROW_LIMIT};
 use crate::zone::ClockFault;
 use jiff_core::Error;
 use jiff_tz::{TimeZone, Tzif};
@@ -101,7 +102,8 @@ fn table_of(alloc: Global, bytes: &[u8]) -> Result<Tzif, FileFault>
 
 /// The clock of a table.
 fn clock_of(alloc: Global, table: &Tzif) -> Result<Clock, ClockFault>
-    ensures { IfOk result (Spec.ShowsTable table.now) }
+    ensures shows { IfOk result (Spec.ShowsTable table.now) }
+    ensures err { IfErr result (λ found. found ≡ ClockFault.Long → ChangesOften ROW_LIMIT (Spec.table_offset table.now)) }
 {
     Clock::of_zone(alloc, &TimeZone::Tzif(table))
 }

@@ -1,9 +1,10 @@
 //! The clock of a rule of POSIX.
-ghost use Rattle.std.specs.Prelude.{◌≡◌, ◌↔◌, IfOk, None};
+ghost use Rattle.std.specs.Prelude.{◌≡◌, ◌↔◌, IfErr, IfOk, None};
 ghost use Rattle.jiff_tz.specs.PosixReader.{read_whole};
-ghost use Rattle.tally_clock.specs.Rules.{IsClockOfRule, ShowsRule, of_clock_fault};
+ghost use Rattle.tally_clock.specs.Zones.{ChangesOften};
+ghost use Rattle.tally_clock.specs.Rules.{IsClockOfRule, RefusesRule, ShowsRule, of_clock_fault, rule_offset};
 
-use crate::clock::Clock;
+use crate::clock::{Clock, ROW_LIMIT};
 use crate::zone::ClockFault;
 use jiff_tz::{TimeZone, posix};
 use std::alloc::Global;
@@ -32,7 +33,8 @@ impl From<ClockFault> for RuleFault {
 
 /// The clock of a rule that was read.
 fn clock_of(alloc: Global, rule: posix::TimeZone) -> Result<Clock, ClockFault>
-    ensures { IfOk result (ShowsRule rule) }
+    ensures shows { IfOk result (ShowsRule rule) }
+    ensures err { IfErr result (λ found. found ≡ ClockFault.Long → ChangesOften ROW_LIMIT (rule_offset rule)) }
 {
     Clock::of_zone(alloc, &TimeZone::Posix(rule))
 }
@@ -41,6 +43,7 @@ impl Clock {
     /// The clock of a rule, as `CET-1CEST,M3.5.0,M10.5.0/3`.
     pub fn of_rule(alloc: Global, text: &[u8]) -> Result<Clock, RuleFault>
         ensures value { IfOk result (IsClockOfRule text.now) }
+        ensures err { IfErr result (RefusesRule text.now) }
         ensures no_rule { (result ≡ Err RuleFault.NoRule) ↔ (read_whole text.now ≡ None) }
     {
         match posix::TimeZone::parse(text) {

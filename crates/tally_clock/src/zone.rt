@@ -1,5 +1,5 @@
 //! The clock of a time zone.
-ghost use Rattle.std.specs.Prelude.{◌≡◌, ℕ, ℤ, ◌+◌, ◌<◌, ◌≤ℤ◌, ◌<ℤ◌, ◌^◌, ◌∷◌, ◌++◌, [], pos, neg_ℤ, ◌+ℤ◌, OnOk, IfOk, IfSome, int_le, vec_len, if◌then◌else◌};
+ghost use Rattle.std.specs.Prelude.{◌≡◌, ℕ, ℤ, ◌+◌, ◌<◌, ◌≤ℤ◌, ◌<ℤ◌, ◌^◌, ◌∷◌, ◌++◌, [], pos, neg_ℤ, ◌+ℤ◌, OnOk, IfErr, IfOk, IfSome, int_le, vec_len, if◌then◌else◌};
 ghost use Rattle.jiff_core.specs.Timestamp.{nanos_of_seconds};
 ghost use Rattle.jiff_tz.specs.Year.{year_of_nanos};
 ghost use Rattle.tally_clock.specs.Rows.{IsBefore, IsRising, offset_in};
@@ -89,6 +89,7 @@ fn zone_offset(zone: &TimeZone<'_>, time: i64) -> Offset
 fn push_row(rows: &mut Vec<Row>, from: i32, offset: Offset) -> Result<(), AllocError>
     requires rising { IsRising rows.old.items }
     requires before { IsBefore rows.old.items from }
+    ensures pushed { OnOk result (rows.new.items ≡ rows.old.items ++ record { from = from; offset = offset } ∷ []) }
     ensures rising { OnOk result (IsRising rows.new.items) }
     ensures before { OnOk result ((time : ℤ) → from <ℤ time → IsBefore rows.new.items time) }
     ensures offsets { OnOk result ((first : ClockOffset) (time : ℤ) → offset_in first rows.new.items time ≡ (if int_le from time then offset.seconds else offset_in first rows.old.items time)) }
@@ -98,11 +99,12 @@ fn push_row(rows: &mut Vec<Row>, from: i32, offset: Offset) -> Result<(), AllocE
 }
 
 impl Clock {
-    ghost use Rattle.tally_clock.specs.Zones.{ShowsZone};
+    ghost use Rattle.tally_clock.specs.Zones.{ChangesOften, ShowsZone, zone_offset};
 
     /// The clock of a zone: at each second that a record can have it has the zone's offset.
     pub fn of_zone(alloc: Global, zone: &TimeZone<'_>) -> Result<Clock, ClockFault>
-        ensures { IfOk result (ShowsZone zone.now) }
+        ensures shows { IfOk result (ShowsZone zone.now) }
+        ensures err { IfErr result (λ found. found ≡ ClockFault.Long → ChangesOften ROW_LIMIT (zone_offset zone.now)) }
     {
         let first = zone_offset(zone, FIRST);
         let mut rows = Vec::new(alloc);

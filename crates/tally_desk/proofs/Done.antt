@@ -6,6 +6,7 @@ use Rattle.std.specs.List.{All}
 use Rattle.tally_book.specs.declared.history.Call.{Call}
 use Rattle.tally_book.specs.declared.history.Call.TheVariants.{Posted, Asked}
 use Rattle.tally_book.specs.declared.history.Counts.{Counts}
+use Rattle.tally_clock.specs.Rows.{ClockRows}
 use Rattle.tally_book.specs.Contents.{Contents}
 use Rattle.tally_book.specs.Books.{IsCall, between, caller_of, calls_of, counts_of, posted}
 use Rattle.tally_book.specs.Deeds.{Deed, Post, Ask, deed, login_records}
@@ -28,26 +29,26 @@ between-append : {X : Type 0} (from to : ℕ) (xs more : List X) → to ≤ leng
 between-append from to xs more within = ap (drop from) (take-append-le to xs more within)
 
 -- later records leave what was done as it is
-deeds_same : (callers : ℕ) (logins more : List Entry) (procs others : List ProcEntry) (cs : List Call) → All (IsCall callers logins procs) cs
+deeds_same : (callers : ℕ) (clock : ClockRows) (logins more : List Entry) (procs others : List ProcEntry) (cs : List Call) → All (IsCall callers clock logins procs) cs
     → map (deed (logins ++ more) (procs ++ others)) cs ≡ map (deed logins procs) cs
-deeds_same callers logins more procs others [] s = refl
-deeds_same callers logins more procs others (Posted caller before after ∷ cs) s =
-    let sound = All-head (IsCall callers logins procs) (Posted caller before after) cs s in
+deeds_same callers clock logins more procs others [] s = refl
+deeds_same callers clock logins more procs others (Posted caller before after ∷ cs) s =
+    let sound = All-head (IsCall callers clock logins procs) (Posted caller before after) cs s in
     let first = between-append before.logins after.logins logins more sound.logins_in in
     let second = between-append before.procs after.procs procs others sound.procs_in in
-    let rest = deeds_same callers logins more procs others cs (All-tail (IsCall callers logins procs) (Posted caller before after) cs s) in
+    let rest = deeds_same callers clock logins more procs others cs (All-tail (IsCall callers clock logins procs) (Posted caller before after) cs s) in
     λ i. Post (login_records (first i)) (records_of (second i)) ∷ rest i
-deeds_same callers logins more procs others (Asked caller at question answer ∷ cs) s =
-    ap (λ ds. Ask question ∷ ds) (deeds_same callers logins more procs others cs (All-tail (IsCall callers logins procs) (Asked caller at question answer) cs s))
+deeds_same callers clock logins more procs others (Asked caller at question answer ∷ cs) s =
+    ap (λ ds. Ask question ∷ ds) (deeds_same callers clock logins more procs others cs (All-tail (IsCall callers clock logins procs) (Asked caller at question answer) cs s))
 
 kept : (k : Known) (book : Contents) → IsSound k → Follows k.seen book → map (deed book.logins book.procs) k.mine ≡ map (deed k.seen.logins k.seen.procs) k.mine
 kept k book sound more =
     let logins : List Entry = k.seen.logins in
     let procs : List ProcEntry = k.seen.procs in
     let mine : List Call = calls_of k.number k.seen.calls in
-    let sounds : All (IsCall k.seen.callers logins procs) mine = All-filter (λ (c : Call). eqb (caller_of c) k.number) (IsCall k.seen.callers logins procs) k.seen.calls sound.legal.sound in
+    let sounds : All (IsCall k.seen.callers k.seen.clock logins procs) mine = All-filter (λ (c : Call). eqb (caller_of c) k.number) (IsCall k.seen.callers k.seen.clock logins procs) k.seen.calls sound.legal.sound in
     subst (λ (cs : List Call). map (deed book.logins book.procs) cs ≡ map (deed logins procs) cs) sound.own
-    ((λ i. map (deed (sym more.logins.1 i) (sym more.procs.1 i)) mine) ∙ deeds_same k.seen.callers logins more.logins.0 procs more.procs.0 mine sounds)
+    ((λ i. map (deed (sym more.logins.1 i) (sym more.procs.1 i)) mine) ∙ deeds_same k.seen.callers k.seen.clock logins more.logins.0 procs more.procs.0 mine sounds)
 
 -- no more of the caller's calls
 pub done_same : (k : Known) (book : Contents) → IsSound k → Fits book k

@@ -46,7 +46,7 @@ PostTells batch result old new = CallTells (λ (r : Receipt). Posted old.number 
 -- what a report shows
 abbrev pub AskTells : Question → Result Served AskFault → PassState → PassState → Type 0
 AskTells question result old new = CallTells (λ (r : Served). Asked old.number r.at question r.answer) (λ (r : Served). r.call) (Ask question)
-    (λ (r : Served) seen. (r.at ≡ counts_of seen) × (r.answer ≡ answer_of question seen.logins seen.procs)) (λ (e : AskFault) seen. IsAskRefusal seen.callers (length seen.calls) question e) result old new
+    (λ (r : Served) seen. (r.at ≡ counts_of seen) × (r.answer ≡ answer_of seen.clock question seen.logins seen.procs)) (λ (e : AskFault) seen. IsAskRefusal seen.callers (length seen.calls) question e) result old new
 
 module _ {T E : Type 0} (P Q : T → Type 0) where
   pub ok_first : (result : Result T E) → IfOk result (λ r. P r × Q r) → IfOk result P
@@ -164,6 +164,6 @@ module _ (id : TableId) (k : Known) (sound : IsSound k) (book : Contents) (fit :
       → MatchResult result (λ r. (m ≡ idle (knowing (asked book k.number question) k)) × IsLegal (asked book k.number question) × IsServed book (asked book k.number question) question r) (λ e. (m ≡ idle (knowing book k)) × IsAskRefusal book.callers (length book.calls) question e)
       → (k' : Known) × (m ≡ idle k') × (k.number ≡ k'.number) × IsSound k' × AskTells question result (pass_of id k) (pass_of id k')
   asked_pass question = called (λ (r : Served). Asked k.number r.at question r.answer) (λ (r : Served). r.call) (Ask question)
-      (λ (r : Served) seen. (r.at ≡ counts_of seen) × (r.answer ≡ answer_of question seen.logins seen.procs)) (λ (e : AskFault) seen. IsAskRefusal seen.callers (length seen.calls) question e)
+      (λ (r : Served) seen. (r.at ≡ counts_of seen) × (r.answer ≡ answer_of seen.clock question seen.logins seen.procs)) (λ (e : AskFault) seen. IsAskRefusal seen.callers (length seen.calls) question e)
       (asked book k.number question) (IsServed book (asked book k.number question) question) (asked_next book k.number k.number question refl)
       (λ r served. ((λ i. book.calls ++ Asked k.number (sym served.at i) question (sym served.answer i) ∷ []), refl, served.call, (served.at, served.answer), refl))

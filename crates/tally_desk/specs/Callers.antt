@@ -1,17 +1,19 @@
 -- What a caller knows of the book.
 use Rattle.std.specs.Prelude.{◌≡◌, ℕ, ◌≤◌, [], length}
 use mathlib.Core.List.{IsPrefix}
+use Rattle.tally_clock.specs.Rows.{ClockRows}
 use Rattle.tally_book.specs.Contents.{Contents}
 use Rattle.tally_book.specs.Books.{empty, calls_of}
 use Rattle.tally_desk.specs.declared.lock.view.Known.{Known}
 
 -- a caller that has made no call
-abbrev pub newcomer : ℕ → ℕ → Known
-newcomer callers number = record { number = number; seen = empty callers; mine = []; told = 0 }
+abbrev pub newcomer : ClockRows → ℕ → ℕ → Known
+newcomer clock callers number = record { number = number; seen = empty clock callers; mine = []; told = 0 }
 
 -- the old contents are a beginning of the new ones
 pub record Follows (old new : Contents) : Type 0 where
   pub callers : new.callers ≡ old.callers
+  pub clock : new.clock ≡ old.clock
   pub logins : IsPrefix old.logins new.logins
   pub procs : IsPrefix old.procs new.procs
   pub calls : IsPrefix old.calls new.calls

@@ -7,6 +7,7 @@ ghost use Rattle.tally_book.specs.Answers.{HasDays, IsAskable, answer_of};
 ghost use Rattle.tally_book.specs.Books.{IsLegal, counts_of};
 ghost use Rattle.tally_book.specs.Deeds.{Ask, Post};
 ghost use Rattle.tally_book.specs.Refusals.{IsAskRefusal, IsPostRefusal};
+ghost use Rattle.tally_clock.specs.Rows.{utc};
 ghost use Rattle.tally_records.specs.Records.{logins_in, procs_in};
 ghost use Rattle.tally_desk.specs.declared.lock.view.Known.{Known};
 ghost use Rattle.tally_desk.specs.inside.Knowledge.{IsSound};
@@ -16,12 +17,14 @@ ghost use Rattle.tally_desk.specs.inside.Seats.{idle, standing};
 ghost use Rattle.tally_desk.specs.inside.Views.{newcomers};
 
 use crate::fault::{CloseFault, OpenFault};
+use crate::lock::rule::Opening;
 use crate::lock::{Seat, TicketLock};
 use std::alloc::Global;
 use std::hash::RandomState;
 use std::marker::Model;
 use std::sync::Wait;
 use tally_book::{AskFault, Book, PostFault, Question, Receipt, Served};
+use tally_clock::Clock;
 use tally_records::Batch;
 use tally_sessions::HOST_LIMIT;
 
@@ -91,17 +94,17 @@ impl Model for Desk {
 
     ghost view = { λ d. record { id = d.lock.table.shared.table_id; callers = d.callers } };
 
-    ghost invariant = { λ d. (d.lock.table.shared.key ≡ d.callers) × (0 < d.callers) };
+    ghost invariant = { λ d. (d.lock.table.shared.key.callers ≡ d.callers) × (0 < d.callers) };
 }
 
 /// Deals the seat of all callers to passes, of which there is room for all.
-fn deal_all(lock: &TicketLock, mut seat: Seat, callers: u32, passes: &mut Vec<Pass>)
-    requires seat { (seat.table_id ≡ lock.now.table.shared.table_id) × (seat.me ≡ standing (newcomers callers 0 callers)) }
-    requires room { (passes.old.items ≡ []) × (callers ≤ vec_capacity passes.old) }
-    requires few { callers ≤ HOST_LIMIT }
-    ensures { passes.new.items ≡ first_passes lock.now.table.shared.table_id callers }
+fn deal_all(lock: &TicketLock, mut seat: Seat, opening: &Opening, passes: &mut Vec<Pass>)
+    requires seat { (seat.table_id ≡ lock.now.table.shared.table_id) × (seat.me ≡ standing (newcomers opening.now.clock opening.now.callers 0 opening.now.callers)) }
+    requires room { (passes.old.items ≡ []) × (opening.now.callers ≤ vec_capacity passes.old) }
+    requires few { opening.now.callers ≤ HOST_LIMIT }
+    ensures { passes.new.items ≡ first_passes lock.now.table.shared.table_id opening.now.clock opening.now.callers }
 {
-    for number in 0..callers {
+    for number in 0..opening.callers {
         passes.push_reserved(Pass::new(number, lock.deal(&mut seat)));
     }
 }
@@ -126,15 +129,31 @@ fn gather_all(lock: &TicketLock, mut passes: Vec<Pass>) -> Seat
 }
 
 impl Desk {
-    /// A desk with an empty book, and a pass for each of 1 to 128 callers, in order. The book's
-    /// tables are hashed by the keys.
+    /// A desk with an empty book, with the days of UTC, and a pass for each of 1 to 128 callers, in
+    /// order. The book's tables are hashed by the keys.
     pub fn open(
         alloc: Global,
         keys: RandomState,
         callers: u32,
     ) -> Result<(Desk, Vec<Pass>), OpenFault>
         ensures callers { IfOk result (λ r. r.0.callers ≡ callers) }
-        ensures passes { IfOk result (λ r. r.1.items ≡ first_passes r.0.id callers) }
+        ensures passes { IfOk result (λ r. r.1.items ≡ first_passes r.0.id utc callers) }
+        ensures desk { IfOk result (λ r. All (λ p. p.desk ≡ r.0.id) r.1.items) }
+        ensures given { OnOk result ((0 < callers) × (callers ≤ HOST_LIMIT)) }
+        ensures refused { IfErr result (IsOpenFault callers) }
+    {
+        Desk::open_on(alloc, keys, Clock::utc(alloc), callers)
+    }
+
+    /// The same with a book that has the days of a clock.
+    pub fn open_on(
+        alloc: Global,
+        keys: RandomState,
+        clock: Clock,
+        callers: u32,
+    ) -> Result<(Desk, Vec<Pass>), OpenFault>
+        ensures callers { IfOk result (λ r. r.0.callers ≡ callers) }
+        ensures passes { IfOk result (λ r. r.1.items ≡ first_passes r.0.id clock callers) }
         ensures desk { IfOk result (λ r. All (λ p. p.desk ≡ r.0.id) r.1.items) }
         ensures given { OnOk result ((0 < callers) × (callers ≤ HOST_LIMIT)) }
         ensures refused { IfErr result (IsOpenFault callers) }
@@ -145,8 +164,9 @@ impl Desk {
         let mut passes = Vec::with_capacity(alloc, callers as usize).map_err(
             |_| OpenFault::Memory,
         )?;
-        let (lock, seat) = TicketLock::open(alloc, keys, callers).map_err(|_| OpenFault::Memory)?;
-        deal_all(&lock, seat, callers, &mut passes);
+        let opening = Opening { callers, clock };
+        let (lock, seat) = TicketLock::open(alloc, keys, &opening).map_err(|_| OpenFault::Memory)?;
+        deal_all(&lock, seat, &opening, &mut passes);
         Ok((Desk { lock, callers }, passes))
     }
 
@@ -218,7 +238,7 @@ impl Desk {
         ensures current { IsCurrent pass.new }
         ensures answered { IfOk result (λ r. IsAnswered pass.old (Asked pass.old.number r.at question.now r.answer) r.call pass.new) }
         ensures at { IfOk result (λ r. r.at ≡ counts_of pass.new.seen) }
-        ensures value { IfOk result (λ r. r.answer ≡ answer_of question.now pass.new.seen.logins pass.new.seen.procs) }
+        ensures value { IfOk result (λ r. r.answer ≡ answer_of pass.new.seen.clock question.now pass.new.seen.logins pass.new.seen.procs) }
         ensures days { IfOk result (λ r. HasDays r.answer) }
         ensures refused { OnErr result (pass.new.mine ≡ pass.old.mine) }
         ensures cause { IfErr result (IsAskRefusal pass.new.seen.callers (length pass.new.seen.calls) question.now) }

@@ -9,12 +9,12 @@ ghost use Rattle.tally_desk.specs.inside.Seats.{idle, standing, turn};
 ghost use Rattle.tally_desk.specs.Callers.{Fits};
 ghost use Rattle.tally_desk.specs.inside.Views.{AllFit, knowing, opening_view, told_of};
 
-mod rule;
+pub(crate) mod rule;
 mod sleepers;
 mod turns;
 mod view;
 
-use crate::lock::rule::{Deal, Gather, Order, Tell};
+use crate::lock::rule::{Deal, Gather, Opening, Order, Tell};
 use crate::lock::sleepers::Sleepers;
 use crate::lock::view::View;
 use atomic_table::{Refused, Table};
@@ -41,7 +41,7 @@ const BOOK: usize = 0;
 /// A book that one caller at a time has, in the order of their tickets.
 #[derive(Drop)]
 pub struct TicketLock {
-    table: Table<Book, View, u32, Order, Global>,
+    table: Table<Book, View, Opening, Order, Global>,
     sleepers: Sleepers,
     ghost sized: { (table.shared.table_id.words ≡ 3) × (table.shared.table_id.slots ≡ 1) },
 }
@@ -51,16 +51,17 @@ impl TicketLock {
     pub fn open(
         alloc: Global,
         keys: RandomState,
-        callers: u32,
+        opening: &Opening,
     ) -> Result<(TicketLock, Seat), Memory>
-        requires some { 1 ≤ callers }
-        requires few { callers ≤ HOST_LIMIT }
-        ensures { IfOk result (λ t. (t.0.table.shared.key ≡ callers) × (t.1.table_id ≡ t.0.table.shared.table_id) × (t.1.me ≡ (opening_view callers, []))) }
+        requires some { 1 ≤ opening.now.callers }
+        requires few { opening.now.callers ≤ HOST_LIMIT }
+        ensures { IfOk result (λ t. (t.0.table.shared.key ≡ opening.now) × (t.1.table_id ≡ t.0.table.shared.table_id) × (t.1.me ≡ (opening_view opening.now, []))) }
     {
-        let sleepers = Sleepers::new(alloc, callers)?;
+        let sleepers = Sleepers::new(alloc, opening.callers)?;
         let mut slots = Vec::with_capacity(alloc, 1)?;
-        slots.push_reserved(Book::new(alloc, keys, callers)?);
-        match Table::new(alloc, &[0, 0, 0], slots, &callers) {
+        let clock = opening.clock.try_copy(alloc)?;
+        slots.push_reserved(Book::on(alloc, keys, clock, opening.callers)?);
+        match Table::new(alloc, &[0, 0, 0], slots, opening) {
             Ok((table, seat)) => Ok((TicketLock { table, sleepers }, seat)),
             Err(Refused { slots: _ }) => Err(Memory),
         }
@@ -89,8 +90,8 @@ impl TicketLock {
     /// The book, where the seat stands for all callers.
     pub fn close(self, seat: Seat) -> Book
         requires table { seat.table_id ≡ self.table.shared.table_id }
-        requires all { (ks : List Known) × (seat.me ≡ standing ks) × (self.table.shared.key ≤ length ks) }
-        ensures book { (result.callers ≡ self.table.shared.key) × IsLegal result }
+        requires all { (ks : List Known) × (seat.me ≡ standing ks) × (self.table.shared.key.callers ≤ length ks) }
+        ensures book { (result.callers ≡ self.table.shared.key.callers) × IsLegal result }
         ensures callers { (ks : List Known) → seat.me ≡ standing ks → AllFit result ks × (sum_by (λ k. length k.mine) ks ≡ length result.calls) }
     {
         let TicketLock { table, sleepers: _ } = self;

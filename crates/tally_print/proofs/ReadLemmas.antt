@@ -32,9 +32,9 @@ connect_fields-some true false row = refl
 connect_fields-some false true row = refl
 connect_fields-some false false row = refl
 
-stay_fields-some : (offset : ℤ) (stay : Stay) → read_back (stay_fields offset stay) ≡ stay_fields offset stay
+stay_fields-some : (clock : ℤ → ℤ) (stay : Stay) → read_back (stay_fields clock stay) ≡ stay_fields clock stay
 unfolding stay_fields who_fields
-stay_fields-some offset stay = refl
+stay_fields-some clock stay = refl
 
 command_fields-some : (row : CommandRow) → read_back (command_fields row) ≡ command_fields row
 unfolding command_fields name_fields
@@ -45,30 +45,30 @@ unfolding user_fields
 user_fields-some row = refl
 
 -- the rows of an answer come back as they are
-same_answer : (table : Table) (offset : ℤ) (answer : Answer) → map read_back (answer_rows table offset answer) ≡ answer_rows table offset answer
-same_answer Stays offset (answers.Last rows first) = same_rows (stay_fields offset) (stay_fields-some offset) rows
-same_answer Stays offset (answers.Connect rows total) = refl
-same_answer Stays offset (answers.Commands rows total) = refl
-same_answer Stays offset (answers.Users rows total) = refl
-same_answer (Connect by_day by_user) offset (answers.Last rows first) = refl
-same_answer (Connect by_day by_user) offset (answers.Connect rows total) =
+same_answer : (table : Table) (clock : ℤ → ℤ) (answer : Answer) → map read_back (answer_rows table clock answer) ≡ answer_rows table clock answer
+same_answer Stays clock (answers.Last rows first) = same_rows (stay_fields clock) (stay_fields-some clock) rows
+same_answer Stays clock (answers.Connect rows total) = refl
+same_answer Stays clock (answers.Commands rows total) = refl
+same_answer Stays clock (answers.Users rows total) = refl
+same_answer (Connect by_day by_user) clock (answers.Last rows first) = refl
+same_answer (Connect by_day by_user) clock (answers.Connect rows total) =
     same_rows (connect_fields by_day by_user) (connect_fields-some by_day by_user) (connect_rows by_day by_user rows total)
-same_answer (Connect by_day by_user) offset (answers.Commands rows total) = refl
-same_answer (Connect by_day by_user) offset (answers.Users rows total) = refl
-same_answer Commands offset (answers.Last rows first) = refl
-same_answer Commands offset (answers.Connect rows total) = refl
-same_answer Commands offset (answers.Commands rows total) = same_rows command_fields command_fields-some rows
-same_answer Commands offset (answers.Users rows total) = refl
-same_answer Users offset (answers.Last rows first) = refl
-same_answer Users offset (answers.Connect rows total) = refl
-same_answer Users offset (answers.Commands rows total) = refl
-same_answer Users offset (answers.Users rows total) = same_rows user_fields user_fields-some rows
+same_answer (Connect by_day by_user) clock (answers.Commands rows total) = refl
+same_answer (Connect by_day by_user) clock (answers.Users rows total) = refl
+same_answer Commands clock (answers.Last rows first) = refl
+same_answer Commands clock (answers.Connect rows total) = refl
+same_answer Commands clock (answers.Commands rows total) = same_rows command_fields command_fields-some rows
+same_answer Commands clock (answers.Users rows total) = refl
+same_answer Users clock (answers.Last rows first) = refl
+same_answer Users clock (answers.Connect rows total) = refl
+same_answer Users clock (answers.Commands rows total) = refl
+same_answer Users clock (answers.Users rows total) = same_rows user_fields user_fields-some rows
 
-same_answers : (table : Table) (offset : ℤ) (all : List Answer) → map read_back (flat_map (answer_rows table offset) all) ≡ flat_map (answer_rows table offset) all
-same_answers table offset [] = refl
-same_answers table offset (answer ∷ all) =
-    map-append read_back (answer_rows table offset answer) (flat_map (answer_rows table offset) all)
-    ∙ rw (same_answer table offset answer, same_answers table offset all) refl
+same_answers : (table : Table) (clock : ℤ → ℤ) (all : List Answer) → map read_back (flat_map (answer_rows table clock) all) ≡ flat_map (answer_rows table clock) all
+same_answers table clock [] = refl
+same_answers table clock (answer ∷ all) =
+    map-append read_back (answer_rows table clock answer) (flat_map (answer_rows table clock) all)
+    ∙ rw (same_answer table clock answer, same_answers table clock all) refl
 
 -- a header has a field, and begins with no byte order mark
 header-some : (table : Table) → read_back (header table) ≡ header table
@@ -91,11 +91,11 @@ header-plain (Connect false false) rest = refl
 header-plain Commands rest = refl
 header-plain Users rest = refl
 
-pub report_reads_back : (table : Table) (offset : ℤ) (all : List Answer) → csv_rows (table_text table offset all) ≡ report_rows table offset all
-report_reads_back table offset all =
-    ap (records default_config) (header-plain table (csv_text (flat_map (answer_rows table offset) all)))
-    ∙ reads_back (report_rows table offset all)
-    ∙ rw (header-some table, same_answers table offset all) refl
+pub report_reads_back : (table : Table) (clock : ℤ → ℤ) (all : List Answer) → csv_rows (table_text table clock all) ≡ report_rows table clock all
+report_reads_back table clock all =
+    ap (records default_config) (header-plain table (csv_text (flat_map (answer_rows table clock) all)))
+    ∙ reads_back (report_rows table clock all)
+    ∙ rw (header-some table, same_answers table clock all) refl
 
 -- a row's last field says its seconds
 says_seconds : (by_day by_user : Bool) (row : ConnectRow) → row.seconds < 2 ^ 64 → last_number (connect_fields by_day by_user row) ≡ row.seconds

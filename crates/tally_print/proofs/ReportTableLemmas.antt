@@ -8,6 +8,6 @@ use Rattle.tally_print.specs.declared.report_table.Table.{Table}
 use Rattle.tally_print.proofs.TableLemmas.{rows_of_all}
 
 -- the header and then the rows of the answers
-pub header_and_rows : (table : Table) (offset : ℤ) (answers : List Answer)
-    → table_text table offset answers ≡ row_text default_writer (header table) ++ flat_map (λ answer. csv_text (answer_rows table offset answer)) answers
-header_and_rows table offset answers = ap (λ (t : List ℕ). row_text default_writer (header table) ++ t) (rows_of_all (answer_rows table offset) answers)
+pub header_and_rows : (table : Table) (clock : ℤ → ℤ) (answers : List Answer)
+    → table_text table clock answers ≡ row_text default_writer (header table) ++ flat_map (λ answer. csv_text (answer_rows table clock answer)) answers
+header_and_rows table clock answers = ap (λ (t : List ℕ). row_text default_writer (header table) ++ t) (rows_of_all (answer_rows table clock) answers)

@@ -1,13 +1,15 @@
 -- Worked examples, computed by the definitions.
-use Rattle.std.proofs.Common.{◌≡◌, [], ◌∷◌, ◌++◌, map, Some, None, refl, pos, negsuc}
+use Rattle.std.proofs.Common.{◌≡◌, [], ◌∷◌, ◌++◌, map, Some, None, refl, ℤ, pos, negsuc, if◌then◌else◌, int_le}
 use Rattle.std.specs.Fmt.{digits}
 use Rattle.std.specs.Prelude.{codes}
+use Rattle.jiff_core.specs.Calendar.{day_count, days_from_civil, days_of_months, days_of_years}
+use Rattle.tally_print.specs.Civil.{day_of_month, month_of, year_of}
 use Rattle.tally_print.specs.ConnectText.{connect_line}
-use Rattle.tally_print.specs.Text.{shown, shown_byte, left, right, hours, minutes, clock, span}
+use Rattle.tally_print.specs.Text.{date, shown, shown_byte, left, right, hours, minutes, moment, span, time_of_day}
 use Rattle.tally_print.specs.UsageText.{columns}
 use Rattle.csv.specs.Writing.{escaped, fields_text, is_blank}
 use Rattle.tally_print.specs.Sections.{sections}
-use Rattle.tally_print.specs.StayTable.{zone}
+use Rattle.tally_print.specs.StayTable.{iso_moment, zone}
 use Rattle.tally_print.specs.Tables.{csv_text}
 
 -- hours are rounded at half a hundredth
@@ -38,9 +40,9 @@ filled : left (codes "ab") 4 ∷ right (codes "ab") 4 ∷ left (codes "abcde") 4
 filled = refl
 
 -- the time of a day
-clocks : map clock (0 ∷ 3661 ∷ 86399 ∷ []) ≡ codes "00:00:00" ∷ codes "01:01:01" ∷ codes "23:59:59" ∷ []
-unfolding clock
-clocks = refl
+times_of_day : map time_of_day (0 ∷ 3661 ∷ 86399 ∷ []) ≡ codes "00:00:00" ∷ codes "01:01:01" ∷ codes "23:59:59" ∷ []
+unfolding time_of_day
+times_of_day = refl
 
 -- the line of a user, and that of all
 connect_lines : connect_line (record { day = None; user = Some (codes "ann"); seconds = 3600 }) ∷ connect_line (record { day = None; user = None; seconds = 1800 }) ∷ [] ≡ codes "ann                          1.00\n" ∷ codes "total                        0.50\n" ∷ []
@@ -52,10 +54,41 @@ usage_columns : columns (record { count = 3; real = 720; cpu = 300; io = 1006; m
 unfolding columns digits
 usage_columns = refl
 
--- offsets as moments of tables have them
-zones : map zone (pos 0 ∷ pos 60 ∷ negsuc 329 ∷ pos 1439 ∷ []) ≡ codes "+00:00" ∷ codes "+01:00" ∷ codes "-05:30" ∷ codes "+23:59" ∷ []
+-- offsets as moments of tables have them: seconds beyond whole minutes are cut off, and the sign stays
+zones : map zone (pos 0 ∷ pos 3600 ∷ negsuc 19_799 ∷ negsuc 2669 ∷ negsuc 29 ∷ pos 179_939 ∷ []) ≡ codes "+00:00" ∷ codes "+01:00" ∷ codes "-05:30" ∷ codes "-00:44" ∷ codes "-00:00" ∷ codes "+49:58" ∷ []
 unfolding zone
 zones = refl
+
+-- the date of a day, its year and month first
+berlin_year : year_of (pos 20_541) ≡ 2026
+unfolding year_of days_from_civil day_count days_of_years days_of_months
+berlin_year = refl
+
+berlin_month : month_of (pos 20_541) ≡ 3
+unfolding month_of days_from_civil day_count days_of_years days_of_months
+berlin_month = rw berlin_year refl
+
+berlin_day : date (pos 20_541) ≡ codes "2026-03-29"
+unfolding date day_of_month days_from_civil day_count days_of_years days_of_months
+berlin_day = rw (berlin_year, berlin_month) refl
+
+-- Berlin in March 2026: an hour ahead of UTC, and two hours from 2026-03-29 01:00:00 UTC on
+abbrev berlin : ℤ → ℤ
+berlin time = if int_le (pos 1_774_746_000) time then pos 7200 else pos 3600
+
+-- where clocks go forward, 03:00:00 follows 01:59:59
+berlin_moments : map (λ time. moment time berlin) (pos 1_774_745_999 ∷ pos 1_774_746_000 ∷ []) ≡ codes "2026-03-29 01:59:59" ∷ codes "2026-03-29 03:00:00" ∷ []
+unfolding moment time_of_day
+berlin_moments = rw berlin_day refl
+
+berlin_iso : map (λ time. iso_moment time berlin) (pos 1_774_745_999 ∷ pos 1_774_746_000 ∷ []) ≡ codes "2026-03-29T01:59:59+01:00" ∷ codes "2026-03-29T03:00:00+02:00" ∷ []
+unfolding iso_moment zone time_of_day
+berlin_iso = rw berlin_day refl
+
+-- a clock 44 minutes and 30 seconds behind UTC, as Monrovia's was up to 1972
+behind : moment (pos 1_774_746_000) (λ time. negsuc 2669) ∷ iso_moment (pos 1_774_746_000) (λ time. negsuc 2669) ∷ [] ≡ codes "2026-03-29 00:15:30" ∷ codes "2026-03-29T00:15:30-00:44" ∷ []
+unfolding moment iso_moment zone time_of_day
+behind = rw berlin_day refl
 
 -- a comma and quotes are quoted, a quote twice; an empty field is empty
 quoted_row : csv_text ((codes "a,b" ∷ (34 ∷ []) ∷ [] ∷ codes "x y" ∷ []) ∷ []) ≡ 34 ∷ (codes "a,b" ++ 34 ∷ 44 ∷ 34 ∷ 34 ∷ 34 ∷ 34 ∷ 44 ∷ 44 ∷ (codes "x y" ++ 10 ∷ []))

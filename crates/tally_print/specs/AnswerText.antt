@@ -6,9 +6,9 @@ use Rattle.tally_print.specs.ConnectText.{connect_text}
 use Rattle.tally_print.specs.LastText.{last_text}
 use Rattle.tally_print.specs.UsageText.{commands_text, users_text}
 
--- the text of its kind of report, at an offset in minutes east of UTC, with the moment that its question gave
-abbrev pub answer_text : Answer → ℤ → Option ℤ → List ℕ
-answer_text (answers.Last rows first) offset until = last_text rows first offset until
-answer_text (answers.Connect rows total) offset until = connect_text rows total
-answer_text (answers.Commands rows total) offset until = commands_text rows total
-answer_text (answers.Users rows total) offset until = users_text rows total
+-- the text of its kind of report, with moments by a clock, and the moment that its question gave
+abbrev pub answer_text : Answer → (ℤ → ℤ) → Option ℤ → List ℕ
+answer_text (answers.Last rows first) clock until = last_text rows first clock until
+answer_text (answers.Connect rows total) clock until = connect_text rows total
+answer_text (answers.Commands rows total) clock until = commands_text rows total
+answer_text (answers.Users rows total) clock until = users_text rows total

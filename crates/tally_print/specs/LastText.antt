@@ -23,25 +23,25 @@ still_ending stay None = codes "   " ++ still_words stay
 still_ending stay (Some until) = codes " - " ++ left (still_words stay) 19 ++ codes " " ++ span stay.length
 
 -- when or how the stay ended, or that it goes on
-unfoldable pub ending : End → Stay → ℤ → Option ℤ → List ℕ
-ending Logout stay offset until = codes " - " ++ moment stay.end_time offset ++ codes " " ++ span stay.length
-ending Next stay offset until = codes " - " ++ moment stay.end_time offset ++ codes " " ++ span stay.length
-ending Down stay offset until = codes " - " ++ left (codes "down") 19 ++ codes " " ++ span stay.length
-ending Crash stay offset until = codes " - " ++ left (codes "crash") 19 ++ codes " " ++ span stay.length
-ending Still stay offset until = still_ending stay until
+unfoldable pub ending : End → Stay → (ℤ → ℤ) → Option ℤ → List ℕ
+ending Logout stay clock until = codes " - " ++ moment stay.end_time clock ++ codes " " ++ span stay.length
+ending Next stay clock until = codes " - " ++ moment stay.end_time clock ++ codes " " ++ span stay.length
+ending Down stay clock until = codes " - " ++ left (codes "down") 19 ++ codes " " ++ span stay.length
+ending Crash stay clock until = codes " - " ++ left (codes "crash") 19 ++ codes " " ++ span stay.length
+ending Still stay clock until = still_ending stay until
 
--- the line of a stay: user, line, remote, recorded start and ending
-unfoldable pub stay_line : ℤ → Option ℤ → Stay → List ℕ
-stay_line offset until stay =
+-- the line of a stay, with moments by a clock: user, line, remote, recorded start and ending
+unfoldable pub stay_line : (ℤ → ℤ) → Option ℤ → Stay → List ℕ
+stay_line clock until stay =
     left (user_column stay) 8 ++ codes " " ++ left (line_column stay) 12 ++ codes " "
-    ++ left (shown stay.remote) 16 ++ codes " " ++ moment stay.start offset
-    ++ ending stay.end stay offset until ++ codes "\n"
+    ++ left (shown stay.remote) 16 ++ codes " " ++ moment stay.start clock
+    ++ ending stay.end stay clock until ++ codes "\n"
 
 -- from when on the host has records
-unfoldable pub beginning : Option ℤ → ℤ → List ℕ
-beginning None offset = codes "wtmp has no records\n"
-beginning (Some first) offset = codes "\nwtmp begins " ++ moment first offset ++ codes "\n"
+unfoldable pub beginning : Option ℤ → (ℤ → ℤ) → List ℕ
+beginning None clock = codes "wtmp has no records\n"
+beginning (Some first) clock = codes "\nwtmp begins " ++ moment first clock ++ codes "\n"
 
--- a line for each stay, and from when on the host has records
-abbrev pub last_text : List Stay → Option ℤ → ℤ → Option ℤ → List ℕ
-last_text rows first offset until = flat_map (stay_line offset until) rows ++ beginning first offset
+-- a line for each stay, and from when on the host has records, with moments by a clock
+abbrev pub last_text : List Stay → Option ℤ → (ℤ → ℤ) → Option ℤ → List ℕ
+last_text rows first clock until = flat_map (stay_line clock until) rows ++ beginning first clock

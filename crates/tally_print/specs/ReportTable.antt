@@ -22,19 +22,19 @@ abbrev pub connect_rows : Bool → Bool → List ConnectRow → ℕ → List Con
 connect_rows false false rows total = record { day = None; user = None; seconds = total } ∷ []
 connect_rows by_day by_user rows total = rows
 
--- the rows of an answer, with moments at an offset in minutes east of UTC; an answer to another kind of question has none
-abbrev pub answer_rows : Table → ℤ → Answer → List Row
-answer_rows Stays offset (answers.Last rows first) = map (stay_fields offset) rows
-answer_rows (Connect by_day by_user) offset (answers.Connect rows total) =
+-- the rows of an answer, with moments by a clock; an answer to another kind of question has none
+abbrev pub answer_rows : Table → (ℤ → ℤ) → Answer → List Row
+answer_rows Stays clock (answers.Last rows first) = map (stay_fields clock) rows
+answer_rows (Connect by_day by_user) clock (answers.Connect rows total) =
     map (connect_fields by_day by_user) (connect_rows by_day by_user rows total)
-answer_rows Commands offset (answers.Commands rows total) = map command_fields rows
-answer_rows Users offset (answers.Users rows total) = map user_fields rows
-answer_rows table offset answer = []
+answer_rows Commands clock (answers.Commands rows total) = map command_fields rows
+answer_rows Users clock (answers.Users rows total) = map user_fields rows
+answer_rows table clock answer = []
 
--- the header once, and then the rows of all answers
-abbrev pub report_rows : Table → ℤ → List Answer → List Row
-report_rows table offset all = header table ∷ flat_map (answer_rows table offset) all
+-- the header once, and then the rows of all answers, with moments by a clock
+abbrev pub report_rows : Table → (ℤ → ℤ) → List Answer → List Row
+report_rows table clock all = header table ∷ flat_map (answer_rows table clock) all
 
 -- the text of that table
-abbrev pub table_text : Table → ℤ → List Answer → List ℕ
-table_text table offset all = csv_text (report_rows table offset all)
+abbrev pub table_text : Table → (ℤ → ℤ) → List Answer → List ℕ
+table_text table clock all = csv_text (report_rows table clock all)

@@ -8,6 +8,6 @@ abbrev pub sections : List (List ℕ) → List ℕ
 sections [] = []
 sections (text ∷ texts) = text ++ flat_map (λ t. 10 ∷ t) texts
 
--- the sections of answers, at an offset in minutes east of UTC, with the moment that their questions gave
-abbrev pub sections_text : List Answer → ℤ → Option ℤ → List ℕ
-sections_text answers offset until = sections (map (λ answer. answer_text answer offset until) answers)
+-- the sections of answers, with moments by a clock, and the moment that their questions gave
+abbrev pub sections_text : List Answer → (ℤ → ℤ) → Option ℤ → List ℕ
+sections_text answers clock until = sections (map (λ answer. answer_text answer clock until) answers)

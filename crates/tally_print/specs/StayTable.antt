@@ -1,25 +1,23 @@
 -- Stays as a table: the file, who and where, times in seconds since 1970 and as moments, whole seconds.
-use Rattle.std.specs.Prelude.{ℕ, ◌+◌, ◌/◌, ◌%◌, if◌then◌else◌, List, [], ◌∷◌, ◌++◌, ℤ, pos, ◌+ℤ◌, ◌*ℤ◌, int_le, unsigned_abs, codes, decimal}
+use Rattle.std.specs.Prelude.{ℕ, ◌+◌, ◌/◌, ◌%◌, if◌then◌else◌, List, [], ◌∷◌, ◌++◌, ℤ, pos, int_le, unsigned_abs, codes, decimal}
 use Rattle.std.specs.Fmt.{signed_decimal}
-use Rattle.std.specs.Int.{int_div_euclid, int_rem_euclid}
+use Rattle.tally_clock.specs.Days.{day_of}
 use Rattle.tally_sessions.specs.declared.entry.End.{End}
 use Rattle.tally_sessions.specs.declared.entry.End.TheVariants.{Logout, Next, Down, Crash, Still}
 use Rattle.tally_sessions.specs.declared.entry.Stay.{Stay}
 use Rattle.tally_print.specs.Tables.{Row}
-use Rattle.tally_print.specs.Text.{shown, two, date, clock}
+use Rattle.tally_print.specs.Text.{date, second_of_day, shown, time_of_day, two}
 
--- `+hh:mm` or `-hh:mm`, from minutes east of UTC
+-- `+hh:mm` or `-hh:mm`, from seconds east of UTC, of which those beyond the last whole minute are cut off
 unfoldable pub zone : ℤ → List ℕ
 zone offset =
     (if int_le (pos 0) offset then codes "+" else codes "-")
-    ++ two (unsigned_abs offset / 60) ++ codes ":" ++ two (unsigned_abs offset % 60)
+    ++ two (unsigned_abs offset / 3600) ++ codes ":" ++ two (unsigned_abs offset / 60 % 60)
 
--- `YYYY-MM-DDThh:mm:ss+hh:mm`, a moment as ISO 8601 has it
-unfoldable pub iso_moment : ℤ → ℤ → List ℕ
-iso_moment t offset =
-    let x = t +ℤ pos 60 *ℤ offset in
-    date (int_div_euclid x (pos 86_400)) ++ codes "T"
-    ++ clock (unsigned_abs (int_rem_euclid x (pos 86_400))) ++ zone offset
+-- `YYYY-MM-DDThh:mm:ss+hh:mm`, a moment by a clock as ISO 8601 has it, with the offset that held at that second
+unfoldable pub iso_moment : ℤ → (ℤ → ℤ) → List ℕ
+iso_moment time clock =
+    date (day_of clock time) ++ codes "T" ++ time_of_day (second_of_day clock time) ++ zone (clock time)
 
 -- the word for what ended a stay
 abbrev pub end_word : End → List ℕ
@@ -48,16 +46,16 @@ unfoldable pub who_fields : Stay → Row
 who_fields stay = decimal (stay.host + 1) ∷ user_field stay ∷ line_field stay ∷ shown stay.remote ∷ []
 
 -- the recorded start, and the start by the clock of the end
-unfoldable pub start_fields : ℤ → Stay → Row
-start_fields offset stay =
-    signed_decimal stay.start ∷ iso_moment stay.start offset ∷ signed_decimal stay.begin ∷ []
+unfoldable pub start_fields : (ℤ → ℤ) → Stay → Row
+start_fields clock stay =
+    signed_decimal stay.start ∷ iso_moment stay.start clock ∷ signed_decimal stay.begin ∷ []
 
 -- what ended the stay, and when
-unfoldable pub end_fields : ℤ → Stay → Row
-end_fields offset stay =
-    end_word stay.end ∷ signed_decimal stay.end_time ∷ iso_moment stay.end_time offset ∷ []
+unfoldable pub end_fields : (ℤ → ℤ) → Stay → Row
+end_fields clock stay =
+    end_word stay.end ∷ signed_decimal stay.end_time ∷ iso_moment stay.end_time clock ∷ []
 
--- the fields of a stay under these names
-unfoldable pub stay_fields : ℤ → Stay → Row
-stay_fields offset stay =
-    who_fields stay ++ start_fields offset stay ++ end_fields offset stay ++ decimal stay.length ∷ []
+-- the fields of a stay under these names, with moments by a clock
+unfoldable pub stay_fields : (ℤ → ℤ) → Stay → Row
+stay_fields clock stay =
+    who_fields stay ++ start_fields clock stay ++ end_fields clock stay ++ decimal stay.length ∷ []

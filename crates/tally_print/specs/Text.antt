@@ -1,6 +1,7 @@
 -- The pieces of printed lines.
-use Rattle.std.specs.Prelude.{ℕ, ◌+◌, ◌-◌, ◌/◌, ◌%◌, not, ◌&&◌, ◌==◌, nat_le, nat_lt, if◌then◌else◌, List, [], ◌∷◌, ◌++◌, map, length, replicate, take_while, ℤ, pos, ◌+ℤ◌, ◌*ℤ◌, unsigned_abs, codes, decimal}
-use Rattle.std.specs.Int.{int_div_euclid, int_rem_euclid}
+use Rattle.std.specs.Prelude.{ℕ, ◌+◌, ◌-◌, ◌/◌, ◌%◌, not, ◌&&◌, ◌==◌, nat_le, nat_lt, if◌then◌else◌, List, [], ◌∷◌, ◌++◌, map, length, replicate, take_while, ℤ, pos, ◌+ℤ◌, unsigned_abs, codes, decimal}
+use Rattle.std.specs.Int.{int_rem_euclid}
+use Rattle.tally_clock.specs.Days.{day_of}
 use Rattle.tally_print.specs.Civil.{year_of, month_of, day_of_month}
 
 -- the text of a field ends at its first NUL or fills the field
@@ -50,15 +51,16 @@ date day =
     ++ codes "-" ++ two (day_of_month day)
 
 -- `hh:mm:ss`, from the seconds since midnight
-unfoldable pub clock : ℕ → List ℕ
-clock r = two (r / 3600) ++ codes ":" ++ two (r / 60 % 60) ++ codes ":" ++ two (r % 60)
+unfoldable pub time_of_day : ℕ → List ℕ
+time_of_day r = two (r / 3600) ++ codes ":" ++ two (r / 60 % 60) ++ codes ":" ++ two (r % 60)
 
--- the date and time of a moment, at an offset of so many minutes east
-unfoldable pub moment : ℤ → ℤ → List ℕ
-moment t offset =
-    let x = t +ℤ pos 60 *ℤ offset in
-    date (int_div_euclid x (pos 86_400)) ++ codes " "
-    ++ clock (unsigned_abs (int_rem_euclid x (pos 86_400)))
+-- the time of day that a clock shows, in seconds; a clock is how far it is ahead of UTC at each second
+abbrev pub second_of_day : (ℤ → ℤ) → ℤ → ℕ
+second_of_day clock time = unsigned_abs (int_rem_euclid (time +ℤ clock time) (pos 86_400))
+
+-- the date and time of a moment, by a clock
+unfoldable pub moment : ℤ → (ℤ → ℤ) → List ℕ
+moment time clock = date (day_of clock time) ++ codes " " ++ time_of_day (second_of_day clock time)
 
 -- `(hh:mm)`, and with whole days `(d+hh:mm)`
 unfoldable pub span : ℕ → List ℕ

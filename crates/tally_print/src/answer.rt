@@ -1,17 +1,19 @@
 ghost use Rattle.tally_book.specs.Answers.{HasDays};
 ghost use Rattle.tally_print.specs.AnswerText.{answer_text};
-ghost use Rattle.tally_sessions.specs.Days.{IsOffset};
+ghost use Rattle.tally_sessions.specs.Days.{IsOffset, local};
 ghost use Rattle.tally_print.specs.Output.{IsWritable, Prints, failed_calls};
 
 use crate::{Output, PrintFault, print_commands, print_connect, print_last, print_users};
 use std::alloc::Global;
 use tally_book::Answer;
+use tally_clock::Clock;
 
-/// Prints an answer as its kind of report, moments at an offset in minutes east of UTC, with the
-/// moment that its question gave. `Write` is a failure of the output in this call; a first part of
-/// the text was written then.
+/// Prints an answer as its kind of report, moments by a clock with an offset in minutes east of it,
+/// with the moment that its question gave. `Write` is a failure of the output in this call; a first
+/// part of the text was written then.
 pub fn print_answer<O: Output>(
     alloc: Global,
+    clock: &Clock,
     answer: &Answer,
     offset: i32,
     out: &mut O,
@@ -21,11 +23,11 @@ pub fn print_answer<O: Output>(
     requires offset { IsOffset offset }
     requires days { HasDays answer.now }
     ensures writes { Prints (O.state out.old) (O.state out.new) result (failed_calls result)
-        (answer_text answer.now offset until) }
+        (answer_text answer.now (local clock.now offset) until) }
 {
     match answer {
         Answer::Last { rows, first } => {
-            print_last(alloc, rows.as_slice(), *first, offset, out, until)
+            print_last(alloc, clock, rows.as_slice(), *first, offset, out, until)
         }
         Answer::Connect { rows, total } => print_connect(alloc, rows.as_slice(), *total, out),
         Answer::Commands { rows, total } => print_commands(alloc, rows.as_slice(), total, out),

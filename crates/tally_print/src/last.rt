@@ -1,15 +1,18 @@
 ghost use Rattle.std.specs.Prelude.{◌≡◌, ◌++◌, OnOk, codes, if◌then◌else◌, ⊤};
-ghost use Rattle.tally_sessions.specs.Days.{IsOffset};
+ghost use Rattle.tally_sessions.specs.Days.{IsOffset, local};
 ghost use Rattle.tally_print.specs.Output.{IsWritable, Prints, failed_calls};
 ghost use Rattle.tally_print.specs.Text.{left, moment, shown, span};
+ghost use Rattle.tally_print.specs.inside.LocalTime.{clock_of};
 ghost use Rattle.tally_print.specs.LastText.{ending, still_ending, still_words, beginning, stay_line, last_text};
 
 use crate::date::push_moment;
 use crate::lines::{Line, put_lines};
+use crate::local::Local;
 use crate::put::{new_page, put_all};
 use crate::text::{push_left, push_left_shown, push_span};
 use crate::{Output, PrintFault};
 use std::alloc::{AllocError, Global};
+use tally_clock::Clock;
 use tally_sessions::{End, Stay};
 
 /// Appends a field of a stay in its column, or the words that a boot has there.
@@ -58,43 +61,44 @@ fn push_still(line: &mut Vec<u8>, stay: &Stay) -> Result<(), AllocError>
     line.extend_from_slice(still_words(stay))
 }
 
-fn push_first(line: &mut Vec<u8>, first: i32, offset: i32) -> Result<(), AllocError>
-    requires { IsOffset offset }
+fn push_first(line: &mut Vec<u8>, first: i32, local: &Local<'_>) -> Result<(), AllocError>
     ensures { OnOk result (line.new.items
-        ≡ line.old.items ++ (codes "\nwtmp begins " ++ moment first offset ++ codes "\n")) }
+        ≡ line.old.items ++ (codes "\nwtmp begins " ++ moment first (clock_of local.now) ++ codes "\n")) }
 {
     line.extend_from_slice(b"\nwtmp begins ")?;
-    push_moment(line, first, offset)?;
+    push_moment(line, first, local)?;
     line.push(b'\n')?;
     Ok(())
 }
 
 #[tactic(auto, unfolding(crate::specs::LastText::beginning))]
-fn push_beginning(line: &mut Vec<u8>, first: Option<i32>, offset: i32) -> Result<(), AllocError>
-    requires { IsOffset offset }
-    ensures { OnOk result (line.new.items ≡ line.old.items ++ beginning first offset) }
+fn push_beginning(
+    line: &mut Vec<u8>,
+    first: Option<i32>,
+    local: &Local<'_>,
+) -> Result<(), AllocError>
+    ensures { OnOk result (line.new.items ≡ line.old.items ++ beginning first (clock_of local.now)) }
 {
     match first {
         None => line.extend_from_slice(b"wtmp has no records\n"),
-        Some(first) => push_first(line, first, offset),
+        Some(first) => push_first(line, first, local),
     }
 }
 
 /// The line of a stay.
 #[derive(Drop)]
-struct StayLine {
-    offset: i32,
+struct StayLine<'a> {
+    local: Local<'a>,
     until: Option<i32>,
-    ghost in_range: { IsOffset offset },
 }
 
-impl StayLine {
+impl StayLine<'_> {
     fn push_logout(&self, page: &mut Vec<u8>, stay: &Stay) -> Result<(), AllocError>
         ensures { OnOk result (page.new.items ≡ page.old.items
-            ++ (codes " - " ++ moment stay.now.end_time self.now.offset ++ codes " " ++ span stay.now.length)) }
+            ++ (codes " - " ++ moment stay.now.end_time (clock_of self.now.local) ++ codes " " ++ span stay.now.length)) }
     {
         page.extend_from_slice(b" - ")?;
-        push_moment(page, stay.end_time, self.offset)?;
+        push_moment(page, stay.end_time, &self.local)?;
         page.push(b' ')?;
         push_span(page, stay.length)
     }
@@ -111,7 +115,7 @@ impl StayLine {
     #[tactic(auto, unfolding(crate::specs::LastText::ending))]
     fn push_ending(&self, page: &mut Vec<u8>, stay: &Stay) -> Result<(), AllocError>
         ensures { OnOk result (page.new.items
-            ≡ page.old.items ++ ending stay.now.end stay.now self.now.offset self.now.until) }
+            ≡ page.old.items ++ ending stay.now.end stay.now (clock_of self.now.local) self.now.until) }
     {
         match stay.end {
             End::Logout => self.push_logout(page, stay),
@@ -124,7 +128,7 @@ impl StayLine {
 
     #[tactic(auto, unfolding(crate::specs::LastText::stay_line))]
     fn push_stay(&self, page: &mut Vec<u8>, stay: &Stay) -> Result<(), AllocError>
-        ensures { OnOk result (page.new.items ≡ page.old.items ++ stay_line self.now.offset self.now.until stay.now) }
+        ensures { OnOk result (page.new.items ≡ page.old.items ++ stay_line (clock_of self.now.local) self.now.until stay.now) }
     {
         push_column(page, stay.is_boot, b"reboot", &stay.user, 8)?;
         page.push(b' ')?;
@@ -132,29 +136,30 @@ impl StayLine {
         page.push(b' ')?;
         push_left_shown(page, &stay.remote, 16)?;
         page.push(b' ')?;
-        push_moment(page, stay.start, self.offset)?;
+        push_moment(page, stay.start, &self.local)?;
         self.push_ending(page, stay)?;
         page.push(b'\n')?;
         Ok(())
     }
 }
 
-impl Line<Stay> for StayLine {
+impl Line<Stay> for StayLine<'_> {
     ghost prints = { λ _. ⊤ };
 
-    ghost text = { λ line stay. stay_line line.offset line.until stay };
+    ghost text = { λ line stay. stay_line (clock_of line.local) line.until stay };
 
     fn push(&self, page: &mut Vec<u8>, stay: &Stay) -> Result<(), AllocError> {
         self.push_stay(page, stay)
     }
 }
 
-/// Prints stays as last(1) does: a line for each, then the time of the host's first record, all
-/// at an offset in minutes east of UTC. Where stays that nothing has ended were counted up to a
-/// moment, their lines have their span. `Write` is a failure of the output in this call; a first
-/// part of the text was written then.
+/// Prints stays as last(1) does: a line for each, then the time of the host's first record, all by
+/// a clock with an offset in minutes east of it. Where stays that nothing has ended were counted up
+/// to a moment, their lines have their span. `Write` is a failure of the output in this call; a
+/// first part of the text was written then.
 pub fn print_last<O: Output>(
     alloc: Global,
+    clock: &Clock,
     rows: &[Stay],
     first: Option<i32>,
     offset: i32,
@@ -164,10 +169,14 @@ pub fn print_last<O: Output>(
     requires writable { IsWritable (O.state out.old) }
     requires offset_in_range { IsOffset offset }
     ensures writes { Prints (O.state out.old) (O.state out.new) result (failed_calls result)
-        (last_text rows.now first offset until) }
+        (last_text rows.now first (local clock.now offset) until) }
 {
     let mut page = new_page(alloc)?;
-    put_lines(&mut page, &StayLine { offset, until }, rows, out)?;
-    push_beginning(&mut page, first, offset)?;
+    let line = StayLine {
+        local: Local { clock, offset },
+        until,
+    };
+    put_lines(&mut page, &line, rows, out)?;
+    push_beginning(&mut page, first, &line.local)?;
     put_all(page.as_slice(), out)
 }

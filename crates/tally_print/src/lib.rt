@@ -10,6 +10,7 @@ mod kept;
 mod last;
 mod laws;
 mod lines;
+mod local;
 mod output;
 mod put;
 mod report_table;

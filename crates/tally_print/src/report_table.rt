@@ -2,7 +2,7 @@
 ghost use Rattle.std.specs.Prelude.{◌≡◌, All};
 ghost use Rattle.csv.specs.Writing.{default_writer, row_text};
 ghost use Rattle.tally_book.specs.Answers.{HasDays};
-ghost use Rattle.tally_sessions.specs.Days.{IsOffset};
+ghost use Rattle.tally_sessions.specs.Days.{IsOffset, local};
 ghost use Rattle.tally_print.specs.Output.{IsWritable, Prints, failed_calls};
 ghost use Rattle.tally_print.specs.ReportTable.{answer_rows, header, table_text};
 ghost use Rattle.tally_print.specs.Tables.{csv_text};
@@ -10,12 +10,14 @@ ghost use Rattle.tally_print.specs.Tables.{csv_text};
 use crate::connect::total_row;
 use crate::connect_table::{ConnectFields, connect_header};
 use crate::lines::print_fields;
+use crate::local::Local;
 use crate::put::put_all;
 use crate::stay_table::{StayFields, stay_header};
 use crate::usage_table::{CommandFields, UserFields, command_header, user_header};
 use crate::{Output, PrintFault};
 use std::alloc::Global;
 use tally_book::Answer;
+use tally_clock::Clock;
 
 /// Which table a report is as CSV: this says its columns.
 #[derive(Clone, Copy, Debug, PartialEq, Eq)]
@@ -44,6 +46,7 @@ fn header(table: Table) -> &'static [u8]
 /// Prints the rows of an answer.
 fn print_answer_rows<O: Output>(
     alloc: Global,
+    clock: &Clock,
     table: Table,
     answer: &Answer,
     offset: i32,
@@ -53,11 +56,12 @@ fn print_answer_rows<O: Output>(
     requires offset { IsOffset offset }
     requires days { HasDays answer.now }
     ensures writes { Prints (O.state out.old) (O.state out.new) result (failed_calls result)
-        (csv_text (answer_rows table offset answer.now)) }
+        (csv_text (answer_rows table (local clock.now offset) answer.now)) }
 {
     match (table, answer) {
         (Table::Stays, Answer::Last { rows, .. }) => {
-            print_fields(alloc, &StayFields { offset }, rows.as_slice(), out)
+            let local = Local { clock, offset };
+            print_fields(alloc, &StayFields { local }, rows.as_slice(), out)
         }
         (Table::Connect { by_day, by_user }, Answer::Connect { rows, total }) => {
             let fields = ConnectFields { by_day, by_user };
@@ -78,10 +82,12 @@ fn print_answer_rows<O: Output>(
 }
 
 /// Prints the answers of a report as one table in CSV: the header, and then a row for each row of
-/// each answer, moments at an offset in minutes east of UTC. `Write` is a failure of the output in
-/// this call; a first part of the text was written then.
+/// each answer, moments by a clock with an offset in minutes east of it. A moment has the offset
+/// that held at that second, its seconds cut off. `Write` is a failure of the output in this call; a
+/// first part of the text was written then.
 pub fn print_table<O: Output>(
     alloc: Global,
+    clock: &Clock,
     table: Table,
     answers: &[Answer],
     offset: i32,
@@ -91,11 +97,11 @@ pub fn print_table<O: Output>(
     requires offset { IsOffset offset }
     requires days { All HasDays answers.now }
     ensures writes { Prints (O.state out.old) (O.state out.new) result (failed_calls result)
-        (table_text table offset answers.now) }
+        (table_text table (local clock.now offset) answers.now) }
 {
     put_all(header(table), out)?;
     for answer in answers {
-        print_answer_rows(alloc, table, answer, offset, out)?;
+        print_answer_rows(alloc, clock, table, answer, offset, out)?;
     }
     Ok(())
 }

@@ -3,18 +3,20 @@ ghost use Rattle.std.specs.Prelude.{All};
 ghost use Rattle.tally_book.specs.Answers.{HasDays};
 ghost use Rattle.tally_print.specs.Output.{IsWritable, Prints, failed_calls};
 ghost use Rattle.tally_print.specs.Sections.{sections_text};
-ghost use Rattle.tally_sessions.specs.Days.{IsOffset};
+ghost use Rattle.tally_sessions.specs.Days.{IsOffset, local};
 
 use crate::put::put_all;
 use crate::{Output, PrintFault, print_answer};
 use std::alloc::Global;
 use tally_book::Answer;
+use tally_clock::Clock;
 
-/// Prints the answers, each as its kind of report, with an empty line between each two, moments at
-/// an offset in minutes east of UTC, with the moment that their questions gave. `Write` is a
-/// failure of the output in this call; a first part of the text was written then.
+/// Prints the answers, each as its kind of report, with an empty line between each two, moments by
+/// a clock with an offset in minutes east of it, with the moment that their questions gave. `Write`
+/// is a failure of the output in this call; a first part of the text was written then.
 pub fn print_sections<O: Output>(
     alloc: Global,
+    clock: &Clock,
     answers: &[Answer],
     offset: i32,
     out: &mut O,
@@ -24,15 +26,15 @@ pub fn print_sections<O: Output>(
     requires offset { IsOffset offset }
     requires days { All HasDays answers.now }
     ensures writes { Prints (O.state out.old) (O.state out.new) result (failed_calls result)
-        (sections_text answers.now offset until) }
+        (sections_text answers.now (local clock.now offset) until) }
 {
     let Some((first, others)) = answers.split_first() else {
         return Ok(());
     };
-    print_answer(alloc, first, offset, out, until)?;
+    print_answer(alloc, clock, first, offset, out, until)?;
     for answer in others {
         put_all(b"\n", out)?;
-        print_answer(alloc, answer, offset, out, until)?;
+        print_answer(alloc, clock, answer, offset, out, until)?;
     }
     Ok(())
 }

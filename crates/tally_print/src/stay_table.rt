@@ -2,20 +2,23 @@
 ghost use Rattle.std.specs.Prelude.{◌≡◌, ◌+◌, ◌++◌, ◌∷◌, [], OnOk, decimal, ⊤, refl};
 ghost use Rattle.std.specs.Fmt.{signed_decimal};
 ghost use Rattle.csv.specs.Writing.{default_writer, field_text, row_text};
-ghost use Rattle.tally_sessions.specs.Days.{IsOffset};
 ghost use Rattle.tally_print.specs.StayTable.{end_word, iso_moment, line_field, stay_fields, stay_header, user_field, zone};
 ghost use Rattle.tally_print.specs.Text.{shown};
+ghost use Rattle.tally_print.specs.inside.LocalTime.{IsAhead, clock_of};
 
 use crate::date::push_marked_moment;
 use crate::fields::{push_number, push_seconds, push_shown_field};
 use crate::lines::{Fields, Line};
+use crate::local::Local;
 use crate::text::push_two;
 use std::alloc::AllocError;
 use tally_sessions::{End, Stay};
 
+/// Appends an offset in seconds east of UTC as hours and minutes. Seconds beyond the last whole
+/// minute are cut off, and the sign stays: 30 seconds west print as `-00:00`.
 #[tactic(auto, unfolding(crate::specs::StayTable::zone))]
 fn push_zone(line: &mut Vec<u8>, offset: i32) -> Result<(), AllocError>
-    requires { IsOffset offset }
+    requires { IsAhead offset }
     ensures { OnOk result (line.new.items ≡ line.old.items ++ zone offset) }
 {
     if offset < 0 {
@@ -23,19 +26,19 @@ fn push_zone(line: &mut Vec<u8>, offset: i32) -> Result<(), AllocError>
     } else {
         line.push(b'+')?;
     }
-    let minutes = offset.unsigned_abs();
-    push_two(line, (minutes / 60) as u8)?;
+    let seconds = offset.unsigned_abs();
+    push_two(line, (seconds / 3600) as u8)?;
     line.push(b':')?;
-    push_two(line, (minutes % 60) as u8)
+    push_two(line, (seconds / 60 % 60) as u8)
 }
 
 #[tactic(auto, unfolding(crate::specs::StayTable::iso_moment))]
-fn push_iso(line: &mut Vec<u8>, time: i32, offset: i32) -> Result<(), AllocError>
-    requires { IsOffset offset }
-    ensures { OnOk result (line.new.items ≡ line.old.items ++ iso_moment time offset) }
+fn push_iso(line: &mut Vec<u8>, time: i32, local: &Local<'_>) -> Result<(), AllocError>
+    ensures { OnOk result (line.new.items ≡ line.old.items ++ iso_moment time (clock_of local.now)) }
 {
-    push_marked_moment(line, time, b'T', offset)?;
-    push_zone(line, offset)
+    let ahead = local.ahead_at(time);
+    push_marked_moment(line, time, b'T', ahead)?;
+    push_zone(line, ahead)
 }
 
 /// Appends a time in seconds since 1970, and the mark after it.
@@ -123,59 +126,55 @@ fn push_begin(line: &mut Vec<u8>, stay: &Stay) -> Result<(), AllocError>
     push_time(line, stay.begin)
 }
 
-fn push_start(line: &mut Vec<u8>, stay: &Stay, offset: i32) -> Result<(), AllocError>
-    requires { IsOffset offset }
+fn push_start(line: &mut Vec<u8>, stay: &Stay, local: &Local<'_>) -> Result<(), AllocError>
     ensures { OnOk result (line.new.items ≡ line.old.items ++ (signed_decimal stay.now.start ++ 44 ∷ []
-        ++ iso_moment stay.now.start offset ++ 44 ∷ [] ++ (signed_decimal stay.now.begin ++ 44 ∷ []))) }
+        ++ iso_moment stay.now.start (clock_of local.now) ++ 44 ∷ [] ++ (signed_decimal stay.now.begin ++ 44 ∷ []))) }
 {
     push_time(line, stay.start)?;
-    push_iso(line, stay.start, offset)?;
+    push_iso(line, stay.start, local)?;
     line.push(b',')?;
     push_begin(line, stay)
 }
 
-fn push_ending(line: &mut Vec<u8>, stay: &Stay, offset: i32) -> Result<(), AllocError>
-    requires { IsOffset offset }
+fn push_ending(line: &mut Vec<u8>, stay: &Stay, local: &Local<'_>) -> Result<(), AllocError>
     ensures { OnOk result (line.new.items ≡ line.old.items ++ (field_text default_writer (end_word stay.now.end) ++ 44 ∷ []
-        ++ signed_decimal stay.now.end_time ++ 44 ∷ [] ++ iso_moment stay.now.end_time offset ++ 44 ∷ [])) }
+        ++ signed_decimal stay.now.end_time ++ 44 ∷ [] ++ iso_moment stay.now.end_time (clock_of local.now) ++ 44 ∷ [])) }
 {
     push_end(line, stay.end)?;
     line.push(b',')?;
     push_time(line, stay.end_time)?;
-    push_iso(line, stay.end_time, offset)?;
+    push_iso(line, stay.end_time, local)?;
     line.push(b',')?;
     Ok(())
 }
 
-fn push_row(line: &mut Vec<u8>, stay: &Stay, offset: i32) -> Result<(), AllocError>
-    requires { IsOffset offset }
-    ensures { OnOk result (line.new.items ≡ line.old.items ++ row_text default_writer (stay_fields offset stay.now)) }
+fn push_row(line: &mut Vec<u8>, stay: &Stay, local: &Local<'_>) -> Result<(), AllocError>
+    ensures { OnOk result (line.new.items ≡ line.old.items ++ row_text default_writer (stay_fields (clock_of local.now) stay.now)) }
 {
     push_who(line, stay)?;
-    push_start(line, stay, offset)?;
-    push_ending(line, stay, offset)?;
+    push_start(line, stay, local)?;
+    push_ending(line, stay, local)?;
     push_seconds(line, stay.length)
 }
 
 /// The fields of a stay.
 #[derive(Drop)]
-pub(crate) struct StayFields {
-    pub(crate) offset: i32,
-    ghost in_range: { IsOffset offset },
+pub(crate) struct StayFields<'a> {
+    pub(crate) local: Local<'a>,
 }
 
-impl Line<Stay> for StayFields {
+impl Line<Stay> for StayFields<'_> {
     ghost prints = { λ _. ⊤ };
 
-    ghost text = { λ fields stay. row_text default_writer (stay_fields fields.offset stay) };
+    ghost text = { λ fields stay. row_text default_writer (stay_fields (clock_of fields.local) stay) };
 
     fn push(&self, page: &mut Vec<u8>, stay: &Stay) -> Result<(), AllocError> {
-        push_row(page, stay, self.offset)
+        push_row(page, stay, &self.local)
     }
 }
 
-impl Fields<Stay> for StayFields {
-    ghost fields = { λ fields stay. stay_fields fields.offset stay };
+impl Fields<Stay> for StayFields<'_> {
+    ghost fields = { λ fields stay. stay_fields (clock_of fields.local) stay };
 
     ghost line_is = { λ _ _. refl };
 }

@@ -16,8 +16,8 @@ pub fn a_table_reads_back()
 
 /// A reader gets the header and just the rows of a report, field by field.
 pub fn reports_read_back()
-    ensures { (table : Table) (offset : ℤ) (answers : List Answer)
-        → csv_rows (table_text table offset answers) ≡ report_rows table offset answers }
+    ensures { (table : Table) (clock : ℤ → ℤ) (answers : List Answer)
+        → csv_rows (table_text table clock answers) ≡ report_rows table clock answers }
 {}
 
 /// The last field of each row of connect times says its seconds, to the second.

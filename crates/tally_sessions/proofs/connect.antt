@@ -1,4 +1,24 @@
 -- Rows of connect time.
 pub mod Ahead
+pub mod Candidates
+pub mod CompleteRows
+pub mod CountLemmas
+pub mod CutChanges
+pub mod CutLemmas
+pub mod DayChanges
+pub mod DayRows
+pub mod DaySpread
+pub mod DayTable
+pub mod DayUsers
+pub mod KeyLemmas
 pub mod RowLemmas
+pub mod RowOrder
+pub mod RowSteps
+pub mod RowWalk
+pub mod UserChanges
+pub mod UserCounts
+pub mod UserRowWalk
 pub mod UserRows
+pub mod UserTable
+pub mod Walked
+pub mod Weights

@@ -1,7 +1,10 @@
 -- What no public contract cites.
+pub mod Changes
+pub mod Counts
 pub mod Entries
 pub mod Kept
 pub mod Numbers
+pub mod Spans
 pub mod Stored
 pub mod Sums
 pub mod Totals

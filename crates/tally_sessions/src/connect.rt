@@ -2,12 +2,17 @@
 ghost use Rattle.std.specs.Prelude.{◌≡◌, ℕ, List as Items, All, IfOk, filter, map};
 ghost use Rattle.std.specs.BTreeMap.{IsOrdered};
 ghost use Rattle.std.specs.Cmp.Lexicographic.{slice_cmp};
-ghost use Rattle.std.specs.Ordering.{nat_cmp};
+ghost use Rattle.std.specs.Ordering.{int_cmp, nat_cmp};
 ghost use Rattle.tally_sessions.specs.Days.{IsDay, IsOffset, local};
-ghost use Rattle.tally_sessions.specs.inside.Sums.{above_zero, user_time_of, sum_at};
+ghost use Rattle.tally_sessions.specs.inside.Sums.{above_zero, day_time_of, user_time_of, sum_at};
 ghost use Rattle.tally_sessions.specs.Rows.{day_times, day_user_times, user_times};
 ghost use Rattle.tally_sessions.specs.Totals.{connect_of};
 
+mod cut;
+mod day_sums;
+mod day_user_rows;
+pub(crate) mod keys;
+mod span;
 mod user_sums;
 pub(crate) mod walk;
 
@@ -27,6 +32,20 @@ fn user_rows(alloc: Global, sums: &BTreeMap<Name, u64>) -> Result<Vec<UserTime>,
         .filter(|(_user, seconds)| **seconds > 0)
         .map(|(user, seconds)| UserTime {
             user: *user,
+            seconds: *seconds,
+        })
+        .collect(alloc)
+}
+
+/// The rows of the days whose sum is above 0.
+fn day_rows(alloc: Global, sums: &BTreeMap<i32, u64>) -> Result<Vec<DayTime>, AllocError>
+    ensures rows { IfOk result (λ rows. rows.items ≡ map day_time_of (filter above_zero sums.now.entries)) }
+    ensures ordered { IsOrdered int_cmp sums.now }
+{
+    sums.iter()
+        .filter(|(_day, seconds)| **seconds > 0)
+        .map(|(day, seconds)| DayTime {
+            day: *day,
             seconds: *seconds,
         })
         .collect(alloc)
@@ -71,7 +90,8 @@ impl Sessions {
         ensures value { IfOk result (λ rows. rows ≡ day_times (local clock.now offset) self.now.entries until) }
         ensures days { IfOk result (All (λ row. IsDay row.day)) }
     {
-        Err(Memory)
+        let sums = self.day_sums(alloc, clock, offset, until)?;
+        List::from_vec(alloc, day_rows(alloc, &sums)?)
     }
 
     /// The connect time of each user on each day, where there is any, by day and then by name
@@ -87,6 +107,6 @@ impl Sessions {
         ensures value { IfOk result (λ rows. rows ≡ day_user_times (local clock.now offset) self.now.entries until) }
         ensures days { IfOk result (All (λ row. IsDay row.day)) }
     {
-        Err(Memory)
+        List::from_vec(alloc, self.day_user_rows(alloc, clock, offset, until)?)
     }
 }

@@ -10,16 +10,20 @@
 #![tactic(auto)]
 
 mod connect;
+mod days;
 mod entries;
 mod entry;
+mod laws;
 mod sessions;
 mod sums;
 mod times;
 mod track;
 
+pub use crate::days::days_add_up;
 pub use crate::entries::Entries;
 pub use crate::entries::iter::EntryIter;
 pub use crate::entries::list::EntryList;
 pub use crate::entry::{End, Entry, Stay};
+pub use crate::laws::times_have_rows;
 pub use crate::sessions::{ENTRY_LIMIT, HOST_LIMIT, Sessions};
 pub use crate::times::{DayTime, DayUserTime, UserTime};

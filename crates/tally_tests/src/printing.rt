@@ -7,6 +7,7 @@ use crate::watched::Watched;
 use std::alloc::Global;
 use std::io::{self, Write};
 use tally_book::{Answer, Receipt, Served};
+use tally_clock::Clock;
 use tally_print::{PrintFault, print_answer};
 use tally_records::Memory;
 
@@ -26,11 +27,11 @@ fn text(alloc: Global, answer: &Answer) -> Result<Watched, Stopped>
     requires { HasDays answer.now }
 {
     let mut first = Watched::new(alloc);
-    let Err(fault) = print_answer(alloc, answer, 0, &mut first, None) else {
+    let Err(fault) = print_answer(alloc, &Clock::utc(alloc), answer, 0, &mut first, None) else {
         return Ok(first);
     };
     let mut second = Watched::new(alloc);
-    print_answer(alloc, answer, 0, &mut second, None)?;
+    print_answer(alloc, &Clock::utc(alloc), answer, 0, &mut second, None)?;
     if (fault == PrintFault::Write) != first.failed {
         return Err(Stopped::Changed("a fault of the output"));
     }

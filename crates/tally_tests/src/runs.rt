@@ -11,6 +11,7 @@ use std::sync::Wait;
 use std::thread::Threads;
 use tally_book::AskFault;
 use tally_cli::{Form, Job, Report, RunFault, Source, run};
+use tally_clock::Clock;
 use tally_desk::{Bytes, FeedFault, OpenGate};
 use tally_records::Kind;
 
@@ -57,7 +58,7 @@ fn run_once<R: Threads + Wait + Sync>(
         Ok(files) => files,
     };
     let mut out = Watched::new(alloc);
-    let outcome = run(rt, alloc, keys, &JOB, files, &OpenGate, &mut out);
+    let outcome = run(rt, alloc, keys, &Clock::utc(alloc), &JOB, files, &OpenGate, &mut out);
     Ok((outcome, out))
 }
 

@@ -2,6 +2,7 @@
 ghost use Rattle.std.specs.Prelude.{◌≡◌};
 
 use std::alloc::Global;
+use tally_clock::Clock;
 use tally_records::{List, Memory, Name};
 use tally_sessions::{DayTime, DayUserTime, Entry, Sessions, Stay, UserTime};
 
@@ -54,8 +55,8 @@ fn ask_all(alloc: Global, sessions: &Sessions) -> Result<Answers, Memory>
         of_first_host: sessions.stays(alloc, 0, None, None)?,
         of_second_host: sessions.stays(alloc, 1, None, None)?,
         by_user: sessions.connect_by_user(alloc, None)?,
-        by_day: sessions.connect_by_day(alloc, 0, None)?,
-        by_both: sessions.connect_by_day_user(alloc, 0, None)?,
+        by_day: sessions.connect_by_day(alloc, &Clock::utc(alloc), 0, None)?,
+        by_both: sessions.connect_by_day_user(alloc, &Clock::utc(alloc), 0, None)?,
     })
 }
 

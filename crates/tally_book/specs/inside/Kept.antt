@@ -8,6 +8,7 @@ use Rattle.tally_book.specs.Contents.{Contents}
 abbrev pub contents_of : Inside → Contents
 contents_of b = record {
   callers = b.callers;
+  clock = b.clock;
   logins = b.logins.entries;
   procs = b.summary.entries;
   calls = b.calls.items;

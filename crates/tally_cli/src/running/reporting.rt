@@ -14,6 +14,7 @@ use crate::running::sections::{answers_to, questions_of};
 use std::alloc::Global;
 use std::thread::Threads;
 use tally_book::{Answer, Book};
+use tally_clock::Clock;
 use tally_line::Job;
 use tally_print::Output;
 use tally_records::{Kind, Memory};
@@ -32,7 +33,7 @@ fn answers_in<R: Threads + Sync>(
     requires few { book.old.callers ≤ HOST_LIMIT }
     requires some { 0 < book.old.callers }
     requires calls { length book.old.calls ≤ 4224 }
-    ensures value { IfOk result (λ answers. answers.items ≡ map (λ q. answer_of q book.old.logins book.old.procs)
+    ensures value { IfOk result (λ answers. answers.items ≡ map (λ q. answer_of book.old.clock q book.old.logins book.old.procs)
         (questions_of job.now.report job.now.offset kinds.now job.now.until)) }
     ensures days { IfOk result (λ answers. All HasDays answers.items) }
 {
@@ -54,17 +55,18 @@ fn answers_of<R: Threads + Sync>(
     requires few { book.callers ≤ HOST_LIMIT }
     requires some { 0 < book.callers }
     requires calls { length book.calls ≤ 4224 }
-    ensures value { IfOk result (λ answers. answers.items ≡ map (λ q. answer_of q book.logins book.procs)
+    ensures value { IfOk result (λ answers. answers.items ≡ map (λ q. answer_of book.clock q book.logins book.procs)
         (questions_of job.now.report job.now.offset kinds.now job.now.until)) }
     ensures days { IfOk result (λ answers. All HasDays answers.items) }
 {
     answers_in(rt, alloc, job, kinds, &mut book)
 }
 
-/// Prints the job's report of the book, of which each file is a host.
+/// Prints the job's report of the book, of which each file is a host, in the time of the book's clock.
 pub(crate) fn report<R: Threads + Sync, O: Output>(
     rt: &R,
     alloc: Global,
+    clock: &Clock,
     job: &Job,
     kinds: &[Kind],
     book: Book,
@@ -75,13 +77,14 @@ pub(crate) fn report<R: Threads + Sync, O: Output>(
     requires few { book.callers ≤ HOST_LIMIT }
     requires some { 0 < book.callers }
     requires calls { length book.calls ≤ 4224 }
+    requires clock { book.clock ≡ clock.now }
     requires writable { IsWritable (O.state out.old) }
     ensures writes { Prints (O.state out.old) (O.state out.new) result (failed_writes result)
-        (report_text job.now kinds.now book.logins book.procs) }
+        (report_text clock.now job.now kinds.now book.logins book.procs) }
     ensures cause { IfErr result IsPrintFault }
 {
     let answers = answers_of(rt, alloc, job, kinds, book)?;
-    print_answers(alloc, job, answers.as_slice(), out)?;
+    print_answers(alloc, clock, job, answers.as_slice(), out)?;
     Ok(())
 }
 

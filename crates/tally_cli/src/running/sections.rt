@@ -123,7 +123,7 @@ fn answer_to(alloc: Global, book: &mut Book, question: &Question) -> Result<Answ
     requires host { NamesHostBelow book.old.callers question.now }
     requires room { length book.old.calls < CALL_LIMIT }
     ensures stored { OnOk result (book.new ≡ asked book.old 0 question.now) }
-    ensures value { IfOk result (λ a. a ≡ answer_of question.now book.old.logins book.old.procs) }
+    ensures value { IfOk result (λ a. a ≡ answer_of book.old.clock question.now book.old.logins book.old.procs) }
     ensures days { IfOk result HasDays }
 {
     match book.ask(alloc, 0, question) {
@@ -144,7 +144,7 @@ pub(crate) fn answers_to(
     requires hosts { All (NamesHostBelow book.old.callers) questions.now }
     requires room { length book.old.calls + length questions.now ≤ CALL_LIMIT }
     ensures value { IfOk result (λ answers. answers.items
-        ≡ map (λ q. answer_of q book.old.logins book.old.procs) questions.now) }
+        ≡ map (λ q. answer_of book.old.clock q book.old.logins book.old.procs) questions.now) }
     ensures days { IfOk result (λ answers. All HasDays answers.items) }
 {
     let mut answers = Vec::with_capacity(alloc, questions.len())?;

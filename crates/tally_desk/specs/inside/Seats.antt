@@ -33,6 +33,7 @@ pub record IsNext (number : ℕ) (before after : Contents) : Type 0 where
   pub logins : IsPrefix before.logins after.logins
   pub procs : IsPrefix before.procs after.procs
   pub callers : after.callers ≡ before.callers
+  pub clock : after.clock ≡ before.clock
   pub legal : IsLegal after
 
 -- a call was answered and is the next one, or it was refused and the book is as it was

@@ -1,8 +1,10 @@
 -- What seats know.
 use Rattle.std.specs.Prelude.{ℕ, List, [], ◌∷◌, ◌++◌, length, map, take, drop, sum_by}
 use Rattle.std.specs.List.{range_with_len}
+use Rattle.tally_clock.specs.Rows.{ClockRows}
 use Rattle.tally_book.specs.Contents.{Contents}
 use Rattle.tally_book.specs.Books.{calls_of}
+use Rattle.tally_desk.specs.declared.lock.rule.Opening.{Opening}
 use Rattle.tally_desk.specs.declared.lock.view.Known.{Known}
 use Rattle.tally_desk.specs.declared.lock.view.Stage.{Stage}
 use Rattle.tally_desk.specs.declared.lock.view.Stage.TheVariants.{Idle, Waiting, Serving}
@@ -14,12 +16,12 @@ abbrev pub view : List Known → Stage → View
 view known stage = record { known = known; stage = stage }
 
 -- the n newcomers from a number on
-abbrev pub newcomers : ℕ → ℕ → ℕ → List Known
-newcomers callers number n = map (newcomer callers) (range_with_len number n)
+abbrev pub newcomers : ClockRows → ℕ → ℕ → ℕ → List Known
+newcomers clock callers number n = map (newcomer clock callers) (range_with_len number n)
 
 -- the first seat stands for all callers
-abbrev pub opening_view : ℕ → View
-opening_view callers = view (newcomers callers 0 callers) Idle
+abbrev pub opening_view : Opening → View
+opening_view o = view (newcomers o.clock o.callers 0 o.callers) Idle
 
 -- the first caller of a seat, which gets its own seat
 abbrev pub dealt : View → View

@@ -6,13 +6,21 @@ ghost use Rattle.tally_desk.specs.inside.Steps.{Draws, Looks, Counts, Leaves, Te
 use crate::lock::view::View;
 use atomic_table::{Join, Play, Split, TableRule};
 use tally_book::Book;
+use tally_clock::Clock;
+
+/// What a table opens with: how many callers it has, and the clock of the book's days.
+#[derive(Drop)]
+pub struct Opening {
+    pub callers: u32,
+    pub clock: Clock,
+}
 
 /// The table of so many callers: its words are the calls, the next ticket and the ticket that is
 /// served, and its slot is the book.
 pub struct Order;
 
-impl TableRule<Book, View, u32> for Order {
-    ghost holds = { Orderly };
+impl TableRule<Book, View, Opening> for Order {
+    ghost holds = { λ o. Orderly o.callers };
 
     ghost first = { opening_view };
 }

@@ -9,6 +9,7 @@ use std::sync::atomic::{AtomicU64, Ordering};
 use std::test::Fail;
 use std::thread::Threads;
 use tally_cli::{Report, RunFault, Source, run};
+use tally_clock::Clock;
 use tally_desk::{Input, InputFault, OpenGate};
 use tally_print::{Output, OutputFault};
 use tally_records::Kind;
@@ -104,7 +105,7 @@ fn all_over<R: AllocGlobal + Threads + Wait + Sync>(
     }
     let job = text_job(Report::All, 1, 0);
     let mut out = Closing::new(fails);
-    let outcome = run(rt, rt.alloc(), keys, &job, sources, &OpenGate, &mut out);
+    let outcome = run(rt, rt.alloc(), keys, &Clock::utc(rt.alloc()), &job, sources, &OpenGate, &mut out);
     Ok(Ended {
         outcome,
         out,
@@ -171,6 +172,7 @@ fn an_output_that_fails_ends_the_run(rt: HostRuntime) -> Result<(), Fail> {
         &rt,
         rt.alloc(),
         RandomState::new(&rt)?,
+        &Clock::utc(rt.alloc()),
         &text_job(TOTAL, 4, 0),
         sources,
         &OpenGate,

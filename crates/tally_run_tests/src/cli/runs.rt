@@ -8,6 +8,7 @@ use std::sync::Wait;
 use std::test::Fail;
 use std::thread::Threads;
 use tally_cli::{Form, Job, Report, RunFault, Source, run};
+use tally_clock::Clock;
 use tally_desk::{Bytes, FeedFault, OpenGate};
 use tally_print::Kept;
 use tally_records::Kind;
@@ -86,7 +87,7 @@ fn run_over<R: AllocGlobal + Threads + Wait + Sync>(
 ) -> (Result<(), RunFault>, Kept) {
     let job = text_job(report, 4, 0);
     let mut out = Kept::new(rt.alloc());
-    let outcome = run(rt, rt.alloc(), keys, &job, sources, &OpenGate, &mut out);
+    let outcome = run(rt, rt.alloc(), keys, &Clock::utc(rt.alloc()), &job, sources, &OpenGate, &mut out);
     (outcome, out)
 }
 

@@ -10,6 +10,7 @@ use std::test::Fail;
 use std::thread;
 use std::thread::Threads;
 use tally_cli::{Report, RunFault, Source, run};
+use tally_clock::Clock;
 use tally_desk::{Bytes, Gate, OpenGate};
 use tally_print::Kept;
 use tally_records::Kind;
@@ -82,7 +83,7 @@ fn all_of_two<R: AllocGlobal + Threads + Wait + Sync, G: Gate + Sync>(
     sources.push(Source { kind, input: bob })?;
     let job = text_job(Report::All, feeders, askers);
     let mut out = Kept::new(alloc);
-    let outcome = run(rt, alloc, keys, &job, sources, gate, &mut out);
+    let outcome = run(rt, alloc, keys, &Clock::utc(alloc), &job, sources, gate, &mut out);
     Ok((outcome, out))
 }
 

@@ -1,20 +1,22 @@
 //! The lines of last(1).
-use super::{boot, is_printed, login};
+use super::{berlin, boot, is_printed, login};
 use std::alloc::Global;
 use std::process::Abort;
+use tally_clock::Clock;
 use tally_print::{Kept, print_last};
 use tally_sessions::{End, Stay};
 
 /// Asserts that the stays of host 0 print this text.
 /// Where a growth is refused, the second try prints it.
 fn expect_last(rt: &impl Abort, alloc: Global, rows: &[Stay], first: Option<i32>, text: &[u8]) {
-    expect_until(rt, alloc, rows, first, None, text);
+    expect_until(rt, alloc, &Clock::utc(alloc), rows, first, None, text);
 }
 
-/// The same, with stays that nothing has ended counted up to a moment.
+/// The same by a clock, with stays that nothing has ended counted up to a moment.
 fn expect_until(
     rt: &impl Abort,
     alloc: Global,
+    clock: &Clock,
     rows: &[Stay],
     first: Option<i32>,
     until: Option<i32>,
@@ -22,7 +24,7 @@ fn expect_until(
 ) {
     for _ in 0..2 {
         let mut out = Kept::new(alloc);
-        let printed = print_last(alloc, rows, first, 0, &mut out, until);
+        let printed = print_last(alloc, clock, rows, first, 0, &mut out, until);
         if is_printed(rt, printed, &out, text) {
             return;
         }
@@ -83,7 +85,8 @@ ann      tty1                          1970-01-01 00:03:20 - down               
 
 wtmp begins 1970-01-01 00:03:20
 ";
-    expect_until(&rt, rt.alloc(), &rows, Some(200), Some(5000), text);
+    let utc = Clock::utc(rt.alloc());
+    expect_until(&rt, rt.alloc(), &utc, &rows, Some(200), Some(5000), text);
 }
 
 #[test]
@@ -122,7 +125,23 @@ fn an_offset_moves_dates_to_the_ends_of_time(rt: HostRuntime) {
         (i32::MAX, 1439, b"\nwtmp begins 2038-01-20 03:13:07\n"),
     ] {
         let mut out = Kept::new(rt.alloc());
-        let printed = print_last(rt.alloc(), &[], Some(first), offset, &mut out, None);
+        let utc = Clock::utc(rt.alloc());
+        let printed = print_last(rt.alloc(), &utc, &[], Some(first), offset, &mut out, None);
         assert!(rt; printed.is_err() || out.bytes() == text.as_slice());
     }
+}
+
+#[test]
+fn clocks_go_forward_within_a_stay(rt: HostRuntime) {
+    let Some(berlin) = berlin(&rt, rt.alloc()) else {
+        return;
+    };
+    let ann = login(b"ann", 1_774_745_999, End::Logout, 1_774_746_000, 1);
+    let text = b"\
+ann      tty1                          2026-03-29 01:59:59 - 2026-03-29 03:00:00 (00:00)
+
+wtmp begins 2026-03-29 01:59:59
+";
+    let first = Some(1_774_745_999);
+    expect_until(&rt, rt.alloc(), &berlin, &[ann], first, None, text);
 }

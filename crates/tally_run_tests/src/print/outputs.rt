@@ -6,6 +6,7 @@ use std::alloc::Global;
 use std::io::{self, ErrorKind, Write};
 use std::process::Abort;
 use std::test::Fail;
+use tally_clock::Clock;
 use tally_print::{Output, OutputFault, PrintFault, Writing, print_last};
 use tally_sessions::{End, Stay};
 
@@ -74,7 +75,8 @@ fn print_narrow(
         room,
         failures: 0,
     };
-    let printed = print_last(alloc, rows, Some(100), 0, &mut out, None);
+    let utc = Clock::utc(alloc);
+    let printed = print_last(alloc, &utc, rows, Some(100), 0, &mut out, None);
     let count = room.min(BOOTS.len());
     assert!(rt; out.bytes.as_slice() == BOOTS.split_at(count).0);
     assert!(rt; out.failures == if printed.is_ok() { 0 } else { 1 });
@@ -127,7 +129,8 @@ fn the_writer_is_flushed_at_the_end(rt: HostRuntime) {
 fn any_writer_takes_the_text(rt: HostRuntime) -> Result<(), Fail> {
     let mut held = Vec::new(rt.alloc());
     let mut out = Writing::new(&mut held);
-    print_last(rt.alloc(), &boots(), Some(100), 0, &mut out, None)?;
+    let utc = Clock::utc(rt.alloc());
+    print_last(rt.alloc(), &utc, &boots(), Some(100), 0, &mut out, None)?;
     out.finish()?;
     drop(out);
     assert!(rt; held.as_slice() == BOOTS);

@@ -3,10 +3,11 @@ ghost use Rattle.std.specs.Prelude.{◌≡◌, ◌≤◌, ◌↔◌, All, IfOk, 
 ghost use Rattle.tally_book.specs.Answers.{HasDay, HasDays};
 ghost use Rattle.tally_sessions.specs.Days.{IsDay, IsOffset};
 
-use super::{boot, command, is_printed, login, name};
+use super::{berlin, boot, command, is_printed, login, name};
 use std::alloc::Global;
 use std::process::Abort;
 use tally_book::{Answer, ConnectRow};
+use tally_clock::Clock;
 use tally_print::{Kept, Table, print_table};
 use tally_records::{List, Memory};
 use tally_sessions::{End, Stay};
@@ -42,6 +43,7 @@ fn list_of<T: Copy>(alloc: Global, rows: &[T]) -> Result<List<T>, Memory>
 fn expect_table(
     rt: &impl Abort,
     alloc: Global,
+    clock: &Clock,
     table: Table,
     answers: &[Answer],
     offset: i32,
@@ -51,7 +53,7 @@ fn expect_table(
     requires offset { IsOffset offset }
 {
     let mut out = Kept::new(alloc);
-    let printed = print_table(alloc, table, answers, offset, &mut out);
+    let printed = print_table(alloc, clock, table, answers, offset, &mut out);
     is_printed(rt, printed, &out, text);
 }
 
@@ -73,6 +75,7 @@ fn expect_connect(
     expect_table(
         rt,
         alloc,
+        &Clock::utc(alloc),
         Table::Connect { by_day, by_user },
         &[answer],
         0,
@@ -130,7 +133,25 @@ file,user,line,remote,start,start_at,begin,end,end_time,end_at,seconds
 1,reboot,,,1100,1969-12-31T18:48:20-05:30,1100,still,1100,1969-12-31T18:48:20-05:30,0
 1,ann,tty1,,-200,1969-12-31T18:26:40-05:30,-200,down,1000,1969-12-31T18:46:40-05:30,1200
 ";
-    expect_table(&rt, alloc, Table::Stays, &[first, second], -330, text);
+    let utc = Clock::utc(alloc);
+    expect_table(&rt, alloc, &utc, Table::Stays, &[first, second], -330, text);
+}
+
+#[test]
+fn the_offset_is_that_of_the_second(rt: HostRuntime) {
+    let alloc = rt.alloc();
+    let Some(berlin) = berlin(&rt, alloc) else {
+        return;
+    };
+    let ann = login(b"ann", 1_774_745_999, End::Logout, 1_774_746_000, 1);
+    let Ok(answer) = of_file(alloc, ann) else {
+        return;
+    };
+    let text = b"\
+file,user,line,remote,start,start_at,begin,end,end_time,end_at,seconds
+1,ann,tty1,,1774745999,2026-03-29T01:29:59+00:30,1774745999,logout,1774746000,2026-03-29T02:30:00+01:30,1
+";
+    expect_table(&rt, alloc, &berlin, Table::Stays, &[answer], -30, text);
 }
 
 #[test]
@@ -149,7 +170,8 @@ command,forked,other,calls,real_ticks,cpu_ticks,io,mem_cpu
 \"a\"\"b\",1,0,30,6001,180,1000,90000
 ***other,0,1,30,6001,180,1000,90000
 ";
-    expect_table(&rt, alloc, Table::Commands, &[answer], 0, text);
+    let utc = Clock::utc(alloc);
+    expect_table(&rt, alloc, &utc, Table::Commands, &[answer], 0, text);
 }
 
 #[test]
@@ -167,5 +189,6 @@ fn usage_of_users_has_their_numbers(rt: HostRuntime) {
 uid,calls,real_ticks,cpu_ticks,io,mem_cpu
 4294967295,30,6001,180,1000,90000
 ";
-    expect_table(&rt, alloc, Table::Users, &[answer], 0, text);
+    let utc = Clock::utc(alloc);
+    expect_table(&rt, alloc, &utc, Table::Users, &[answer], 0, text);
 }

@@ -64,11 +64,11 @@ returns-in_err-by_user-in-Users-clause-cause c =
 
 pub returns-in_ok-by_command-in-Commands-clause-value : goal.returns-in_ok-by_command-in-Commands-clause-value
 returns-in_ok-by_command-in-Commands-clause-value c =
-    commands_answer c.args.question.now c.args.sessions.now.entries c.args.summary.now.entries _ _ _ _ _ c.in-Commands.is c.in_ok-by_command-in-Commands.ensures.value c.total-in-Commands.ensures.value
+    commands_answer c.args.clock.now c.args.question.now c.args.sessions.now.entries c.args.summary.now.entries _ _ _ _ _ c.in-Commands.is c.in_ok-by_command-in-Commands.ensures.value c.total-in-Commands.ensures.value
 
 pub returns-in_ok-by_user-in-Users-clause-value : goal.returns-in_ok-by_user-in-Users-clause-value
 returns-in_ok-by_user-in-Users-clause-value c =
-    users_answer c.args.question.now c.args.sessions.now.entries c.args.summary.now.entries _ _ _ _ c.in-Users.is c.in_ok-by_user-in-Users.ensures.value c.total-in-Users.ensures.value
+    users_answer c.args.clock.now c.args.question.now c.args.sessions.now.entries c.args.summary.now.entries _ _ _ _ c.in-Users.is c.in_ok-by_user-in-Users.ensures.value c.total-in-Users.ensures.value
 
 pub returns-in_ok-connect_rows-in-Connect-clause-days : goal.returns-in_ok-connect_rows-in-Connect-clause-days
 returns-in_ok-connect_rows-in-Connect-clause-days c = c.in_ok-connect_rows-in-Connect.ensures.days

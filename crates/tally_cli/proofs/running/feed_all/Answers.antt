@@ -1,6 +1,6 @@
 use Rattle.std.proofs.Common.{◌∙◌, ℕ, ap, arith, subst, sym}
 use Rattle.tally_desk.specs.Passes.{PassState}
-use Rattle.tally_cli.proofs.Ended.{ended_of, few, good_all, same_hosts}
+use Rattle.tally_cli.proofs.Ended.{ended_of, few, good_all, same_clock, same_hosts}
 use Rattle.tally_cli.proofs.Failing.{allowed, can_fail_at, cause_is, full_list, named}
 use Rattle.tally_cli.proofs.FirstPasses.{are_first}
 use Rattle.tally_cli.proofs.Outcomes.{IsBefore}
@@ -25,22 +25,30 @@ pub returns-in-None-clause-whole : goal.returns-in-None-clause-whole
 returns-in-None-clause-whole g c = λ inputs tell.
     let opened = c.in_ok-desk.ensures.opened in
     let book = c.in_ok-book.ensures in
-    let ended = ended_of c.in_ok-desk.desk.id _ c.in_ok-desk.passes.items opened.1 (book.callers ∙ opened.0) (omega (arith, c.requires.callers)) book.legal (c.entries_are_posts.ensures c.in_ok-book.book book.legal) book.worked in
+    let ended = ended_of c.in_ok-desk.desk.id c.args.clock.now _ c.in_ok-desk.passes.items opened.1 (book.callers ∙ opened.0) (omega (arith, c.requires.callers)) book.legal (c.entries_are_posts.ensures c.in_ok-book.book book.legal) book.worked in
     let before : (k : ℕ) → IsBefore k c.in_ok-book.failure = λ k. subst (IsBefore k) (sym c.in-None.is) tt in
     record { good = good_all ended inputs tell before; same = same_hosts ended inputs tell before }
+
+pub returns-in-None-clause-clock : goal.returns-in-None-clause-clock
+returns-in-None-clause-clock g c =
+    let opened = c.in_ok-desk.ensures.opened in
+    let book = c.in_ok-book.ensures in
+    let ended = ended_of c.in_ok-desk.desk.id c.args.clock.now _ c.in_ok-desk.passes.items opened.1 (book.callers ∙ opened.0) (omega (arith, c.requires.callers)) book.legal (c.entries_are_posts.ensures c.in_ok-book.book book.legal) book.worked in
+    let first = are_first _ _ _ opened.1 in
+    same_clock ended (omega (arith, book.callers, opened.0, c.requires.some)) ∙ ap (λ (p : PassState). p.seen.clock) (first.each 0 _ (omega (arith, first.count, opened.0, c.requires.some)))
 
 pub returns-in-None-clause-calls : goal.returns-in-None-clause-calls
 returns-in-None-clause-calls g c =
     let opened = c.in_ok-desk.ensures.opened in
     let book = c.in_ok-book.ensures in
-    few (ended_of c.in_ok-desk.desk.id _ c.in_ok-desk.passes.items opened.1 (book.callers ∙ opened.0) (omega (arith, c.requires.callers)) book.legal (c.entries_are_posts.ensures c.in_ok-book.book book.legal) book.worked)
+    few (ended_of c.in_ok-desk.desk.id c.args.clock.now _ c.in_ok-desk.passes.items opened.1 (book.callers ∙ opened.0) (omega (arith, c.requires.callers)) book.legal (c.entries_are_posts.ensures c.in_ok-book.book book.legal) book.worked)
 
 pub returns-in-Some : goal.returns-in-Some
 returns-in-Some g c =
     let opened = c.in_ok-desk.ensures.opened in
     let book = c.in_ok-book.ensures in
     let passes = c.in_ok-desk.passes.items in
-    let ended = ended_of c.in_ok-desk.desk.id _ passes opened.1 (book.callers ∙ opened.0) (omega (arith, c.requires.callers)) book.legal (c.entries_are_posts.ensures c.in_ok-book.book book.legal) book.worked in
+    let ended = ended_of c.in_ok-desk.desk.id c.args.clock.now _ passes opened.1 (book.callers ∙ opened.0) (omega (arith, c.requires.callers)) book.legal (c.entries_are_posts.ensures c.in_ok-book.book book.legal) book.worked in
     let count = (are_first _ _ _ opened.1).count in
     let value = c.fault_of.ensures.value in
     let failure = c.in-Some.failure in
@@ -48,6 +56,7 @@ returns-in-Some g c =
     record {
       whole = tt;
       callers = tt;
+      clock = tt;
       calls = tt;
       cause = λ inputs tell. subst (IsReadCause inputs) (sym value) (cause_is ended failure is inputs tell);
       allowed = subst (IsAllowed _) (sym value) (allowed ended failure is _);

@@ -15,7 +15,7 @@ pub returns-in_err-report-clause-failed : goal.returns-in_err-report-clause-fail
 returns-in_err-report-clause-failed g c =
     at_fault _ c.from_residual-in_err-report.result c.in_err-report.field-0.0 (search rules) (failed_printing c.in_err-report.field-0.0 c.in_err-report.ensures.cause (λ inputs tell.
     let read = c.in_ok-book.ensures.whole inputs tell in
-    let same = output_is g.I.Input.to_come c.args.job.now c.args.sources.items inputs c.in_ok-book.book c.as_slice-2.ensures.value c.in_ok-kinds.ensures c.as_slice.ensures.value c.host_order_is_enough.ensures tell read in
+    let same = output_is g.I.Input.to_come c.args.clock.now c.args.job.now c.args.sources.items inputs c.in_ok-book.book c.as_slice-2.ensures.value c.in_ok-kinds.ensures c.as_slice.ensures.value c.host_order_is_enough.ensures tell read in
     (read.good, λ told. subst (AppendsPrefix _ _) same (c.in_err-report.ensures.writes.prefix told))))
 
 pub returns-clause-whole : goal.returns-clause-whole
@@ -24,7 +24,7 @@ returns-clause-whole g c = on_ok_always c.finish.result (record {
   few = search rules;
   told = λ inputs tell.
       let read = c.in_ok-book.ensures.whole inputs tell in
-      let same = output_is g.I.Input.to_come c.args.job.now c.args.sources.items inputs c.in_ok-book.book c.as_slice-2.ensures.value c.in_ok-kinds.ensures c.as_slice.ensures.value c.host_order_is_enough.ensures tell read in
+      let same = output_is g.I.Input.to_come c.args.clock.now c.args.job.now c.args.sources.items inputs c.in_ok-book.book c.as_slice-2.ensures.value c.in_ok-kinds.ensures c.as_slice.ensures.value c.host_order_is_enough.ensures tell read in
       record { good = read.good; written = printed_whole c.in_ok-report.ensures.writes c.finish.ensures.writes same };
 })
 
@@ -32,5 +32,5 @@ pub returns-clause-failed : goal.returns-clause-failed
 returns-clause-failed g c =
     faults_are _ c.finish.result _ c.finish.ensures.cause (failed_printing _ tt (λ inputs tell.
     let read = c.in_ok-book.ensures.whole inputs tell in
-    let same = output_is g.I.Input.to_come c.args.job.now c.args.sources.items inputs c.in_ok-book.book c.as_slice-2.ensures.value c.in_ok-kinds.ensures c.as_slice.ensures.value c.host_order_is_enough.ensures tell read in
+    let same = output_is g.I.Input.to_come c.args.clock.now c.args.job.now c.args.sources.items inputs c.in_ok-book.book c.as_slice-2.ensures.value c.in_ok-kinds.ensures c.as_slice.ensures.value c.host_order_is_enough.ensures tell read in
     (read.good, λ told. whole_prefix _ _ _ (printed_whole c.in_ok-report.ensures.writes c.finish.ensures.writes same told))))

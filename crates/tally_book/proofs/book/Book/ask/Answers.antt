@@ -51,8 +51,8 @@ returns-in_err-check_host-clause-legal c = subst IsLegal c.self.view_is c.self.i
 
 pub invariant_of-self : goal.invariant_of-self
 invariant_of-self c =
-    let after : Inside = record { callers = c.self.inside.callers; logins = c.self.inside.logins; summary = c.self.inside.summary; calls = c.reserve.new.self } in
-    let same = same_contents c.self.inside after refl refl refl c.reserve.ensures.items in
+    let after : Inside = record { callers = c.self.inside.callers; clock = c.self.inside.clock; logins = c.self.inside.logins; summary = c.self.inside.summary; calls = c.reserve.new.self } in
+    let same = same_contents c.self.inside after refl refl refl refl c.reserve.ensures.items in
     still_sound c.self.inside after c.self.invariant refl same
 
 pub returns-in_err-reserve-clause-stored : goal.returns-in_err-reserve-clause-stored
@@ -72,8 +72,8 @@ returns-in_err-reserve-clause-days c =
 
 pub returns-in_err-reserve-clause-refused : goal.returns-in_err-reserve-clause-refused
 returns-in_err-reserve-clause-refused c =
-    let after : Inside = record { callers = c.self.inside.callers; logins = c.self.inside.logins; summary = c.self.inside.summary; calls = c.reserve.new.self } in
-    let same = same_contents c.self.inside after refl refl refl c.reserve.ensures.items in
+    let after : Inside = record { callers = c.self.inside.callers; clock = c.self.inside.clock; logins = c.self.inside.logins; summary = c.self.inside.summary; calls = c.reserve.new.self } in
+    let same = same_contents c.self.inside after refl refl refl refl c.reserve.ensures.items in
     let p = err_from_is_err_and c.from_residual-in_err-reserve.result c.from_residual-in_err-reserve.ensures.1 in
     rw p.1 (same ∙ c.self.view_is)
 
@@ -87,8 +87,8 @@ returns-in_err-reserve-clause-legal c = (invariant_of-self c).legal
 
 pub invariant_of-self-in_err-count : goal.invariant_of-self-in_err-count
 invariant_of-self-in_err-count c =
-    let after : Inside = record { callers = c.self.inside.callers; logins = c.count.new.self; summary = c.self.inside.summary; calls = c.reserve.new.self } in
-    let same = same_contents c.self.inside after refl (ap (λ (s : LoginState). s.entries) c.in_err-count.ensures.refused) refl c.reserve.ensures.items in
+    let after : Inside = record { callers = c.self.inside.callers; clock = c.self.inside.clock; logins = c.count.new.self; summary = c.self.inside.summary; calls = c.reserve.new.self } in
+    let same = same_contents c.self.inside after refl refl (ap (λ (s : LoginState). s.entries) c.in_err-count.ensures.refused) refl c.reserve.ensures.items in
     still_sound c.self.inside after c.self.invariant (ap (λ (s : LoginState). s.hosts) c.in_err-count.ensures.refused) same
 
 pub returns-in_err-count-clause-stored : goal.returns-in_err-count-clause-stored
@@ -108,8 +108,8 @@ returns-in_err-count-clause-days c =
 
 pub returns-in_err-count-clause-refused : goal.returns-in_err-count-clause-refused
 returns-in_err-count-clause-refused c =
-    let after : Inside = record { callers = c.self.inside.callers; logins = c.count.new.self; summary = c.self.inside.summary; calls = c.reserve.new.self } in
-    let same = same_contents c.self.inside after refl (ap (λ (s : LoginState). s.entries) c.in_err-count.ensures.refused) refl c.reserve.ensures.items in
+    let after : Inside = record { callers = c.self.inside.callers; clock = c.self.inside.clock; logins = c.count.new.self; summary = c.self.inside.summary; calls = c.reserve.new.self } in
+    let same = same_contents c.self.inside after refl refl (ap (λ (s : LoginState). s.entries) c.in_err-count.ensures.refused) refl c.reserve.ensures.items in
     let p = err_from_is_err_and c.from_residual-in_err-count.result c.from_residual-in_err-count.ensures.1 in
     rw p.1 (same ∙ c.self.view_is)
 
@@ -132,8 +132,8 @@ answer-requires-clause-askable c = c.requires.askable
 
 pub invariant_of-self-in_err-answer : goal.invariant_of-self-in_err-answer
 invariant_of-self-in_err-answer c =
-    let after : Inside = record { callers = c.self.inside.callers; logins = c.count.new.self; summary = c.self.inside.summary; calls = c.reserve.new.self } in
-    let same = same_contents c.self.inside after refl (ap (λ (s : LoginState). s.entries) c.in_ok-count.ensures.counted) refl c.reserve.ensures.items in
+    let after : Inside = record { callers = c.self.inside.callers; clock = c.self.inside.clock; logins = c.count.new.self; summary = c.self.inside.summary; calls = c.reserve.new.self } in
+    let same = same_contents c.self.inside after refl refl (ap (λ (s : LoginState). s.entries) c.in_ok-count.ensures.counted) refl c.reserve.ensures.items in
     still_sound c.self.inside after c.self.invariant (ap (λ (s : LoginState). s.hosts) c.in_ok-count.ensures.counted) same
 
 pub returns-in_err-answer-clause-stored : goal.returns-in_err-answer-clause-stored
@@ -153,8 +153,8 @@ returns-in_err-answer-clause-days c =
 
 pub returns-in_err-answer-clause-refused : goal.returns-in_err-answer-clause-refused
 returns-in_err-answer-clause-refused c =
-    let after : Inside = record { callers = c.self.inside.callers; logins = c.count.new.self; summary = c.self.inside.summary; calls = c.reserve.new.self } in
-    let same = same_contents c.self.inside after refl (ap (λ (s : LoginState). s.entries) c.in_ok-count.ensures.counted) refl c.reserve.ensures.items in
+    let after : Inside = record { callers = c.self.inside.callers; clock = c.self.inside.clock; logins = c.count.new.self; summary = c.self.inside.summary; calls = c.reserve.new.self } in
+    let same = same_contents c.self.inside after refl refl (ap (λ (s : LoginState). s.entries) c.in_ok-count.ensures.counted) refl c.reserve.ensures.items in
     let p = err_from_is_err_and c.from_residual-in_err-answer.result c.from_residual-in_err-answer.ensures.1 in
     rw p.1 (same ∙ c.self.view_is)
 
@@ -168,8 +168,8 @@ returns-in_err-answer-clause-legal c = (invariant_of-self-in_err-answer c).legal
 
 pub invariant_of-self-in_err-kept : goal.invariant_of-self-in_err-kept
 invariant_of-self-in_err-kept c =
-    let after : Inside = record { callers = c.self.inside.callers; logins = c.count.new.self; summary = c.self.inside.summary; calls = c.reserve.new.self } in
-    let same = same_contents c.self.inside after refl (ap (λ (s : LoginState). s.entries) c.in_ok-count.ensures.counted) refl c.reserve.ensures.items in
+    let after : Inside = record { callers = c.self.inside.callers; clock = c.self.inside.clock; logins = c.count.new.self; summary = c.self.inside.summary; calls = c.reserve.new.self } in
+    let same = same_contents c.self.inside after refl refl (ap (λ (s : LoginState). s.entries) c.in_ok-count.ensures.counted) refl c.reserve.ensures.items in
     still_sound c.self.inside after c.self.invariant (ap (λ (s : LoginState). s.hosts) c.in_ok-count.ensures.counted) same
 
 pub returns-in_err-kept-clause-stored : goal.returns-in_err-kept-clause-stored
@@ -189,8 +189,8 @@ returns-in_err-kept-clause-days c =
 
 pub returns-in_err-kept-clause-refused : goal.returns-in_err-kept-clause-refused
 returns-in_err-kept-clause-refused c =
-    let after : Inside = record { callers = c.self.inside.callers; logins = c.count.new.self; summary = c.self.inside.summary; calls = c.reserve.new.self } in
-    let same = same_contents c.self.inside after refl (ap (λ (s : LoginState). s.entries) c.in_ok-count.ensures.counted) refl c.reserve.ensures.items in
+    let after : Inside = record { callers = c.self.inside.callers; clock = c.self.inside.clock; logins = c.count.new.self; summary = c.self.inside.summary; calls = c.reserve.new.self } in
+    let same = same_contents c.self.inside after refl refl (ap (λ (s : LoginState). s.entries) c.in_ok-count.ensures.counted) refl c.reserve.ensures.items in
     let p = err_from_is_err_and c.from_residual-in_err-kept.result c.from_residual-in_err-kept.ensures.1 in
     rw p.1 (same ∙ c.self.view_is)
 
@@ -209,8 +209,8 @@ invariant_of-self-2 c =
     let logins : c.count.new.self.entries ≡ b.logins = ap (λ (s : LoginState). s.entries) c.in_ok-count.ensures.counted in
     let lent : c.in-Some.sessions.now.entries ≡ b.logins = c.in-Some.ensures.0 ∙ logins in
     let at : c.counts-at.result ≡ counts_of b = λ i. record { logins = (c.counts-at.ensures.logins ∙ ap length logins) i; procs = c.counts-at.ensures.procs i } in
-    let kept : c.in_ok-kept.kept ≡ answer_of question b.logins b.procs =
-    c.in_ok-kept.ensures.value ∙ c.in_ok-answer.ensures.value ∙ ap (λ (es : List Entry). answer_of question es b.procs) lent in
+    let kept : c.in_ok-kept.kept ≡ answer_of b.clock question b.logins b.procs =
+    c.in_ok-kept.ensures.value ∙ c.in_ok-answer.ensures.value ∙ ap (λ (es : List Entry). answer_of b.clock question es b.procs) lent in
     let calls : c.record-call.new.calls.items ≡ (asked b c.args.caller question).calls =
     c.record-call.ensures.history ∙ (λ i. c.reserve.ensures.items i ++ Asked c.args.caller (at i) question (kept i) ∷ []) in
     let near = subst (λ (s : Contents). c.args.caller < s.callers) (sym c.self.view_is) c.requires.caller in
@@ -218,7 +218,7 @@ invariant_of-self-2 c =
     let legal : IsLegal (asked b c.args.caller question) = asked_legal b c.args.caller question c.self.invariant.legal near room c.in_ok-check_host.ensures.host in
     record {
       hosts = ap (λ (s : LoginState). s.hosts) c.in_ok-count.ensures.counted ∙ c.self.invariant.hosts;
-      legal = subst IsLegal (λ i. record { callers = b.callers; logins = sym logins i; procs = b.procs; calls = sym calls i }) legal;
+      legal = subst IsLegal (λ i. record { callers = b.callers; clock = b.clock; logins = sym logins i; procs = b.procs; calls = sym calls i }) legal;
     }
 
 pub returns-clause-legal : goal.returns-clause-legal

@@ -33,5 +33,5 @@ returns-clause-value g c =
     let asked = c.as_slice.ensures.value ∙ c.in_ok-questions.ensures in
     let same = c.in_ok-count_sessions.ensures.same in
     IfOk-weaker c.answers_to.result _ _ (λ answers value. value
-    ∙ ap (λ (b : Contents). map (λ q. answer_of q b.logins b.procs) c.as_slice.result.now) same
-    ∙ ap (map (λ q. answer_of q c.args.book.now.logins c.args.book.now.procs)) asked) c.answers_to.ensures.value
+    ∙ ap (λ (b : Contents). map (λ q. answer_of b.clock q b.logins b.procs) c.as_slice.result.now) same
+    ∙ ap (map (λ q. answer_of c.args.book.now.clock q c.args.book.now.logins c.args.book.now.procs)) asked) c.answers_to.ensures.value

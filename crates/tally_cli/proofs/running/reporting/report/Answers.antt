@@ -13,12 +13,12 @@ pub returns-in_err-print_answers-clause-writes : goal.returns-in_err-print_answe
 returns-in_err-print_answers-clause-writes g c =
     let job = c.args.job.now in
     let is =
-    report_is job c.args.kinds.now (questions_of job.report job.offset c.args.kinds.now job.until) c.as_slice.result.now c.args.book.logins c.args.book.procs refl (c.as_slice.ensures.value ∙ c.in_ok-answers.ensures.value) in
+    report_is c.args.clock.now c.args.book.clock job c.args.kinds.now (questions_of job.report job.offset c.args.kinds.now job.until) c.as_slice.result.now c.args.book.logins c.args.book.procs c.requires.clock refl (c.as_slice.ensures.value ∙ c.in_ok-answers.ensures.value) in
     prints_from c.in_err-print_answers.field-0.0 _ (search rules) (subst (Prints _ _ _ _) is c.in_err-print_answers.ensures.writes)
 
 pub returns-clause-writes : goal.returns-clause-writes
 returns-clause-writes g c =
     let job = c.args.job.now in
     let is =
-    report_is job c.args.kinds.now (questions_of job.report job.offset c.args.kinds.now job.until) c.as_slice.result.now c.args.book.logins c.args.book.procs refl (c.as_slice.ensures.value ∙ c.in_ok-answers.ensures.value) in
+    report_is c.args.clock.now c.args.book.clock job c.args.kinds.now (questions_of job.report job.offset c.args.kinds.now job.until) c.as_slice.result.now c.args.book.logins c.args.book.procs c.requires.clock refl (c.as_slice.ensures.value ∙ c.in_ok-answers.ensures.value) in
     prints_as is c.in_ok-print_answers.ensures.writes

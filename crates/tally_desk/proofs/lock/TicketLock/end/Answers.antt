@@ -5,6 +5,9 @@ use Rattle.tally_desk.specs.inside.Views.{knowing}
 use Rattle.tally_desk.specs.Passes.{Sat}
 use Rattle.tally_desk.proofs.lock.TicketLock.end.Goals as goal
 
+pub count-requires-clause-made : goal.count-requires-clause-made
+count-requires-clause-made c = let m = c.requires.made in (m.0, m.1, m.2, m.3, rw c.if-answered.true at m.4, m.5)
+
 pub leave-requires-clause-serves : goal.leave-requires-clause-serves
 leave-requires-clause-serves c = let m = c.requires.made in (knowing m.3 m.0, m.1, m.3, c.count.ensures.counted m.0 m.1 m.2 m.3 m.5)
 

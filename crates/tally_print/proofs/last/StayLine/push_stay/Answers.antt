@@ -7,7 +7,6 @@ use Rattle.tally_print.proofs.last.StayLine.push_stay.Goals as goal
 pub returns : goal.returns
 unfolding stay_line
 returns c =
-    let offset : FitsSigned w32 c.args.self.now.offset = search rules in
     let start : FitsSigned w32 c.args.stay.now.start = search rules in
     rw (c.in_ok-push-4.ensures.items, c.in_ok-push_ending.ensures, c.in_ok-push_moment.ensures, c.in_ok-push-3.ensures.items, c.in_ok-push_left_shown.ensures, c.in_ok-push-2.ensures.items, c.in_ok-push_column-2.ensures, c.in_ok-push.ensures.items, c.in_ok-push_column.ensures)
     (simp (to_z-of_z, append_assoc))

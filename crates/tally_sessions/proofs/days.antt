@@ -1,0 +1,4 @@
+-- The days of a stay.
+pub mod ClockDays
+pub mod SpanLemmas
+pub mod StayDays

@@ -1,0 +1,22 @@
+use Rattle.std.proofs.Common.{◌∙◌, ℤ, List, All, ap, sym, subst, rules, w32}
+use Rattle.std.proofs.lemmas.Int.{to_z-of_z}
+use Rattle.std.proofs.lemmas.Result.{IfOk-weaker}
+use Rattle.tally_sessions.specs.declared.entry.Entry.{Entry}
+use Rattle.tally_sessions.specs.declared.times.DayTime.{DayTime}
+use Rattle.tally_sessions.specs.Days.{IsDay, local}
+use Rattle.tally_sessions.specs.Sums.{seconds_of_day, sessions_of}
+use Rattle.tally_sessions.proofs.connect.DayRows.{day_rows_are, day_rows_days}
+use Rattle.tally_sessions.proofs.sessions.Sessions.connect_by_day.Goals as goal
+
+pub returns-clause-value : goal.returns-clause-value
+returns-clause-value c =
+    let es : List Entry = c.args.self.now.entries in
+    let offset = to_z-of_z w32 c.args.offset (search rules) in
+    IfOk-weaker c.from_vec.result _ _ (λ rows is. is ∙ c.in_ok-day_rows.ensures.rows
+    ∙ day_rows_are (local c.args.clock.now c.args.offset) es c.args.until c.in_ok-sums.sums.entries c.in_ok-day_rows.ensures.ordered
+    (λ day. c.in_ok-sums.ensures.value day ∙ ap (λ (z : ℤ). seconds_of_day (local c.args.clock.now z) day (sessions_of es c.args.until)) offset)) c.from_vec.ensures
+
+pub returns-clause-days : goal.returns-clause-days
+returns-clause-days c =
+    IfOk-weaker c.from_vec.result _ _ (λ rows is. subst (All (λ (r : DayTime). IsDay r.day)) (sym (is ∙ c.in_ok-day_rows.ensures.rows))
+    (day_rows_days c.in_ok-sums.sums.entries c.in_ok-day_rows.ensures.ordered c.in_ok-sums.ensures.days)) c.from_vec.ensures

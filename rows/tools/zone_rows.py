@@ -1,0 +1,89 @@
+"""The worked rows of `--zone`. The days and moments were worked out by hand from the zones' rules, and are those of
+Python's zoneinfo too. The zones stand in the rows, as rules or as small files, so that no row needs those of the system.
+"""
+import struct
+
+HOUR = 3600
+
+
+def header(changes, offsets, names):
+    return b'TZif2' + bytes(15) + struct.pack('>6l', 0, 0, 0, changes, offsets, names)
+
+
+def zone_file(offsets, changes, rule=''):
+    """A file of time zone rules, as `zic -b slim` writes it: offsets in seconds east of UTC, of which the first holds before
+    all changes, each change as its second and the place of its offset, and the rule for what comes after the last."""
+    first = header(0, 1, 1) + struct.pack('>lBB', 0, 0, 0) + b'\0'
+    times = b''.join(struct.pack('>q', second) for second, _ in changes)
+    places = bytes(place for _, place in changes)
+    kinds = b''.join(struct.pack('>lBB', offset, 0, 0) for offset in offsets)
+    return first + header(len(changes), len(offsets), 4) + times + places + kinds + b'LMT\0' + b'\n' + rule.encode() + b'\n'
+
+
+BERLIN = 'CET-1CEST,M3.5.0,M10.5.0/3'
+# 2018-02-18 00:00 goes back to 23:00, and 2018-11-04 00:00 on to 01:00.
+SAO_PAULO = zone_file([-2 * HOUR, -3 * HOUR], [(1518919200, 1), (1541300400, 0)])
+# 2006-10-29 00:01 goes back to 2006-10-28 23:01.
+ST_JOHNS = zone_file([-9000, -12600], [(1162089060, 1)])
+# 2011-12-30 00:00 goes on to 2011-12-31 00:00.
+APIA = zone_file([-10 * HOUR, 14 * HOUR], [(1325239200, 1)])
+# Changes of 1945, and the rule of the European Union after the last row.
+BERLIN_FILE = zone_file([HOUR, 2 * HOUR, 3 * HOUR], [(-781052400, 2), (-776563200, 1), (-765936000, 0)], BERLIN)
+
+
+def add_rows(row, lines, session):
+    def days(name, about, zone, begin, seconds, texts, file=None):
+        total = f'total{seconds / HOUR:28.2f}'
+        wanted = lines(*(f'{day} total{hours:>28}' for day, hours in texts), total)
+        files = {'f': session('ann', 'tty1', begin, seconds)}
+        if file is not None:
+            files['zone'] = file
+        row(name, 'ac,ac -d,zone', about, ['ac', '-d', '--zone', zone, 'f'], wanted, files=files)
+
+    days('zone-day-of-23-hours', 'Two days over the change to summer time: 11, 23 and 14 hours.', BERLIN, 1774699200, 48 * HOUR,
+         [('2026-03-28', '11.00'), ('2026-03-29', '23.00'), ('2026-03-30', '14.00')])
+    days('zone-day-of-25-hours', 'Two days over the change to winter time: 10, 25 and 13 hours.', BERLIN, 1792843200, 48 * HOUR,
+         [('2026-10-24', '10.00'), ('2026-10-25', '25.00'), ('2026-10-26', '13.00')])
+    days('zone-hour-before-midnight-twice', 'The day has 25 hours, since 23:00 to 24:00 comes twice.', './zone', 1518876000, 25 * HOUR,
+         [('2018-02-17', '13.00'), ('2018-02-18', '12.00')], SAO_PAULO)
+    days('zone-midnight-left-out', 'The day begins at 01:00.', './zone', 1541257200, 23 * HOUR,
+         [('2018-11-03', '12.00'), ('2018-11-04', '11.00')], SAO_PAULO)
+    days('zone-date-that-comes-twice', 'One minute of the 29th, and then the last 59 of the 28th again.', './zone', 1162081800, 5 * HOUR,
+         [('2006-10-28', '2.98'), ('2006-10-29', '2.02')], ST_JOHNS)
+    days('zone-half-an-hour-twice', 'Clocks go back by half an hour: a day of 24.5.', '<+1030>-10:30<+11>-11,M10.1.0,M4.1.0', 1775304000,
+         25 * HOUR + 1800, [('2026-04-04', '1.00'), ('2026-04-05', '24.50')])
+    days('zone-date-that-is-left-out', 'The 30th of December never was.', './zone', 1325232000, 4 * HOUR,
+         [('2011-12-29', '2.00'), ('2011-12-31', '2.00')], APIA)
+    days('zone-of-the-southern-half', 'Summer time ends in April, on a day of 25 hours.', 'NZST-12NZDT,M9.5.0,M4.1.0/3', 1775300400, 25 * HOUR,
+         [('2026-04-05', '25.00')])
+    days('zone-before-1970', 'A change in 1945, from one hour east to three.', './zone', -781056000, 3 * HOUR,
+         [('1945-04-02', '3.00')], BERLIN_FILE)
+    days('zone-past-the-last-row', 'The rule of a file holds after its last row, in 2037 as well.', './zone', 2121894000, 24 * HOUR,
+         [('2037-03-29', '23.00'), ('2037-03-30', '1.00')], BERLIN_FILE)
+
+    row('zone-moments-an-hour-apart-print-alike', 'last,zone', 'From 02:30 in summer time to 02:30 in winter time is an hour.',
+        ['last', '--zone', BERLIN, 'f'], lines(
+            'ann      tty1                          2026-10-25 02:30:00 - 2026-10-25 02:30:00 (01:00)',
+            '', 'wtmp begins 2026-10-25 02:30:00'), files={'f': session('ann', 'tty1', 1792888200, HOUR)})
+    row('zone-table-tells-them-apart', 'last,csv,zone', 'The offset that held at each moment.',
+        ['last', '--csv', '--zone', BERLIN, 'f'], lines(
+            'file,user,line,remote,start,start_at,begin,end,end_time,end_at,seconds',
+            '1,ann,tty1,,1792888200,2026-10-25T02:30:00+02:00,1792888200,logout,1792891800,2026-10-25T02:30:00+01:00,3600'),
+        files={'f': session('ann', 'tty1', 1792888200, HOUR)})
+    row('zone-second-of-the-change', 'last,zone', 'A second before it and at it: 01:59:59 is followed by 03:00:00.',
+        ['last', '--zone', BERLIN, 'f'], lines(
+            'ann      tty1                          2026-03-29 01:59:59 - 2026-03-29 03:00:00 (00:00)',
+            '', 'wtmp begins 2026-03-29 01:59:59'), files={'f': session('ann', 'tty1', 1774745999, 1)})
+    row('zone-offset-with-seconds', 'last,csv,zone', 'Local mean time, 19 minutes and 32 seconds east: the offset is printed without its seconds.',
+        ['last', '--csv', '--zone', 'AMT-0:19:32', 'f'], lines(
+            'file,user,line,remote,start,start_at,begin,end,end_time,end_at,seconds',
+            '1,ann,tty1,,-1104537600,1935-01-01T00:19:32+00:19,-1104537600,logout,-1104537540,1935-01-01T00:20:32+00:19,60'),
+        files={'f': session('ann', 'tty1', -1104537600, 60)})
+    row('zone-days-of-each-user', 'ac,ac -d,ac -p,zone', 'By day and user over the change to summer time.',
+        ['ac', '-d', '-p', '--zone', BERLIN, 'f'], lines(
+            '2026-03-28 ann                         11.00', '2026-03-29 ann                         23.00',
+            '2026-03-29 bob                          1.00', '2026-03-30 ann                         14.00',
+            'total                       49.00'),
+        files={'f': session('ann', 'tty1', 1774699200, 48 * HOUR) + session('bob', 'tty2', 1774746000, HOUR)})
+    row('zone-with-an-offset', 'ac,zone,offset', 'A zone and an offset are not taken together.',
+        ['ac', '--zone', BERLIN, '--east', '60', 'f'], '', None, 2, files={'f': b''})
