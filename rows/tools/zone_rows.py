@@ -6,18 +6,21 @@ import struct
 HOUR = 3600
 
 
-def header(changes, offsets, names):
-    return b'TZif2' + bytes(15) + struct.pack('>6l', 0, 0, 0, changes, offsets, names)
+def header(changes, offsets, names, leaps=0):
+    return b'TZif2' + bytes(15) + struct.pack('>6l', 0, 0, leaps, changes, offsets, names)
 
 
-def zone_file(offsets, changes, rule=''):
+def zone_file(offsets, changes, rule='', leaps=()):
     """A file of time zone rules, as `zic -b slim` writes it: offsets in seconds east of UTC, of which the first holds before
-    all changes, each change as its second and the place of its offset, and the rule for what comes after the last."""
+    all changes, each change as its second and the place of its offset, and the rule for what comes after the last. Leap
+    seconds are the seconds at which each has been counted."""
     first = header(0, 1, 1) + struct.pack('>lBB', 0, 0, 0) + b'\0'
     times = b''.join(struct.pack('>q', second) for second, _ in changes)
     places = bytes(place for _, place in changes)
     kinds = b''.join(struct.pack('>lBB', offset, 0, 0) for offset in offsets)
-    return first + header(len(changes), len(offsets), 4) + times + places + kinds + b'LMT\0' + b'\n' + rule.encode() + b'\n'
+    counted = b''.join(struct.pack('>ql', second, count) for count, second in enumerate(leaps, 1))
+    data = times + places + kinds + b'LMT\0' + counted
+    return first + header(len(changes), len(offsets), 4, len(leaps)) + data + b'\n' + rule.encode() + b'\n'
 
 
 BERLIN = 'CET-1CEST,M3.5.0,M10.5.0/3'
@@ -85,5 +88,57 @@ def add_rows(row, lines, session):
             '2026-03-29 bob                          1.00', '2026-03-30 ann                         14.00',
             'total                       49.00'),
         files={'f': session('ann', 'tty1', 1774699200, 48 * HOUR) + session('bob', 'tty2', 1774746000, HOUR)})
-    row('zone-with-an-offset', 'ac,zone,offset', 'A zone and an offset are not taken together.',
-        ['ac', '--zone', BERLIN, '--east', '60', 'f'], '', None, 2, files={'f': b''})
+    add_fault_rows(row, lines)
+
+
+def add_fault_rows(row, lines):
+    def fault(name, about, zone, what, status=1, files=None):
+        """A zone that is not taken, though the file of records is not there either."""
+        row(name, 'ac,zone', about, ['ac', '--zone', zone, 'f'], '', f'tally: {zone}: {what}\n', status, files=files)
+
+    def no_zone(name, about, zone):
+        fault(name, about, zone, 'no such zone')
+
+    def no_file(name, about, zone, file=None):
+        fault(name, about, zone, 'no time zone file', files=None if file is None else {'zone': file})
+
+    no_zone('zone-that-is-not-there', 'A name with no file, and no rule either.', 'Nowhere/City')
+    no_zone('zone-file-that-is-not-there', 'A path that cannot be opened: the zone is read before any file of records is opened.', './zone')
+    no_zone('zone-name-with-dots', 'No name goes out of the folder of zones.', 'Europe/../UTC')
+    no_zone('zone-name-with-two-slashes', 'No part of a name is empty.', 'Europe//Berlin')
+    no_zone('zone-of-three-letters', 'A rule has an offset.', 'XYZ')
+    no_zone('zone-rule-without-its-end', 'A rule of summer time has its begin and its end.', 'CET-1CEST,M3.5.0')
+    no_zone('zone-name-of-utc-and-letters', 'Letters after the digits are no offset from UTC, and here no rule.', 'UTC+2x')
+    row('zone-is-read-for-sa', 'sa,zone', 'sa shows no times, and its zone is read as well.', ['sa', '--zone', './zone', 'f'], '',
+        'tally: ./zone: no such zone\n', 1)
+
+    whole = zone_file([HOUR, 2 * HOUR], [(0, 1)], BERLIN)
+    no_file('zone-that-is-a-folder', 'A folder.', '.')
+    no_file('zone-that-is-empty-file', 'A file without bytes.', './zone', b'')
+    no_file('zone-that-is-no-zone-file', 'A file of another kind.', './zone', b'CET-1CEST,M3.5.0,M10.5.0/3\n')
+    no_file('zone-file-cut-off', 'All but the last byte of a time zone file.', './zone', whole[:-1])
+    no_file('zone-file-with-a-bad-rule', 'Its rule is none.', './zone', zone_file([HOUR], [], 'CET'))
+    no_file('zone-file-with-leap-seconds', 'It counts 27 leap seconds, which no record does.', './zone',
+            zone_file([HOUR], [], 'CET-1', leaps=range(78796800, 78796800 + 27 * 15811200, 15811200)))
+    no_file('zone-file-of-65537-bytes', 'A byte more than a time zone file may have.', './zone', whole.ljust(65537, b'\n'))
+    no_file('zone-file-without-end', 'No more is read than shows that it is too large.', '/dev/zero')
+    row('zone-file-of-65536-bytes', 'ac,zone', 'As many bytes as a time zone file may have.', ['ac', '--zone', './zone', 'f'],
+        lines('total                        0.00'), files={'f': b'', 'zone': whole.ljust(65536, b'\n')})
+
+    for name, about, zone, what in (
+            ('east-of-utc', 'POSIX reads it as two hours west, and others as two hours east.', 'UTC+2', '<+02>-2'),
+            ('west-of-utc', 'Three and a half hours west.', 'GMT-3:30', '<-0330>+3:30'),
+            ('of-utc-without-a-sign', 'The sign is left out.', 'UTC2', '<+02>-2'),
+            ('of-ut', 'A name of two letters.', 'UT+5:45', '<+0545>-5:45')):
+        fault('zone-offset-' + name, about, zone, 'write ' + what, 2)
+    for name, about, zone in (('without-hours', 'Nothing follows the sign.', 'UTC+'),
+                              ('of-four-digits', 'Hours and minutes without a colon.', 'UTC+0530'),
+                              ('of-a-day-and-more', 'No rule has so many hours.', 'GMT+25')):
+        fault('zone-offset-' + name, about, zone, 'write a rule, as <+02>-2', 2)
+
+    two = "error: --zone cannot be used with --east or --west\n\nFor more information, try '--help'.\n"
+    for option in ('east', 'west'):
+        row(f'zone-beside-{option}', 'ac,zone,offset', 'A zone and an offset are not taken together.',
+            ['ac', '--zone', BERLIN, f'--{option}', '0', 'f'], '', two, 2, files={'f': b''})
+    row('zone-without-a-word', 'ac,zone', 'An empty word names no zone.', ['ac', '--zone', '', 'f'], '', None, 2, files={'f': b''})
+    row('zone-twice', 'ac,zone', 'A run has one zone.', ['ac', '--zone', 'UTC', '--zone', 'UTC', 'f'], '', None, 2, files={'f': b''})

@@ -95,7 +95,7 @@ fn clock_for<R>(rt: &R, to: ErrorsTo, zone: Option<&String>) -> Result<Clock, Ex
 where
     R: Files + Eprint + AllocGlobal,
     R::File: Drop,
-    ensures { zone ≡ None → result ≡ Ok utc }
+    ensures { zone.entry ≡ None → result ≡ Ok utc }
 {
     let Some(word) = zone else {
         return Ok(Clock::utc(rt.alloc()));
