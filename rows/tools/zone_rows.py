@@ -10,28 +10,31 @@ def header(changes, offsets, names, leaps=0):
     return b'TZif2' + bytes(15) + struct.pack('>6l', 0, 0, leaps, changes, offsets, names)
 
 
-def zone_file(offsets, changes, rule='', leaps=()):
-    """A file of time zone rules, as `zic -b slim` writes it: offsets in seconds east of UTC, of which the first holds before
-    all changes, each change as its second and the place of its offset, and the rule for what comes after the last. Leap
-    seconds are the seconds at which each has been counted."""
+def zone_file(kinds, changes, rule='', leaps=()):
+    """A file of time zone rules, as `zic -b slim` writes it: kinds of local time (seconds east of UTC, 1 in summer time, name),
+    of which the first holds before all changes, each change as its second and the place of its kind, and the rule for what
+    comes after the last change, which has to agree with it. Leap seconds are the seconds at which each has been counted."""
     first = header(0, 1, 1) + struct.pack('>lBB', 0, 0, 0) + b'\0'
-    times = b''.join(struct.pack('>q', second) for second, _ in changes)
-    places = bytes(place for _, place in changes)
-    kinds = b''.join(struct.pack('>lBB', offset, 0, 0) for offset in offsets)
-    counted = b''.join(struct.pack('>ql', second, count) for count, second in enumerate(leaps, 1))
-    data = times + places + kinds + b'LMT\0' + counted
-    return first + header(len(changes), len(offsets), 4, len(leaps)) + data + b'\n' + rule.encode() + b'\n'
+    names = [name.encode() + b'\0' for _, _, name in kinds]
+    data = b''.join(struct.pack('>q', second) for second, _ in changes)
+    data += bytes(place for _, place in changes)
+    data += b''.join(struct.pack('>lBB', offset, summer, sum(map(len, names[:at]))) for at, (offset, summer, _) in enumerate(kinds))
+    data += b''.join(names)
+    data += b''.join(struct.pack('>ql', second, count) for count, second in enumerate(leaps, 1))
+    return (first + header(len(changes), len(kinds), sum(map(len, names)), len(leaps)) + data
+            + b'\n' + rule.encode() + b'\n')
 
 
 BERLIN = 'CET-1CEST,M3.5.0,M10.5.0/3'
 # 2018-02-18 00:00 goes back to 23:00, and 2018-11-04 00:00 on to 01:00.
-SAO_PAULO = zone_file([-2 * HOUR, -3 * HOUR], [(1518919200, 1), (1541300400, 0)])
+SAO_PAULO = zone_file([(-3 * HOUR, 0, '-03'), (-2 * HOUR, 1, '-02')], [(1508036400, 1), (1518919200, 0), (1541300400, 1)])
 # 2006-10-29 00:01 goes back to 2006-10-28 23:01.
-ST_JOHNS = zone_file([-9000, -12600], [(1162089060, 1)])
+ST_JOHNS = zone_file([(-12600, 0, 'NST'), (-9000, 1, 'NDT')], [(1143948660, 1), (1162089060, 0)])
 # 2011-12-30 00:00 goes on to 2011-12-31 00:00.
-APIA = zone_file([-10 * HOUR, 14 * HOUR], [(1325239200, 1)])
-# Changes of 1945, and the rule of the European Union after the last row.
-BERLIN_FILE = zone_file([HOUR, 2 * HOUR, 3 * HOUR], [(-781052400, 2), (-776563200, 1), (-765936000, 0)], BERLIN)
+APIA = zone_file([(-11 * HOUR, 0, '-11'), (-10 * HOUR, 1, '-10'), (14 * HOUR, 1, '+14')], [(1316872800, 1), (1325239200, 2)])
+# Changes of 1945, one of 1996, and the rule of the European Union after that.
+BERLIN_FILE = zone_file([(HOUR, 0, 'CET'), (2 * HOUR, 1, 'CEST'), (3 * HOUR, 1, 'CEMT')],
+                        [(-781052400, 2), (-776563200, 1), (-765936000, 0), (828234000, 1), (846378000, 0)], BERLIN)
 
 
 def add_rows(row, lines, session):
@@ -112,14 +115,16 @@ def add_fault_rows(row, lines):
     row('zone-is-read-for-sa', 'sa,zone', 'sa shows no times, and its zone is read as well.', ['sa', '--zone', './zone', 'f'], '',
         'tally: ./zone: no such zone\n', 1)
 
-    whole = zone_file([HOUR, 2 * HOUR], [(0, 1)], BERLIN)
+    whole = zone_file([(2 * HOUR, 1, 'CEST'), (HOUR, 0, 'CET')], [(0, 1)], BERLIN)
     no_file('zone-that-is-a-folder', 'A folder.', '.')
     no_file('zone-that-is-empty-file', 'A file without bytes.', './zone', b'')
     no_file('zone-that-is-no-zone-file', 'A file of another kind.', './zone', b'CET-1CEST,M3.5.0,M10.5.0/3\n')
     no_file('zone-file-cut-off', 'All but the last byte of a time zone file.', './zone', whole[:-1])
-    no_file('zone-file-with-a-bad-rule', 'Its rule is none.', './zone', zone_file([HOUR], [], 'CET'))
+    no_file('zone-file-with-a-bad-rule', 'Its rule is none.', './zone', zone_file([(HOUR, 0, 'CET')], [], 'CET'))
+    no_file('zone-file-with-a-rule-of-another-hour', 'Its last change is to two hours east, and its rule has one.', './zone',
+            zone_file([(HOUR, 0, 'CET'), (2 * HOUR, 0, 'CET')], [(0, 1)], 'CET-1'))
     no_file('zone-file-with-leap-seconds', 'It counts 27 leap seconds, which no record does.', './zone',
-            zone_file([HOUR], [], 'CET-1', leaps=range(78796800, 78796800 + 27 * 15811200, 15811200)))
+            zone_file([(HOUR, 0, 'CET')], [], 'CET-1', leaps=range(78796800, 78796800 + 27 * 15811200, 15811200)))
     no_file('zone-file-of-65537-bytes', 'A byte more than a time zone file may have.', './zone', whole.ljust(65537, b'\n'))
     no_file('zone-file-without-end', 'No more is read than shows that it is too large.', '/dev/zero')
     row('zone-file-of-65536-bytes', 'ac,zone', 'As many bytes as a time zone file may have.', ['ac', '--zone', './zone', 'f'],
