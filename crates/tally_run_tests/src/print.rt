@@ -1,7 +1,6 @@
 //! The worked reports with their printed lines, and outputs that fail.
 ghost use Rattle.std.specs.Prelude.{◌≤◌, length};
 
-use jiff_tz::{TimeZone, posix};
 use std::alloc::Global;
 use std::process::Abort;
 use tally_clock::Clock;
@@ -27,12 +26,8 @@ fn is_printed(rt: &impl Abort, printed: Result<(), PrintFault>, out: &Kept, text
 }
 
 /// Berlin's clock by the rule that holds since 1996, unless a growth is refused.
-fn berlin(rt: &impl Abort, alloc: Global) -> Option<Clock> {
-    let Ok(rule) = posix::TimeZone::parse(b"CET-1CEST,M3.5.0,M10.5.0/3") else {
-        assert!(rt; false, "no rule");
-        return None;
-    };
-    Clock::of_zone(alloc, &TimeZone::Posix(rule)).ok()
+fn berlin(alloc: Global) -> Option<Clock> {
+    Clock::of_rule(alloc, b"CET-1CEST,M3.5.0,M10.5.0/3").ok()
 }
 
 /// A name of utmp(5): its bytes, and zeros after them.

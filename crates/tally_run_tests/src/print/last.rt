@@ -133,7 +133,7 @@ fn an_offset_moves_dates_to_the_ends_of_time(rt: HostRuntime) {
 
 #[test]
 fn clocks_go_forward_within_a_stay(rt: HostRuntime) {
-    let Some(berlin) = berlin(&rt, rt.alloc()) else {
+    let Some(berlin) = berlin(rt.alloc()) else {
         return;
     };
     let ann = login(b"ann", 1_774_745_999, End::Logout, 1_774_746_000, 1);

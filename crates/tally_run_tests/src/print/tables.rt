@@ -140,7 +140,7 @@ file,user,line,remote,start,start_at,begin,end,end_time,end_at,seconds
 #[test]
 fn the_offset_is_that_of_the_second(rt: HostRuntime) {
     let alloc = rt.alloc();
-    let Some(berlin) = berlin(&rt, alloc) else {
+    let Some(berlin) = berlin(alloc) else {
         return;
     };
     let ann = login(b"ann", 1_774_745_999, End::Logout, 1_774_746_000, 1);
