@@ -84,7 +84,7 @@ fn connect<'a>(alloc: Global) -> Made<'a>
             alloc,
             "by_day",
             'd',
-            "Sum by day, cut at midnight of UTC or of the offset",
+            "Sum by day, cut at midnight of UTC, the zone or the offset",
         ),
     );
     let command = with(command, flag(alloc, "by_user", 'p', "Sum by user"));
