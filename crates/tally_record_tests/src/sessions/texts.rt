@@ -4,6 +4,7 @@ ghost use Rattle.std.specs.Prelude.{◌≡◌};
 use std::alloc::Global;
 use std::fmt::Write;
 use std::test::Fail;
+use tally_clock::Clock;
 use tally_records::Name;
 use tally_sessions::Sessions;
 
@@ -52,10 +53,11 @@ pub(crate) fn users_of(
     Ok(text)
 }
 
-/// Day and seconds of each row by day, at an offset.
-pub(crate) fn days_of(
+/// Day and seconds of each row by day, of a clock with an offset in minutes.
+pub(crate) fn days_on(
     alloc: Global,
     sessions: &Sessions,
+    clock: &Clock,
     offset: i32,
     until: Option<i32>,
 ) -> Result<String, Fail> {
@@ -63,22 +65,48 @@ pub(crate) fn days_of(
         return Err(Fail::new("no offset"));
     }
     let mut text = String::new(alloc);
-    for row in sessions.connect_by_day(alloc, offset, until)?.as_slice() {
+    for row in sessions
+        .connect_by_day(alloc, clock, offset, until)?
+        .as_slice()
+    {
         write!(text, "{} {};", row.day, row.seconds)?;
     }
     Ok(text)
 }
 
-/// Day, user and seconds of each row by day and user.
+/// The same at an offset from UTC.
+pub(crate) fn days_of(
+    alloc: Global,
+    sessions: &Sessions,
+    offset: i32,
+    until: Option<i32>,
+) -> Result<String, Fail> {
+    days_on(alloc, sessions, &Clock::utc(alloc), offset, until)
+}
+
+/// Day, user and seconds of each row by day and user, of a clock.
+pub(crate) fn day_users_on(
+    alloc: Global,
+    sessions: &Sessions,
+    clock: &Clock,
+    until: Option<i32>,
+) -> Result<String, Fail> {
+    let mut text = String::new(alloc);
+    for row in sessions
+        .connect_by_day_user(alloc, clock, 0, until)?
+        .as_slice()
+    {
+        let user = text_of(alloc, &row.user)?;
+        write!(text, "{} {user} {};", row.day, row.seconds)?;
+    }
+    Ok(text)
+}
+
+/// The same of UTC.
 pub(crate) fn day_users_of(
     alloc: Global,
     sessions: &Sessions,
     until: Option<i32>,
 ) -> Result<String, Fail> {
-    let mut text = String::new(alloc);
-    for row in sessions.connect_by_day_user(alloc, 0, until)?.as_slice() {
-        let user = text_of(alloc, &row.user)?;
-        write!(text, "{} {user} {};", row.day, row.seconds)?;
-    }
-    Ok(text)
+    day_users_on(alloc, sessions, &Clock::utc(alloc), until)
 }

@@ -1,9 +1,7 @@
 -- The days of sessions, and the users on them, which rows are made of.
-use Rattle.std.proofs.Common.{◌≡◌, ℕ, ◌+◌, ◌<◌, ◌≢◌, ◌⊎◌, inl, inr, ◌∙◌, List, [], ◌∷◌, ◌++◌, map, refl, sym, ap, subst, arith}
-use Rattle.std.proofs.lemmas.Bool.{cases_eq}
+use Rattle.std.proofs.Common.{◌≡◌, ◌∙◌, List, [], ◌∷◌, ◌++◌, map, refl, sym, ap}
 use Rattle.std.proofs.lemmas.List.{map-append}
 use Rattle.std.specs.List.{flat_map}
-use Rattle.tally_records.proofs.Members.{Member, Member-append_left, Member-append_right}
 
 module _ {S D K Row : Type 0} (row : K → Row) (key : S → D → K) (days : S → List D) where
   abbrev pub keys_among : List S → List K

@@ -1,5 +1,5 @@
 -- The rows of a clock, each added to a table of days as often as the counts up to it say.
-use Rattle.std.proofs.Common.{◌≡◌, ◌∙◌, ◌⊎◌, inl, inr, ℕ, ◌+◌, ◌*◌, ◌<◌, ◌≤◌, ◌^◌, ℤ, pos, neg_ℤ, ◌+ℤ◌, ◌-ℤ◌, ◌*ℤ◌, ◌≤ℤ◌, FitsSigned, List, length, sym, ap, subst, arith, to_z, of_z, w64}
+use Rattle.std.proofs.Common.{◌≡◌, ◌∙◌, ◌⊎◌, inl, inr, ℕ, ◌+◌, ◌*◌, ◌<◌, ◌≤◌, ◌^◌, ℤ, pos, neg_ℤ, ◌+ℤ◌, ◌*ℤ◌, ◌≤ℤ◌, List, length, sym, ap, subst, arith}
 use Rattle.std.proofs.lemmas.Bool.{cases_lt}
 use Rattle.std.proofs.lemmas.Int.{ints}
 use Rattle.std.specs.Prelude.{unsigned_abs}
@@ -7,7 +7,7 @@ use Rattle.tally_clock.specs.declared.row.Row.{Row}
 use Rattle.tally_sessions.specs.inside.Changes.{change_at, day_at, told_at}
 use Rattle.tally_sessions.specs.inside.Counts.{change_since, size_of, stand_for}
 use Rattle.tally_sessions.specs.inside.Spans.{span_change}
-use Rattle.tally_sessions.proofs.connect.CountLemmas.{change_since-few, size_at, size_step, size_up_to, stand_small, stand_start, stand_step}
+use Rattle.tally_sessions.proofs.connect.CountLemmas.{change_since-few, size_step, size_up_to, stand_small, stand_start, stand_step}
 use Rattle.tally_sessions.proofs.connect.CutLemmas.{change_past}
 use Rattle.tally_sessions.proofs.connect.DayChanges.{past_end}
 use Rattle.tally_sessions.proofs.connect.Weights.{none_times, product-high, product-low, times_none, times_of_sum, times_sum}

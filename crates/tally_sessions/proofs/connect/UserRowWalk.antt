@@ -1,5 +1,5 @@
 -- The rows of a clock, each added to the days of its users as often as their counts up to it say.
-use Rattle.std.proofs.Common.{◌≡◌, ◌∙◌, ℕ, ◌+◌, ◌-◌, ◌*◌, ◌<◌, ◌≤◌, ◌^◌, ℤ, pos, neg_ℤ, ◌+ℤ◌, ◌-ℤ◌, ◌*ℤ◌, ◌≤ℤ◌, Bool, true, false, cond, List, ◌∷◌, length, sym, ap, subst, arith}
+use Rattle.std.proofs.Common.{◌≡◌, ◌∙◌, ℕ, ◌+◌, ◌-◌, ◌*◌, ◌<◌, ◌≤◌, ◌^◌, ℤ, pos, neg_ℤ, ◌+ℤ◌, ◌*ℤ◌, ◌≤ℤ◌, Bool, true, false, cond, List, ◌∷◌, length, sym, ap, arith}
 use Rattle.std.proofs.lemmas.Int.{ints}
 use Rattle.std.specs.Prelude.{bytes_eq, unsigned_abs}
 use Rattle.tally_clock.specs.declared.row.Row.{Row}
@@ -74,7 +74,7 @@ module _ (clock : ℤ → ℤ) (rows : List Row) (told : DayUser → ℤ) (chang
       → ((day : ℤ) → change_since clock rows day at.row ≡ span_change day b e +ℤ change_since clock rows day (at.row + 1))
       → ((k : DayUser) → day_change new k ≡ day_change changes k +ℤ cond (bytes_eq at.user k.user) (v *ℤ span_change k.day b e) (pos 0))
       → ((k : DayUser) → stand_for (count_of last k.user) (change_since clock rows k.day) n
-          ≡ stand_for (count_of popped k.user) (change_since clock rows k.day) n +ℤ cond (bytes_eq at.user k.user) (v *ℤ change_since clock rows k.day (at.row + 1)) (pos 0))
+      ≡ stand_for (count_of popped k.user) (change_since clock rows k.day) n +ℤ cond (bytes_eq at.user k.user) (v *ℤ change_since clock rows k.day (at.row + 1)) (pos 0))
       → ((name : List ℕ) → size_of (count_of last name) n ≤ size_of (count_of popped name) n + cond (bytes_eq at.user name) (unsigned_abs v) 0)
       → (AreWithin popped n → AreWithin last n) → IsLeft clock rows told new last
   left_step new last b e parts added counted sizes within = record {

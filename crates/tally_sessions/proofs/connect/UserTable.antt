@@ -1,5 +1,5 @@
 -- Changes of users from day to day and counts by row, while the sessions ahead are taken into them.
-use Rattle.std.proofs.Common.{◌≡◌, ◌∙◌, ◌+◌, ◌*◌, ◌<◌, ◌≤◌, ◌^◌, ℕ, Bool, true, false, cond, List, ◌∷◌, length, filter, ℤ, pos, neg_ℤ, ◌+ℤ◌, ◌≤ℤ◌, sym, ap, arith}
+use Rattle.std.proofs.Common.{◌≡◌, ◌+◌, ◌*◌, ◌<◌, ◌≤◌, ◌^◌, ℕ, Bool, true, false, cond, List, ◌∷◌, length, filter, ℤ, pos, neg_ℤ, ◌+ℤ◌, ◌≤ℤ◌, arith}
 use Rattle.std.proofs.lemmas.Int.{ints}
 use Rattle.std.specs.Prelude.{bytes_eq, unsigned_abs}
 use Rattle.tally_clock.specs.Days.{seconds_on}

@@ -82,13 +82,7 @@ fn count_rows(counts: &mut [i64], from: usize, to: usize)
 
 /// Adds a session: the changes of its seconds in the rows of the clock where it begins and ends to the
 /// days, and one to the count of the first row that it has whole, up to the row where it ends.
-fn add_session(
-    table: &mut [i64],
-    counts: &mut [i64],
-    clock: &Clock,
-    offset: i32,
-    session: &Session,
-)
+fn add_session(table: &mut [i64], counts: &mut [i64], clock: &Clock, offset: i32, session: &Session)
     requires offset_in { days.IsOffset offset }
     requires all_days { length table.old ≡ DAY_COUNT }
     requires all_rows { length counts.old ≡ length clock.now.rows }

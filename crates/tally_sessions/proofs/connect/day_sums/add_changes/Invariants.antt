@@ -1,4 +1,4 @@
-use Rattle.std.proofs.Common.{◌≡◌, ℕ, ◌-◌, length}
+use Rattle.std.proofs.Common.{◌≡◌, ◌-◌, length}
 use Rattle.tally_sessions.proofs.connect.DayChanges.{IsChanged, changes_of}
 use Rattle.tally_sessions.proofs.connect.day_sums.add_changes.Given as goal
 

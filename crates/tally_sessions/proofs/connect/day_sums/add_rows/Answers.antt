@@ -1,14 +1,13 @@
-use Rattle.std.proofs.Common.{◌≡◌, ◌∙◌, ◌+◌, ◌<◌, ◌≤◌, ◌^◌, ℕ, ℤ, List, pos, neg_ℤ, ◌+ℤ◌, ◌*ℤ◌, ◌≤ℤ◌, FitsSigned, length, refl, sym, ap, subst, arith, rules, to_z, of_z, w32, w64}
+use Rattle.std.proofs.Common.{◌≡◌, ◌∙◌, ◌<◌, ◌≤◌, ℕ, ℤ, List, pos, neg_ℤ, ◌+ℤ◌, ◌≤ℤ◌, FitsSigned, length, refl, sym, ap, subst, arith, to_z, of_z, w32, w64}
 use Rattle.std.proofs.lemmas.Int.{ints, to_z-of_z}
 use Rattle.std.specs.Prelude.{unsigned_abs}
 use Rattle.tally_sessions.proofs.connect.CountLemmas.{size_at, size_up_to}
 use Rattle.tally_sessions.proofs.connect.CutLemmas.{change_next}
-use Rattle.tally_sessions.proofs.connect.RowWalk.{IsRowWalk, next_few, row_walk-end, row_walk-start, row_walk-step, row_walk-within}
-use Rattle.tally_sessions.proofs.days.ClockDays.{IsNear, near_local}
+use Rattle.tally_sessions.proofs.connect.RowWalk.{next_few, row_walk-end, row_walk-start, row_walk-step, row_walk-within}
+use Rattle.tally_sessions.proofs.days.ClockDays.{near_local}
 use Rattle.tally_sessions.specs.Days.{IsOffset, local}
-use Rattle.tally_sessions.specs.inside.Changes.{change_at, day_at, told_at}
+use Rattle.tally_sessions.specs.inside.Changes.{change_at, told_at}
 use Rattle.tally_sessions.specs.inside.Counts.{size_of}
-use Rattle.tally_sessions.specs.inside.Spans.{span_change}
 use Rattle.tally_sessions.proofs.connect.day_sums.add_rows.Goals as goal
 
 abbrev held : ℤ → ℤ

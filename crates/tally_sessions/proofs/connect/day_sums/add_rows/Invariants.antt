@@ -1,5 +1,3 @@
-use Rattle.std.proofs.Common.{◌≡◌, ◌<◌, ◌≤◌, ℕ, ◌+ℤ◌, ◌*ℤ◌, length}
-use Rattle.std.specs.Prelude.{unsigned_abs}
 use Rattle.tally_sessions.proofs.connect.RowWalk.{IsRowWalk}
 use Rattle.tally_sessions.specs.Days.{local}
 use Rattle.tally_sessions.proofs.connect.day_sums.add_rows.Given as goal

@@ -1,16 +1,15 @@
-use Rattle.std.proofs.Common.{◌≡◌, ◌∙◌, ◌⊎◌, inl, inr, ◌+◌, ◌<◌, ◌≤◌, ◌^◌, ℕ, ℤ, List, Some, None, pos, neg_ℤ, ◌+ℤ◌, ◌-ℤ◌, ◌*ℤ◌, ◌≤ℤ◌, length, sym, ap, subst, arith, rules, to_z, of_z, w32}
+use Rattle.std.proofs.Common.{◌≡◌, ◌∙◌, ◌⊎◌, inl, inr, ◌+◌, ◌<◌, ◌≤◌, ◌^◌, ℕ, ℤ, List, pos, neg_ℤ, ◌+ℤ◌, ◌-ℤ◌, ◌*ℤ◌, ◌≤ℤ◌, length, ap, subst, arith, to_z, of_z, w32}
 use Rattle.std.proofs.lemmas.Bool.{cases_lt}
 use Rattle.std.proofs.lemmas.Int.{ints, to_z-of_z}
 use Rattle.std.specs.Option.{IfNone, IfSome}
 use Rattle.tally_clock.specs.Days.{seconds_on}
-use Rattle.tally_clock.specs.declared.row.Row.{Row}
 use Rattle.tally_sessions.proofs.connect.CutChanges.{one_change, several_change}
 use Rattle.tally_sessions.proofs.connect.DayChanges.{past_end}
 use Rattle.tally_sessions.proofs.connect.Weights.{once}
 use Rattle.tally_sessions.proofs.days.SpanLemmas.{span_on-le}
 use Rattle.tally_sessions.specs.Days.{local}
-use Rattle.tally_sessions.specs.inside.Changes.{change_at, change_on, day_at, told_at}
-use Rattle.tally_sessions.specs.inside.Counts.{change_since, seconds_since, size_of, stand_for}
+use Rattle.tally_sessions.specs.inside.Changes.{change_at, change_on, day_at}
+use Rattle.tally_sessions.specs.inside.Counts.{change_since, seconds_since, stand_for}
 use Rattle.tally_sessions.specs.inside.Spans.{span_change, span_on}
 use Rattle.tally_sessions.proofs.connect.day_sums.add_session.Goals as goal
 

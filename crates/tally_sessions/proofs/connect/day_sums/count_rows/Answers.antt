@@ -1,10 +1,10 @@
-use Rattle.std.proofs.Common.{◌≡◌, ◌∙◌, ◌+◌, ◌<◌, ◌≤◌, ◌^◌, ℕ, ℤ, List, pos, neg_ℤ, ◌+ℤ◌, ◌-ℤ◌, ◌≤ℤ◌, FitsSigned, length, set, sym, ap, subst, arith, rules, to_z, of_z, w64}
+use Rattle.std.proofs.Common.{◌≡◌, ◌<◌, ◌≤◌, ℕ, ℤ, List, pos, neg_ℤ, ◌+ℤ◌, ◌-ℤ◌, ◌≤ℤ◌, FitsSigned, length, set, arith, to_z, of_z, w64}
 use Rattle.std.proofs.lemmas.Int.{ints}
 use Rattle.std.proofs.Math.ListN.{length-set}
 use Rattle.std.specs.Prelude.{unsigned_abs}
 use Rattle.tally_sessions.proofs.connect.CountLemmas.{counted, IsCounted, IsMoreAt, set_more, size_at, size_more}
 use Rattle.tally_sessions.specs.inside.Changes.{change_at}
-use Rattle.tally_sessions.specs.inside.Counts.{size_of, stand_for}
+use Rattle.tally_sessions.specs.inside.Counts.{size_of}
 use Rattle.tally_sessions.proofs.connect.day_sums.count_rows.Goals as goal
 
 abbrev kept : ℤ → ℤ

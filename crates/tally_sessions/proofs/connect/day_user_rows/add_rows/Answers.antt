@@ -1,9 +1,9 @@
-use Rattle.std.proofs.Common.{◌≡◌, ◌∙◌, ℕ, ◌+◌, ◌-◌, ◌<◌, ◌≤◌, ◌^◌, cond, List, ℤ, pos, negsuc, neg_ℤ, ◌+ℤ◌, ◌*ℤ◌, ◌≤ℤ◌, length, sym, ap, subst, arith, rules, to_z, of_z, w32, w64}
+use Rattle.std.proofs.Common.{◌≡◌, ◌∙◌, ℕ, ◌+◌, ◌-◌, ◌<◌, ◌≤◌, ◌^◌, cond, List, ℤ, pos, negsuc, neg_ℤ, ◌+ℤ◌, ◌*ℤ◌, ◌≤ℤ◌, length, sym, ap, subst, arith, to_z, of_z, w32, w64}
 use Rattle.std.proofs.lemmas.Int.{ints, to_z-of_z}
 use Rattle.std.specs.Prelude.{bytes_eq, unsigned_abs}
 use Rattle.tally_sessions.proofs.connect.CutLemmas.{change_next, change_past}
 use Rattle.tally_sessions.proofs.connect.UserCounts.{IsPopped, no_counts}
-use Rattle.tally_sessions.proofs.connect.UserRowWalk.{IsLeft, left_bounds, left_end, left_nearer, left_past, left_step, past_nearer, popped_counts_few, row_in, times_few}
+use Rattle.tally_sessions.proofs.connect.UserRowWalk.{left_bounds, left_end, left_nearer, left_past, left_step, past_nearer, popped_counts_few, row_in, times_few}
 use Rattle.tally_sessions.proofs.days.ClockDays.{near_local}
 use Rattle.tally_sessions.specs.Days.{IsOffset, local}
 use Rattle.tally_sessions.specs.declared.connect.keys.DayUser.{DayUser}

@@ -1,4 +1,4 @@
-use Rattle.std.proofs.Common.{◌≡◌, ℤ, length}
+use Rattle.std.proofs.Common.{length}
 use Rattle.tally_sessions.specs.Days.{local}
 use Rattle.tally_sessions.specs.declared.connect.keys.DayUser.{DayUser}
 use Rattle.tally_sessions.specs.inside.Changes.{rows_ahead, told_of}

@@ -1,7 +1,7 @@
-use Rattle.std.proofs.Common.{◌≡◌, ◌∙◌, ◌+◌, ◌<◌, ◌≤◌, ◌^◌, ℕ, ℤ, Bool, true, false, cond, List, Some, None, pos, neg_ℤ, ◌+ℤ◌, ◌-ℤ◌, ◌*ℤ◌, ◌≤ℤ◌, length, sym, ap, subst, arith, rules, to_z, of_z, w32}
+use Rattle.std.proofs.Common.{◌≡◌, ◌∙◌, ◌+◌, ◌<◌, ◌^◌, ℕ, ℤ, Bool, true, false, cond, List, pos, neg_ℤ, ◌+ℤ◌, ◌-ℤ◌, ◌*ℤ◌, ◌≤ℤ◌, length, ap, subst, arith, to_z, of_z, w32}
 use Rattle.std.proofs.lemmas.Int.{ints, to_z-of_z}
 use Rattle.std.specs.Option.{IfNone, IfSome}
-use Rattle.std.specs.Prelude.{bytes_eq, unsigned_abs}
+use Rattle.std.specs.Prelude.{bytes_eq}
 use Rattle.tally_clock.specs.Days.{seconds_on}
 use Rattle.tally_sessions.proofs.connect.CutChanges.{one_change, several_change}
 use Rattle.tally_sessions.proofs.connect.UserCounts.{count_few}
@@ -9,8 +9,8 @@ use Rattle.tally_sessions.proofs.connect.Weights.{once}
 use Rattle.tally_sessions.proofs.days.SpanLemmas.{span_on-le}
 use Rattle.tally_sessions.specs.Days.{local}
 use Rattle.tally_sessions.specs.declared.connect.keys.DayUser.{DayUser}
-use Rattle.tally_sessions.specs.inside.Changes.{AreWithin, change_on, count_of, day_change, told_of}
-use Rattle.tally_sessions.specs.inside.Counts.{change_since, seconds_since, size_of, stand_for}
+use Rattle.tally_sessions.specs.inside.Changes.{change_on, count_of, day_change}
+use Rattle.tally_sessions.specs.inside.Counts.{change_since, seconds_since, stand_for}
 use Rattle.tally_sessions.specs.inside.Spans.{span_change, span_on}
 use Rattle.tally_sessions.proofs.connect.day_user_rows.add_session.Goals as goal
 

@@ -1,12 +1,11 @@
-use Rattle.std.proofs.Common.{◌≡◌, ◌∙◌, ℕ, ◌+◌, ◌-◌, ◌<◌, ◌≤◌, ◌^◌, cond, List, ℤ, pos, neg_ℤ, ◌+ℤ◌, ◌*ℤ◌, ◌≤ℤ◌, sym, ap, subst, arith, to_z, of_z, w64}
+use Rattle.std.proofs.Common.{◌∙◌, ℕ, ◌+◌, ◌-◌, ◌≤◌, ◌^◌, cond, List, ℤ, pos, neg_ℤ, ◌+ℤ◌, ◌≤ℤ◌, ap, arith, to_z, of_z, w64}
 use Rattle.std.proofs.lemmas.Int.{ints, to_z-of_z}
 use Rattle.std.specs.Ordering.{is_eq}
 use Rattle.std.specs.Prelude.{bytes_eq, unsigned_abs}
 use Rattle.tally_sessions.proofs.connect.CountLemmas.{IsMoreAt, size_if, stand_if}
 use Rattle.tally_sessions.proofs.connect.UserCounts.{at_row, more_at, put_within}
 use Rattle.tally_sessions.specs.declared.connect.keys.RowUser.{RowUser}
-use Rattle.tally_sessions.specs.inside.Changes.{AreWithin, count_of, rows_ahead}
-use Rattle.tally_sessions.specs.inside.Counts.{size_of, stand_for}
+use Rattle.tally_sessions.specs.inside.Changes.{count_of}
 use Rattle.tally_sessions.specs.inside.Sums.{change_of, row_user_cmp}
 use Rattle.tally_sessions.proofs.connect.day_user_rows.count_on.Goals as goal
 

@@ -1,13 +1,10 @@
-use Rattle.std.proofs.Common.{◌≡◌, ◌∙◌, ℕ, ◌+◌, ◌<◌, ◌≤◌, ◌^◌, Bool, true, false, cond, List, ℤ, pos, neg_ℤ, ◌+ℤ◌, ◌-ℤ◌, ◌*ℤ◌, ◌≤ℤ◌, sym, ap, subst, arith, to_z, of_z, w64}
+use Rattle.std.proofs.Common.{◌≡◌, ◌≤◌, ◌^◌, Bool, true, false, cond, ℤ, pos, neg_ℤ, ◌+ℤ◌, ◌-ℤ◌, ◌*ℤ◌, ◌≤ℤ◌, arith}
 use Rattle.std.proofs.lemmas.Int.{ints}
-use Rattle.std.specs.Ordering.{is_eq}
 use Rattle.std.specs.Prelude.{bytes_eq, unsigned_abs}
-use Rattle.tally_sessions.proofs.connect.CountLemmas.{IsMoreAt, size_if, stand_if}
+use Rattle.tally_sessions.proofs.connect.CountLemmas.{size_if, stand_if}
 use Rattle.tally_sessions.proofs.connect.UserCounts.{at_row, more_at, put_within}
-use Rattle.tally_sessions.specs.declared.connect.keys.RowUser.{RowUser}
-use Rattle.tally_sessions.specs.inside.Changes.{AreWithin, count_of}
-use Rattle.tally_sessions.specs.inside.Counts.{size_of, stand_for}
-use Rattle.tally_sessions.specs.inside.Sums.{change_of, row_user_cmp}
+use Rattle.tally_sessions.specs.inside.Changes.{count_of}
+use Rattle.tally_sessions.specs.inside.Counts.{stand_for}
 use Rattle.tally_sessions.proofs.connect.day_user_rows.count_rows.Goals as goal
 
 bounds : (z : ℤ) → unsigned_abs z ≤ 4194305 → (neg_ℤ (pos (2 ^ 61)) ≤ℤ z) × (z ≤ℤ pos (2 ^ 61))

@@ -1,4 +1,4 @@
-use Rattle.std.proofs.Common.{◌≡◌, ◌∙◌, ◌≤◌, ◌<◌, ◌^◌, ℕ, zero, suc, ℤ, All, true, false, List, [], ◌∷◌, length, refl, FitsSigned, pos, ◌+ℤ◌, ◌≤ℤ◌, sym, ap, subst, arith, rules, to_z, of_z, w32, w64}
+use Rattle.std.proofs.Common.{◌≡◌, ◌∙◌, ◌≤◌, ◌<◌, ◌^◌, ℕ, zero, suc, ℤ, All, true, false, List, [], ◌∷◌, length, refl, FitsSigned, pos, ◌+ℤ◌, ◌≤ℤ◌, sym, ap, subst, arith, to_z, of_z, w32, w64}
 use Rattle.std.proofs.lemmas.Int.{ints, to_z-of_z}
 use Rattle.std.specs.Prelude.{int_lt, unsigned_abs}
 use Rattle.tally_sessions.specs.declared.connect.keys.DayUser.{DayUser}

@@ -5,9 +5,8 @@ use Rattle.tally_clock.specs.Rows.{count_at, IsRising}
 use Rattle.tally_clock.specs.declared.row.Row.{Row}
 use Rattle.tally_sessions.proofs.connect.CutLemmas.{after_begun, before_later, count_at_start, over_rows}
 use Rattle.tally_sessions.proofs.days.ClockDays.{day_is_one, near_local}
-use Rattle.tally_sessions.specs.Days.{IsOffset, local}
+use Rattle.tally_sessions.specs.Days.{local}
 use Rattle.tally_sessions.specs.inside.Counts.{seconds_since, start_of}
-use Rattle.tally_sessions.specs.inside.Spans.{span_on}
 use Rattle.tally_sessions.proofs.connect.cut.Cut.of.Goals as goal
 
 abbrev held : ℤ → ℤ
