@@ -21,7 +21,7 @@ use Rattle.tally_sessions.specs.inside.Counts.{size_of}
 use Rattle.tally_sessions.specs.inside.Sums.{change_of, row_user_cmp}
 
 pub row_user_total : IsTotalOrder row_user_cmp
-row_user_total = then_total (on_total (λ (k : RowUser). k.row) nat_cmp_total) (on_total (λ (k : RowUser). k.user) nat_list_cmp_total)
+row_user_total = then_total (on_total (λ (k : RowUser). k.user) nat_list_cmp_total) (on_total (λ (k : RowUser). k.row) nat_cmp_total)
 
 -- the count that a table has at a key
 abbrev pub found_at : List (RowUser × ℤ) → RowUser → Option ℤ
@@ -30,17 +30,24 @@ found_at counts k = lookup (λ j. is_eq (row_user_cmp k j)) counts
 abbrev pub at_row : ℕ → List ℕ → RowUser
 at_row row user = record { row = row; user = user }
 
-first_equal : (r s : Ordering) → is_eq (ordering_then r s) ≡ true → r ≡ Equal
-first_equal Less s h = absurd (cc)
-first_equal Equal s h = refl
-first_equal Greater s h = absurd (cc)
+last_equal : (r s : Ordering) → is_eq (ordering_then r s) ≡ true → s ≡ Equal
+last_equal Less s h = absurd (cc)
+last_equal Equal Less h = absurd (cc)
+last_equal Equal Equal h = refl
+last_equal Equal Greater h = absurd (cc)
+last_equal Greater s h = absurd (cc)
 
 same_row : (a b : RowUser) → is_eq (row_user_cmp a b) ≡ true → a.row ≡ b.row
-same_row a b h = (Decides-eqb a.row b.row).0 (sym (unsigned_tied a.row b.row) ∙ ap is_eq (first_equal (nat_cmp a.row b.row) (slice_cmp nat_cmp a.user b.user) h))
+same_row a b h = (Decides-eqb a.row b.row).0 (sym (unsigned_tied a.row b.row) ∙ ap is_eq (last_equal (slice_cmp nat_cmp a.user b.user) (nat_cmp a.row b.row) h))
+
+then_equal : (r : Ordering) → is_eq (ordering_then r Equal) ≡ is_eq r
+then_equal Less = refl
+then_equal Equal = refl
+then_equal Greater = refl
 
 -- at one row only the users count
 at_one_row : (row : ℕ) (name user : List ℕ) → is_eq (row_user_cmp (at_row row name) (at_row row user)) ≡ bytes_eq name user
-at_one_row row name user = ap (λ r. is_eq (ordering_then r (slice_cmp nat_cmp name user))) (tied_itself nat_cmp_total row) ∙ is_eq-slice_cmp name user
+at_one_row row name user = ap (λ s. is_eq (ordering_then (slice_cmp nat_cmp name user) s)) (tied_itself nat_cmp_total row) ∙ then_equal (slice_cmp nat_cmp name user) ∙ is_eq-slice_cmp name user
 
 apart : (row k : ℕ) (name user : List ℕ) → k ≢ row → is_eq (row_user_cmp (at_row row name) (at_row k user)) ≡ false
 apart row k name user other = by (is_eq (row_user_cmp (at_row row name) (at_row k user))) refl

@@ -14,9 +14,9 @@ use Rattle.tally_sessions.specs.declared.times.UserTime.{UserTime}
 abbrev pub day_user_cmp : DayUser → DayUser → Ordering
 day_user_cmp a b = ordering_then (int_cmp a.day b.day) (slice_cmp nat_cmp a.user b.user)
 
--- the order of users at rows of a clock: by the row, and then by the name's bytes
+-- the order of users at rows of a clock: by the name's bytes, and then by the row
 abbrev pub row_user_cmp : RowUser → RowUser → Ordering
-row_user_cmp a b = ordering_then (nat_cmp a.row b.row) (slice_cmp nat_cmp a.user b.user)
+row_user_cmp a b = ordering_then (slice_cmp nat_cmp a.user b.user) (nat_cmp a.row b.row)
 
 -- the sum that a table in order has at a key
 abbrev pub sum_at : {K : Type 0} → (K → K → Ordering) → List (K × ℕ) → K → ℕ

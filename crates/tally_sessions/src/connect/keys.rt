@@ -17,8 +17,8 @@ pub(crate) struct DayUser {
 /// A user from a row of a clock on.
 #[derive(Clone, Copy, PartialEq, Eq, PartialOrd, Ord)]
 pub(crate) struct RowUser {
-    pub(crate) row: usize,
     pub(crate) user: Name,
+    pub(crate) row: usize,
 }
 
 /// The sum of a key, where a table without it has 0.
