@@ -6,8 +6,8 @@ use jiff_core::Offset;
 use std::alloc::{AllocError, Global};
 use std::marker::Model;
 
-/// The most rows of a clock. A file of 64 KiB has fewer, and so has a rule.
-pub const ROW_LIMIT: usize = 65_536;
+/// The most rows of a clock. A rule has 272, and no zone of the system more.
+pub const ROW_LIMIT: usize = 4_096;
 
 /// How far a place's clock is ahead of UTC, in seconds, at each second that a record can have.
 #[derive(Drop)]

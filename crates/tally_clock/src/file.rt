@@ -26,7 +26,7 @@ pub enum FileFault {
     NoZone,
     /// They count leap seconds, which other clocks do not.
     LeapSeconds,
-    /// The offset changes more than 65,536 times.
+    /// The offset changes more than 4,096 times.
     Long,
 }
 

@@ -16,7 +16,7 @@ pub enum RuleFault {
     Memory,
     /// It is no rule.
     NoRule,
-    /// The offset changes more than 65,536 times.
+    /// The offset changes more than 4,096 times.
     Long,
 }
 

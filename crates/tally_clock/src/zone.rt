@@ -28,7 +28,7 @@ const DAY: i64 = 86_400;
 pub enum ClockFault {
     /// Out of memory.
     Memory,
-    /// Its offset changes more than 65,536 times.
+    /// Its offset changes more than 4,096 times.
     Long,
 }
 
