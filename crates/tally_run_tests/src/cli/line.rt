@@ -1,6 +1,7 @@
 //! What the words of a command line ask for.
 
 mod files;
+mod zones;
 
 use std::alloc::{AllocError, Global};
 use tally_cli::{Form, Job, Line, LineFault, Report, job_of};
