@@ -137,12 +137,7 @@ impl Book {
     }
 
     /// The same with the days of a clock.
-    pub fn on(
-        alloc: Global,
-        keys: RandomState,
-        clock: Clock,
-        callers: u32,
-    ) -> Result<Book, Memory>
+    pub fn on(alloc: Global, keys: RandomState, clock: Clock, callers: u32) -> Result<Book, Memory>
         requires some { 1 ≤ callers }
         requires few { callers ≤ HOST_LIMIT }
         ensures empty { IfOk result (λ b. b ≡ empty clock callers) }
@@ -276,7 +271,14 @@ impl Book {
             unreachable!()
         };
         let at = counts(&self.logins, &self.summary);
-        let answer = answer(alloc, &self.clock, sessions, self.callers, &self.summary, question)?;
+        let answer = answer(
+            alloc,
+            &self.clock,
+            sessions,
+            self.callers,
+            &self.summary,
+            question,
+        )?;
         let kept = answer.try_copy(alloc)?;
         let asked = Call::Asked {
             caller,

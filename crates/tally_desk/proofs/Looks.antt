@@ -2,7 +2,6 @@
 use Rattle.std.proofs.Common.{◌≡◌, ◌≢◌, ◌∙◌, ℕ, Bool, true, false, ◌∷◌, refl, subst}
 use Rattle.std.specs.Prelude.{◌==◌, MatchBool}
 use Rattle.std.proofs.lemmas.Bool.{eq-eqb, eqb-true}
-
 use Rattle.tally_book.specs.Books.{IsLegal}
 use Rattle.tally_book.specs.Contents.{Contents}
 use Rattle.tally_desk.specs.Callers.{Fits}

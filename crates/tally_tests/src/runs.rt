@@ -58,7 +58,16 @@ fn run_once<R: Threads + Wait + Sync>(
         Ok(files) => files,
     };
     let mut out = Watched::new(alloc);
-    let outcome = run(rt, alloc, keys, &Clock::utc(alloc), &JOB, files, &OpenGate, &mut out);
+    let outcome = run(
+        rt,
+        alloc,
+        keys,
+        &Clock::utc(alloc),
+        &JOB,
+        files,
+        &OpenGate,
+        &mut out,
+    );
     Ok((outcome, out))
 }
 

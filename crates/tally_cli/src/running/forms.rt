@@ -40,12 +40,8 @@ pub(crate) fn print_answers<O: Output>(
         (form_text job.now.form job.now.report (local clock.now job.now.offset) job.now.until answers.now) }
 {
     match (job.form, table_of(job.report)) {
-        (Form::Text, _) => {
-            print_sections(alloc, clock, answers, job.offset, out, job.until)
-        },
-        (Form::Csv, Some(table)) => {
-            print_table(alloc, clock, table, answers, job.offset, out)
-        },
+        (Form::Text, _) => { print_sections(alloc, clock, answers, job.offset, out, job.until) },
+        (Form::Csv, Some(table)) => { print_table(alloc, clock, table, answers, job.offset, out) },
         (Form::Csv, None) => Ok(()),
     }
 }

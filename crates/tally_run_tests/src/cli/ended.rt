@@ -105,7 +105,16 @@ fn all_over<R: AllocGlobal + Threads + Wait + Sync>(
     }
     let job = text_job(Report::All, 1, 0);
     let mut out = Closing::new(fails);
-    let outcome = run(rt, rt.alloc(), keys, &Clock::utc(rt.alloc()), &job, sources, &OpenGate, &mut out);
+    let outcome = run(
+        rt,
+        rt.alloc(),
+        keys,
+        &Clock::utc(rt.alloc()),
+        &job,
+        sources,
+        &OpenGate,
+        &mut out,
+    );
     Ok(Ended {
         outcome,
         out,

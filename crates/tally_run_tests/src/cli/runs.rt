@@ -87,7 +87,16 @@ fn run_over<R: AllocGlobal + Threads + Wait + Sync>(
 ) -> (Result<(), RunFault>, Kept) {
     let job = text_job(report, 4, 0);
     let mut out = Kept::new(rt.alloc());
-    let outcome = run(rt, rt.alloc(), keys, &Clock::utc(rt.alloc()), &job, sources, &OpenGate, &mut out);
+    let outcome = run(
+        rt,
+        rt.alloc(),
+        keys,
+        &Clock::utc(rt.alloc()),
+        &job,
+        sources,
+        &OpenGate,
+        &mut out,
+    );
     (outcome, out)
 }
 

@@ -83,7 +83,16 @@ fn all_of_two<R: AllocGlobal + Threads + Wait + Sync, G: Gate + Sync>(
     sources.push(Source { kind, input: bob })?;
     let job = text_job(Report::All, feeders, askers);
     let mut out = Kept::new(alloc);
-    let outcome = run(rt, alloc, keys, &Clock::utc(alloc), &job, sources, gate, &mut out);
+    let outcome = run(
+        rt,
+        alloc,
+        keys,
+        &Clock::utc(alloc),
+        &job,
+        sources,
+        gate,
+        &mut out,
+    );
     Ok((outcome, out))
 }
 
