@@ -1,4 +1,4 @@
-use Rattle.std.proofs.Common.{rules, ap, sym}
+use Rattle.std.proofs.Common.{rules, ap}
 use Rattle.tally_desk.specs.Passes.{Sat}
 use Rattle.tally_desk.proofs.Keeps.{looks}
 use Rattle.tally_desk.proofs.Looks.{looked}

@@ -1,6 +1,5 @@
 use Rattle.std.proofs.Common.{◌≡◌, List, [], ◌∷◌, subst, sym, ◌∙◌, ◌++◌}
 use Rattle.atomic_table.specs.Table.{opening}
-use Rattle.tally_clock.specs.Rows.{ClockRows}
 use Rattle.tally_book.specs.Books.{empty}
 use Rattle.tally_book.specs.Contents.{Contents}
 use Rattle.tally_desk.specs.declared.lock.rule.Opening.{Opening}

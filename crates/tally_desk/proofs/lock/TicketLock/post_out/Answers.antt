@@ -1,6 +1,5 @@
-use Rattle.std.proofs.Common.{◌≡◌, ◌∙◌, [], ◌∷◌, ap, sym}
+use Rattle.std.proofs.Common.{◌∙◌, ◌∷◌, ap, sym}
 use Rattle.atomic_table.specs.Table.{rest}
-use Rattle.tally_book.specs.Contents.{Contents}
 use Rattle.tally_desk.specs.Passes.{Sat}
 use Rattle.tally_desk.proofs.lock.TicketLock.post_out.Goals as goal
 
