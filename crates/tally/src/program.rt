@@ -106,7 +106,43 @@ where
     }
 }
 
-/// Reads the zone, opens all files, and then reads them and prints the report.
+/// Opens all files, and then reads them and prints the report in the time of a clock.
+fn report_on<R>(
+    rt: &R,
+    to: ErrorsTo,
+    job: &Job,
+    keys: RandomState,
+    clock: &Clock,
+    files: &[FileArg],
+) -> ExitCode
+where
+    R: Files + Input + Print + Eprint + AllocGlobal + RandomSource + Threads + Wait + Sync,
+    R::File: Drop + Send,
+    R::Reader: Send,
+    requires { IsRunnable job.now }
+{
+    let sources = match open_all(rt, rt.alloc(), files) {
+        Ok(sources) => sources,
+        Err(OpenFault::Memory) => return fault(rt, FAULT, Memory),
+        Err(OpenFault::NotOpened(path)) => return not_opened(rt, Shown::new(path, to)),
+    };
+    let mut out = Writing::new(Watched::new(io::writer(rt)));
+    match run(
+        rt,
+        rt.alloc(),
+        keys,
+        clock,
+        job,
+        sources,
+        &OpenGate,
+        &mut out,
+    ) {
+        Ok(()) => ExitCode::SUCCESS,
+        Err(found) => run_fault(rt, to, files, found, out.writer().is_reader_gone()),
+    }
+}
+
+/// Draws the keys and reads the zone, and then reports.
 fn report<R>(rt: &R, to: ErrorsTo, job: &Job, zone: Option<&String>, files: &[FileArg]) -> ExitCode
 where
     R: Files + Input + Print + Eprint + AllocGlobal + RandomSource + Threads + Wait + Sync,
@@ -118,28 +154,9 @@ where
         Ok(keys) => keys,
         Err(_) => return fault(rt, FAULT, "no random bytes"),
     };
-    let clock = match clock_for(rt, to, zone) {
-        Ok(clock) => clock,
-        Err(status) => return status,
-    };
-    let sources = match open_all(rt, rt.alloc(), files) {
-        Ok(sources) => sources,
-        Err(OpenFault::Memory) => return fault(rt, FAULT, Memory),
-        Err(OpenFault::NotOpened(path)) => return not_opened(rt, Shown::new(path, to)),
-    };
-    let mut out = Writing::new(Watched::new(io::writer(rt)));
-    match run(
-        rt,
-        rt.alloc(),
-        keys,
-        &clock,
-        job,
-        sources,
-        &OpenGate,
-        &mut out,
-    ) {
-        Ok(()) => ExitCode::SUCCESS,
-        Err(found) => run_fault(rt, to, files, found, out.writer().is_reader_gone()),
+    match clock_for(rt, to, zone) {
+        Ok(clock) => report_on(rt, to, job, keys, &clock, files),
+        Err(status) => status,
     }
 }
 
