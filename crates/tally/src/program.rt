@@ -128,7 +128,16 @@ where
         Err(OpenFault::NotOpened(path)) => return not_opened(rt, Shown::new(path, to)),
     };
     let mut out = Writing::new(Watched::new(io::writer(rt)));
-    match run(rt, rt.alloc(), keys, &clock, job, sources, &OpenGate, &mut out) {
+    match run(
+        rt,
+        rt.alloc(),
+        keys,
+        &clock,
+        job,
+        sources,
+        &OpenGate,
+        &mut out,
+    ) {
         Ok(()) => ExitCode::SUCCESS,
         Err(found) => run_fault(rt, to, files, found, out.writer().is_reader_gone()),
     }

@@ -6,7 +6,6 @@ use Rattle.clap.specs.Matches.{matched_of}
 use Rattle.clap.specs.Walk.{Row, Text, row_of, rows_of}
 use Rattle.clap.specs.declared.parser.matches.Found.{Found}
 use Rattle.clap.specs.declared.parser.matches.MatchedArg.{MatchedArg}
-use Rattle.clap.specs.declared.parser.matches.ValueSource.{ValueSource}
 use Rattle.std.specs.Str.{bytes_eq}
 use Rattle.clap.proofs.WalkLemmas.{find_row}
 use Rattle.tally_line.specs.Zones.{source_of}

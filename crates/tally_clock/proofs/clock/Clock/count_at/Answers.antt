@@ -1,4 +1,4 @@
-use Rattle.std.proofs.Common.{rules, of_calls, int_le, ◌≡◌, sym, subst}
+use Rattle.std.proofs.Common.{rules, of_calls, int_le, ◌≡◌, sym}
 use Rattle.std.proofs.lemmas.Fn.{always_returns_same}
 use Rattle.jiff_tz.proofs.TzifLemmas.{prefix_from_point, le_below}
 use Rattle.tally_clock.specs.Rows.{IsRising, no_row}
