@@ -19,7 +19,7 @@ clock_of_front (Some xs) front clock is shows =
     subst (λ (f : List ℕ). IsClockOfFile f clock) (small_is_whole xs read.small) read
 
 -- what a reader of so many bytes read after none is the front of what its file had
-pub front_read : (bytes : Option (List ℕ)) (limit : ℕ) (before items : List ℕ) → limit ≡ FILE_LIMIT + 1 → before ≡ []
-    → IfSome (option_map (take limit) bytes) (λ xs. items ≡ before ++ xs) → IfSome bytes (λ xs. items ≡ front_of xs)
-front_read None limit before items is none read = tt
-front_read (Some xs) limit before items is none read = rw (is, none) at read
+pub limited : (bytes : Option (List ℕ)) (given limit : ℕ) (before items : List ℕ) → given ≡ limit → before ≡ []
+    → IfSome (option_map (take given) bytes) (λ xs. items ≡ before ++ xs) → IfSome bytes (λ xs. items ≡ take limit xs)
+limited None given limit before items is none read = tt
+limited (Some xs) given limit before items is none read = rw (is, none) at read

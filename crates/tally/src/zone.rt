@@ -1,8 +1,9 @@
 //! The clock of a zone's word.
-ghost use Rattle.std.specs.Prelude.{◌≡◌, IfOk, IfSome};
+ghost use Rattle.std.specs.Prelude.{◌≡◌, IfOk, IfSome, take};
 ghost use Rattle.tally_clock.specs.Files.{IsClockOfFile};
-ghost use Rattle.tally_clock.specs.Rules.{IsClockOfRule};
-ghost use Rattle.tally.specs.Zones.{front_of};
+ghost use Rattle.tally_clock.specs.Words.{zone_word};
+ghost use Rattle.tally_clock.specs.declared.word.ZoneWord.{ZoneWord};
+ghost use Rattle.tally.specs.Zones.{IsOfText, front_of, of_file_fault, of_rule_fault};
 
 use std::alloc::{AllocError, AllocFailed, Global};
 use std::fs;
@@ -43,6 +44,8 @@ impl<T: Drop> From<AllocFailed<T>> for ZoneFault {
 }
 
 impl From<FileFault> for ZoneFault {
+    ghost from_gives = { λ found fault. fault ≡ of_file_fault found };
+
     fn from(found: FileFault) -> ZoneFault {
         match found {
             FileFault::Memory => ZoneFault::Memory,
@@ -52,6 +55,8 @@ impl From<FileFault> for ZoneFault {
 }
 
 impl From<RuleFault> for ZoneFault {
+    ghost from_gives = { λ found fault. fault ≡ of_rule_fault found };
+
     fn from(found: RuleFault) -> ZoneFault {
         match found {
             RuleFault::Memory => ZoneFault::Memory,
@@ -64,6 +69,7 @@ impl From<RuleFault> for ZoneFault {
 pub(crate) fn clock_of<R: Files + AllocGlobal>(rt: &R, word: &str) -> Result<Clock, ZoneFault>
 where
     R::File: Drop,
+    ensures { zone_word word.now ≡ ZoneWord.Text → IsOfText word.now result }
 {
     match zone_word(word) {
         ZoneWord::Local => clock_of_machine(rt),
@@ -99,9 +105,9 @@ where
     }
 }
 
-/// The clock of a rule.
+/// The clock of a word that names no file.
 fn clock_of_text(alloc: Global, text: &str) -> Result<Clock, ZoneFault>
-    ensures { IfOk result (IsClockOfRule text.now) }
+    ensures { IsOfText text.now result }
 {
     match zone_text(text) {
         ZoneText::MistakenOffset => Err(ZoneFault::Mistaken),
@@ -124,7 +130,14 @@ fn clock_read<F: Read + Drop>(alloc: Global, file: F) -> Result<Clock, ZoneFault
 fn front<F: Read + Drop>(alloc: Global, file: F) -> io::Result<Vec<u8>>
     ensures { IfOk result (λ bytes. IfSome (F.remaining file) (λ all. bytes.items ≡ front_of all)) }
 {
+    read_up_to(alloc, file, FILE_LIMIT as u64 + 1)
+}
+
+/// The bytes that a reader has left, up to a limit.
+fn read_up_to<F: Read + Drop>(alloc: Global, file: F, limit: u64) -> io::Result<Vec<u8>>
+    ensures { IfOk result (λ bytes. IfSome (F.remaining file) (λ all. bytes.items ≡ take limit all)) }
+{
     let mut bytes = Vec::new(alloc);
-    file.take(FILE_LIMIT as u64 + 1).read_to_end(&mut bytes)?;
+    file.take(limit).read_to_end(&mut bytes)?;
     Ok(bytes)
 }
