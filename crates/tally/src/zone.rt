@@ -19,6 +19,9 @@ const LOCAL: &str = "/etc/localtime";
 /// The folder of zones by name.
 const FOLDER: &str = "/usr/share/zoneinfo/";
 
+/// The zone that is there without its file.
+const UTC: &str = "UTC";
+
 /// Why a word gives no clock.
 #[derive(Clone, Copy)]
 pub(crate) enum ZoneFault {
@@ -93,7 +96,7 @@ where
     }
 }
 
-/// The clock of the file that has a name, and else of the name as a text.
+/// The clock of the file that has a name, and else of the name as a text. UTC needs no file.
 fn clock_of_name<R: Files + AllocGlobal>(rt: &R, name: &str) -> Result<Clock, ZoneFault>
 where
     R::File: Drop,
@@ -101,6 +104,7 @@ where
     let path = format!(in rt.alloc(); "{FOLDER}{name}")?;
     match fs::open(rt, path.as_str()) {
         Ok(file) => clock_read(rt.alloc(), file),
+        Err(_) if name == UTC => Ok(Clock::utc(rt.alloc())),
         Err(_) => clock_of_text(rt.alloc(), name),
     }
 }
