@@ -35,7 +35,11 @@ fn print_line<R: Print + AllocGlobal>(rt: &R, words: &[String]) -> Result<(), St
         read => read,
     };
     match read {
-        Ok(Line::Run { job, files, .. }) => {
+        Ok(Line::Run {
+            job,
+            zone: _zone,
+            files,
+        }) => {
             println!(rt; "words: {} files, {} feeders", files.len(), job.feeders)?
         }
         Ok(Line::Help { text: _text }) => println!(rt; "words: help")?,
