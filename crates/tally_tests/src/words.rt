@@ -35,13 +35,13 @@ fn print_line<R: Print + AllocGlobal>(rt: &R, words: &[String]) -> Result<(), St
         read => read,
     };
     match read {
-        Ok(Line::Run {
-            job,
-            zone: _zone,
-            files,
-        }) => {
-            println!(rt; "words: {} files, {} feeders", files.len(), job.feeders)?
-        }
+        Ok(
+            Line::Run {
+                job,
+                zone: _zone,
+                files,
+            },
+        ) => { println!(rt; "words: {} files, {} feeders", files.len(), job.feeders)? }
         Ok(Line::Help { text: _text }) => println!(rt; "words: help")?,
         Err(LineFault::Usage { text: _text }) => println!(rt; "words: refused")?,
         Err(LineFault::Prefix { index }) => {
