@@ -71,7 +71,7 @@ pub run_found : (name : Text) (rows : List Row) (r : Report) (words : List (Bor 
     → words_in rows ≡ texts words → 0 < length (words_in rows) → job.report ≡ r → IsRunnable job → job.askers ≤ 64 → (job.askers ≡ 0) ⊎ (r ≡ report.All)
     → AsksForm r rows job.form → SetsJob rows job → IsZoneOf rows zone → HasSoundTimes rows → NamesFiles r (texts words) files
     → IsRunOf (Some (name, rows)) job zone files
-run_found name rows r words job zone files named words_are some is runnable few asked form options zone_word times names = record {
+run_found name rows r words job word files named words_are some is runnable few asked form options zone_word times names = record {
   named = ap Some (named ∙ ap name_of (sym is));
   runnable = runnable;
   form = rw is form;
@@ -135,7 +135,7 @@ module _ (words : List Text) (command : Command) (is : app_of command ≡ tally_
   ]
 
   as_help : (e : Error) (l : Line) → IsAmong (kind_of e) (fault_of tally_app words) → IsHelpFor (kind_of e) l → Answers words l
-  as_help e (line.Run job zone files) one h = absurd h
+  as_help e (line.Run job _ files) one h = absurd h
   as_help e (line.Help text) one h = (kind_of e, one, h)
 
   as_fault : (e : Error) (f : LineFault) → IsAmong (kind_of e) (fault_of tally_app words) → IsFaultFor (kind_of e) f → Refuses words f

@@ -30,7 +30,7 @@ IsFileFault r words (fault.Prefix index) = (r ≡ report.All) × IsFirstBare wor
 
 -- the answer where `clap` ends the words with a kind
 abbrev pub IsHelpFor : ErrorKind → Line → Type 0
-IsHelpFor k (line.Run job zone files) = ⊥
+IsHelpFor k (line.Run job _ files) = ⊥
 IsHelpFor k (line.Help text) = IsShown k
 
 -- why there is none then
