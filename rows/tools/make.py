@@ -679,7 +679,7 @@ row('rotated-log-as-one-input', 'ac,ac -d,ac -p,offset', 'The same two files as 
           '2026-07-31 bob                          0.50', '2026-08-01 bob                          8.00',
           'total                       11.50'), stdin=example('july.1.wtmp') + example('july.wtmp'))
 row('version', 'ac', 'The version goes to standard output, with status 0.', ['--version'],
-    lines('tally 1.0.0', 'proved with rattle-kit-13f logic dac8208d650f15bf'))
+    lines('tally 1.0.0', 'proved with Rattle, logic dac8208d650f15bf'))
 row('help-as-a-word', 'ac', 'The same help as by --help.', ['help', 'ac'], None, '', 0)
 row('negative-count', 'last,last -n', 'A negative number is refused.', ['last', '-n', '-1', 'f'], '', None, 2, {'f': ONE_HOUR})
 

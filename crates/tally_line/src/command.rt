@@ -10,7 +10,7 @@ use clap::{Arg, ArgAction, Command, value_parser};
 use std::alloc::{AllocError, Global};
 
 /// The version, and by what its proofs were checked.
-const VERSION: &str = "1.0.0\nproved with rattle-kit-13f logic dac8208d650f15bf";
+const VERSION: &str = "1.0.0\nproved with Rattle, logic dac8208d650f15bf";
 
 /// A command, where there was memory for it.
 type Made<'a> = Result<Command<'a>, AllocError>;
