@@ -18,16 +18,16 @@ build:
 look:
 	@.ci/look $(WORDS) $(FILES)
 
-# The gate: proofs, tests and edits, as far as no earlier run on this machine passed them, then every run of the program.
+# The gate: the first build, every wrong body, every proof and test from nothing, then every run of the program.
 test:
 	@.ci/gate "$(ROWS)"
 
-# The gate, with every proof and edit done again.
+# The same where the kit keeps what a run on this machine passed: every proof is done again.
 test-anew:
 	@.ci/gate "$(ROWS)" --anew
 
-# All must-fail edits, also those that the gate does not try: make test-edits CRATES="tally_book tally_desk"
-test-edits:
+# The wrong bodies of some crates alone: make test-edits CRATES="tally_book tally_desk"
+test-edits: build
 	@.ci/edits $(CRATES)
 
 # The rows and the cases with inputs of 402 MB. `make test` or `make build` comes first.

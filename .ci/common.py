@@ -1,9 +1,13 @@
-"""What the scripts of this folder share: the crates of crates.txt, what stands on what, and what a log says of edits."""
+"""What the scripts of this folder share: the crates of crates.txt, what stands on what, copies of crates, and what a log says of edits."""
+import os
 import pathlib
 import re
+import shutil
+import tempfile
 
 TOP = pathlib.Path(__file__).resolve().parent.parent
 PROGRAM = 'tally'
+CORES = len(os.sched_getaffinity(0))
 
 
 def lines(name):
@@ -32,7 +36,38 @@ def below(name):
 # The crates that the program is made of, from the bottom up.
 OF_PROGRAM = [*below(PROGRAM), PROGRAM]
 
-REFUSED = re.compile(r'rt: must-fail (\S+)\.edit: refused, as it must be(.*)')
+
+def room_beside():
+    """A new folder beside the repository, where files can be linked and moved, or in the temporary one where that is refused."""
+    try:
+        return pathlib.Path(tempfile.mkdtemp(prefix='tally-room-', dir=TOP.parent))
+    except OSError:
+        return pathlib.Path(tempfile.mkdtemp(prefix='tally-room-'))
+
+
+def linked(source, target):
+    """Gives a file a second name, or copies it where that cannot be."""
+    try:
+        os.link(source, target)
+    except OSError:
+        shutil.copy2(source, target)
+
+
+def copy_crate(name, to):
+    """Copies the sources of a crate and of those below it, with the libraries of these, into a folder that stands for the repository."""
+    lower = below(name)
+    for crate in (*lower, name):
+        shutil.copytree(TOP / 'crates' / crate, to / 'crates' / crate, ignore=shutil.ignore_patterns('out', '*must-fail'))
+    for crate in lower:
+        library = pathlib.Path('crates', crate, 'out', 'rlib')
+        shutil.copytree(TOP / library, to / library, copy_function=linked)
+    named = {*lower, name}
+    kept = [line for line in lines('crates.txt') if line.split(':')[0].split()[0] in named]
+    (to / 'crates.txt').write_text('\n'.join(kept) + '\n', encoding='utf-8')
+    shutil.copy2(TOP / 'HANDLES', to / 'HANDLES')
+
+
+REFUSED = re.compile(r'(?:rt: )?must-fail (\S+)\.edit: refused, as it must be(.*)')
 
 
 def edits_in(*folders):
