@@ -29,8 +29,8 @@ pub enum RecordFault {
     ProcVersion(u8),
 }
 
-/// Why bytes are no batch. The first of these that applies is named, in this order but with
-/// `Memory` before `Bad`.
+/// Why bytes are no batch. The first of these that applies is named: `Length`, `TooMany`,
+/// `Memory`, then `Bad`.
 #[derive(Debug, PartialEq, Eq, Drop, Error)]
 pub enum BatchFault {
     /// Memory was refused.

@@ -1,4 +1,4 @@
-//! Sessions of a list of entries, by one thread and by several.
+//! Sessions of a list of entries, by one thread and where four are allowed.
 ghost use Rattle.std.specs.Prelude.{◌≡◌, ◌≤◌, ◌<◌, All, IfOk, length};
 
 use crate::sessions::scripts::played;
@@ -35,7 +35,7 @@ fn counted(alloc: Global, keys: RandomState, script: &str) -> Result<[u64; 4], F
     }
 }
 
-/// The same, by several threads at most.
+/// The same where four threads are allowed. So few entries are counted by one.
 fn counted_by<R: Threads + Sync>(
     rt: &R,
     alloc: Global,
