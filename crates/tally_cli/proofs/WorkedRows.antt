@@ -1,13 +1,16 @@
 -- Worked examples, computed by the definitions.
-use Rattle.std.proofs.Common.{◌≡◌, [], ◌∷◌, false, Some, None, length, map, refl}
+use Rattle.std.proofs.Common.{◌≡◌, List, [], ◌∷◌, ◌++◌, true, false, Ok, Err, Some, None, map, refl}
 use Rattle.std.specs.Prelude.{pos}
+use Rattle.tally_book.specs.declared.question.Question.{Question}
 use Rattle.tally_book.specs.declared.question.Question.TheVariants as questions
 use Rattle.tally_records.specs.declared.batch.Kind.TheVariants.{Login, Proc}
 use Rattle.tally_usage.specs.declared.order.Order.TheVariants as order
-use Rattle.tally_cli.specs.Output.{questions_of}
-use Rattle.tally_cli.specs.Runs.{callers_fault}
+use Rattle.tally_print.specs.declared.output.PrintFault.TheVariants as print
+use Rattle.tally_print.specs.declared.report_table.Table.TheVariants as tables
+use Rattle.tally_cli.specs.Output.{is_wanted, questions_of, table_of}
+use Rattle.tally_cli.specs.Runs.{callers_fault, failed_writes, fault_from}
 use Rattle.tally_cli.specs.inside.Tasks.{asker_questions}
-use Rattle.tally_cli.specs.declared.fault.RunFault.TheVariants.{Callers}
+use Rattle.tally_cli.specs.declared.fault.RunFault.TheVariants.{Callers, Memory, Write}
 use Rattle.tally_line.specs.declared.job.Report.TheVariants as report
 
 -- `all` asks for the stays of each login file under its own number, then for connect time and for commands by cpu
@@ -22,6 +25,36 @@ last_asked = refl
 numbers : map callers_fault (0 ∷ 129 ∷ 5000000000 ∷ []) ≡ Callers 0 ∷ Callers 129 ∷ Callers 4294967295 ∷ []
 numbers = refl
 
--- an asker asks four questions four times
-asked : length (asker_questions (record { until = None })) ≡ 16
+abbrev once : List Question
+once = questions.Last 0 (Some 10) (Some (pos 7000)) ∷ questions.Connect false false (pos 0) (Some (pos 7000)) ∷ questions.Commands order.Cpu false false ∷ questions.Users order.Cpu false ∷ []
+
+-- an asker asks four questions four times: the ten latest stays of the first file, connect time, commands and users by cpu
+asked : asker_questions (record { until = Some (pos 7000) }) ≡ once ++ once ++ once ++ once
 asked = refl
+
+-- connect time, commands and users are one question each over all files, with each option in its place
+one_question : questions_of (report.Connect true false) (pos 60) (Login ∷ Login ∷ []) (Some (pos 7000))
+    ++ questions_of (report.Connect false true) (pos 0) (Login ∷ []) None
+    ++ questions_of (report.Commands order.Calls true false) (pos 0) (Proc ∷ []) None
+    ++ questions_of (report.Commands order.Cpu false true) (pos 0) (Proc ∷ Proc ∷ []) None
+    ++ questions_of (report.Users order.Calls false) (pos 0) (Proc ∷ []) None
+    ++ questions_of (report.Users order.Cpu true) (pos 0) [] None
+    ≡ questions.Connect true false (pos 60) (Some (pos 7000)) ∷ questions.Connect false true (pos 0) None
+    ∷ questions.Commands order.Calls true false ∷ questions.Commands order.Cpu false true
+    ∷ questions.Users order.Calls false ∷ questions.Users order.Cpu true ∷ []
+one_question = refl
+
+-- which files a report is of: those of the wanted kind
+wanted : is_wanted None Login ∷ is_wanted None Proc ∷ is_wanted (Some Login) Login ∷ is_wanted (Some Login) Proc ∷ is_wanted (Some Proc) Login ∷ is_wanted (Some Proc) Proc ∷ [] ≡ true ∷ true ∷ true ∷ false ∷ false ∷ true ∷ []
+wanted = refl
+
+-- each report but that of all is a table
+tables_of : map table_of (report.Last (Some 3) ∷ report.Connect true false ∷ report.Commands order.Calls true true ∷ report.Users order.Cpu false ∷ report.All ∷ []) ≡ Some tables.Stays ∷ Some (tables.Connect true false) ∷ Some tables.Commands ∷ Some tables.Users ∷ None ∷ []
+tables_of = refl
+
+-- the fault of a printer is the run's own, and a failed write alone is counted
+print_faults : map fault_from (print.Memory ∷ print.Write ∷ []) ≡ Memory ∷ Write ∷ []
+print_faults = refl
+
+failures : map failed_writes (Ok tt ∷ Err Write ∷ Err Memory ∷ Err (Callers 0) ∷ []) ≡ 0 ∷ 1 ∷ 0 ∷ 0 ∷ []
+failures = refl

@@ -8,3 +8,4 @@ pub mod Compact
 pub mod Members
 pub mod SortedLemmas
 pub mod WorkedRows
+pub mod WorkedBatches

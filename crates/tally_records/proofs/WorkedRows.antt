@@ -37,6 +37,11 @@ others : event 2 (codes "~") (codes "reboot") ∷ event 4 (codes "|") [] ∷ eve
 unfolding event_of
 others = refl
 
+-- records of the other types mean nothing, and a boot needs no name
+other_types : event 0 (codes "tty1") (codes "ann") ∷ event 5 (codes "tty1") (codes "ann") ∷ event 9 (codes "tty1") (codes "ann") ∷ event 2 [] [] ∷ [] ≡ Nothing ∷ Nothing ∷ Nothing ∷ Boot ∷ []
+unfolding event_of
+other_types = refl
+
 -- 0, a half, 1, 1.5 and 600 ticks
 small_times : map elapsed_of (0 ∷ 1056964608 ∷ 1065353216 ∷ 1069547520 ∷ 1142292480 ∷ []) ≡ 0 ∷ 0 ∷ 1 ∷ 1 ∷ 600 ∷ []
 unfolding elapsed_of rounded_down
@@ -51,6 +56,11 @@ great_times = refl
 no_times : map elapsed_of (1 ∷ 2147483648 ∷ 3212836864 ∷ []) ≡ 0 ∷ 0 ∷ 0 ∷ []
 unfolding elapsed_of rounded_down
 no_times = refl
+
+-- infinity, and with the sign bit infinity, 600 and no number
+signed_times : map elapsed_of (2139095040 ∷ 4286578688 ∷ 3289776128 ∷ 4290772992 ∷ []) ≡ 18446744073709551615 ∷ 0 ∷ 0 ∷ 0 ∷ []
+unfolding elapsed_of rounded_down
+signed_times = refl
 
 -- a record with a value of its own in each field
 abbrev wanted : List ℕ → ProcRecord

@@ -1,0 +1,117 @@
+-- Worked lines and tables of reports, computed by the definitions.
+use Rattle.std.proofs.Common.{◌≡◌, [], ◌∷◌, ◌++◌, map, Bool, true, false, Some, None, ℤ, pos, refl}
+use Rattle.std.specs.Fmt.{digits}
+use Rattle.std.specs.Prelude.{codes}
+use Rattle.tally_records.specs.Text.{padded}
+use Rattle.tally_sessions.specs.declared.entry.End.{End}
+use Rattle.tally_sessions.specs.declared.entry.End.TheVariants.{Logout, Next, Down, Crash, Still}
+use Rattle.tally_sessions.specs.declared.entry.Stay.{Stay}
+use Rattle.tally_usage.specs.declared.command.CommandRow.{CommandRow}
+use Rattle.tally_usage.specs.declared.usage.Usage.{Usage}
+use Rattle.tally_print.specs.ConnectTable.{connect_fields, connect_header}
+use Rattle.tally_print.specs.LastText.{beginning, ending, line_column, user_column}
+use Rattle.tally_print.specs.ReportTable.{connect_rows, header}
+use Rattle.tally_print.specs.StayTable.{end_word, stay_header, who_fields}
+use Rattle.tally_print.specs.Text.{moment, span}
+use Rattle.tally_print.specs.UsageTable.{command_fields, command_header, name_fields, sum_fields, user_fields, user_header}
+use Rattle.tally_print.specs.UsageText.{average, columns, command_line, named_total_line, total_line, user_line}
+use Rattle.tally_print.specs.declared.report_table.Table.TheVariants.{Stays, Connect, Commands, Users}
+
+-- averages are rounded down, and 0 of nothing
+averages : average 5 3 ∷ average 3 2 ∷ average 1 2 ∷ average 6 3 ∷ average 7 0 ∷ [] ≡ 1 ∷ 1 ∷ 0 ∷ 2 ∷ 0 ∷ []
+averages = refl
+
+-- the words of a table for each end
+end_words : map end_word (Logout ∷ Next ∷ Down ∷ Crash ∷ Still ∷ []) ≡ codes "logout" ∷ codes "next" ∷ codes "down" ∷ codes "crash" ∷ codes "still" ∷ []
+end_words = refl
+
+abbrev stay : Bool → End → Stay
+stay is_boot end = record {
+  host = 1;
+  is_boot = is_boot;
+  user = padded 32 (codes "ann");
+  line = padded 32 (codes "tty1");
+  remote = padded 256 (codes "far");
+  start = pos 200;
+  begin = pos 200;
+  end = end;
+  end_time = pos 1000;
+  length = 800;
+}
+
+abbrev utc : ℤ → ℤ
+utc time = pos 0
+
+-- what is printed behind the start of a stay that a shutdown ended, a boot, or nothing
+endings : map (λ end. ending end (stay false end) utc None) (Down ∷ Crash ∷ Still ∷ []) ≡ codes " - down                (00:13)" ∷ codes " - crash               (00:13)" ∷ codes "   still logged in" ∷ []
+unfolding ending span digits
+endings = refl
+
+running_endings : map (λ end. ending end (stay true end) utc None) (Down ∷ Crash ∷ Still ∷ []) ≡ codes " - down                (00:13)" ∷ codes " - crash               (00:13)" ∷ codes "   still running" ∷ []
+unfolding ending span digits
+running_endings = refl
+
+-- up to a moment the span of a stay that goes on is printed too
+until_endings : ending Still (stay false Still) utc (Some (pos 1000)) ∷ ending Still (stay true Still) utc (Some (pos 1000)) ∷ [] ≡ codes " - still logged in     (00:13)" ∷ codes " - still running       (00:13)" ∷ []
+unfolding ending span digits
+until_endings = refl
+
+-- a boot has words of its own in place of a user and a line
+columns_of_stays : map user_column (stay false Still ∷ stay true Still ∷ []) ++ map line_column (stay false Still ∷ stay true Still ∷ []) ≡ codes "ann" ∷ codes "reboot" ∷ codes "tty1" ∷ codes "system boot" ∷ []
+columns_of_stays = refl
+
+-- in a table a boot has no line, and files count from 1
+who : map who_fields (stay false Still ∷ stay true Still ∷ []) ≡ (codes "2" ∷ codes "ann" ∷ codes "tty1" ∷ codes "far" ∷ []) ∷ (codes "2" ∷ codes "reboot" ∷ [] ∷ codes "far" ∷ []) ∷ []
+unfolding who_fields digits
+who = refl
+
+-- a host without records says so
+no_records : beginning None utc ≡ codes "wtmp has no records\n"
+unfolding beginning
+no_records = refl
+
+-- the names of each table's columns
+headers : map header (Stays ∷ Commands ∷ Users ∷ []) ≡ (codes "file" ∷ codes "user" ∷ codes "line" ∷ codes "remote" ∷ codes "start" ∷ codes "start_at" ∷ codes "begin" ∷ codes "end" ∷ codes "end_time" ∷ codes "end_at" ∷ codes "seconds" ∷ [])
+    ∷ (codes "command" ∷ codes "forked" ∷ codes "other" ∷ codes "calls" ∷ codes "real_ticks" ∷ codes "cpu_ticks" ∷ codes "io" ∷ codes "mem_cpu" ∷ [])
+    ∷ (codes "uid" ∷ codes "calls" ∷ codes "real_ticks" ∷ codes "cpu_ticks" ∷ codes "io" ∷ codes "mem_cpu" ∷ []) ∷ []
+unfolding stay_header command_header user_header
+headers = refl
+
+connect_headers : map header (Connect false false ∷ Connect true false ∷ Connect false true ∷ Connect true true ∷ []) ≡ (codes "seconds" ∷ []) ∷ (codes "day" ∷ codes "seconds" ∷ []) ∷ (codes "user" ∷ codes "seconds" ∷ []) ∷ (codes "day" ∷ codes "user" ∷ codes "seconds" ∷ []) ∷ []
+unfolding connect_header
+connect_headers = refl
+
+-- the total is a row of its own only where nothing else is asked for
+totals : map (λ by_day. connect_rows by_day false [] 3600) (false ∷ true ∷ []) ≡ (record { day = None; user = None; seconds = 3600 } ∷ []) ∷ [] ∷ []
+totals = refl
+
+-- the seconds of a user in a table are whole
+user_seconds : connect_fields false true (record { day = None; user = Some (padded 32 (codes "ann")); seconds = 600 }) ≡ codes "ann" ∷ codes "600" ∷ []
+unfolding connect_fields digits
+user_seconds = refl
+
+abbrev forked : Usage
+forked = record { count = 2; real = 120; cpu = 120; io = 6; mem_cpu = 24000 }
+
+abbrev make : Bool → Bool → CommandRow
+make forks other = record { name = padded 17 (codes "make"); forked = forks; other = other; usage = forked }
+
+-- a command that forked has a star behind its name
+starred : map command_line (make true false ∷ make false false ∷ []) ≡ codes "       2         0.02re         0.02cp          3avio        200k make*\n" ∷ codes "       2         0.02re         0.02cp          3avio        200k make\n" ∷ []
+unfolding command_line columns digits
+starred = refl
+
+-- the total of commands has no name, and that of users has one; users go by number
+usage_lines : total_line forked ∷ named_total_line forked ∷ user_line (record { uid = 1000; usage = forked }) ∷ [] ≡ codes "       2         0.02re         0.02cp          3avio        200k\n" ∷ codes "total             2         0.02re         0.02cp          3avio        200k\n" ∷ codes "1000              2         0.02re         0.02cp          3avio        200k\n" ∷ []
+unfolding total_line named_total_line user_line columns digits
+usage_lines = refl
+
+-- in a table marks are 0 and 1, and sums are whole
+command_row : map command_fields (make true false ∷ make false true ∷ []) ≡ (codes "make" ∷ codes "1" ∷ codes "0" ∷ codes "2" ∷ codes "120" ∷ codes "120" ∷ codes "6" ∷ codes "24000" ∷ [])
+    ∷ (codes "make" ∷ codes "0" ∷ codes "1" ∷ codes "2" ∷ codes "120" ∷ codes "120" ∷ codes "6" ∷ codes "24000" ∷ []) ∷ []
+unfolding command_fields name_fields sum_fields digits
+command_row = refl
+
+user_row : user_fields (record { uid = 66536; usage = forked }) ≡ codes "66536" ∷ codes "2" ∷ codes "120" ∷ codes "120" ∷ codes "6" ∷ codes "24000" ∷ []
+unfolding user_fields sum_fields digits
+user_row = refl
