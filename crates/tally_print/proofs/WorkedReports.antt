@@ -42,7 +42,7 @@ stay is_boot end = record {
 abbrev utc : ℤ → ℤ
 utc time = pos 0
 
--- what is printed behind the start of a stay that a shutdown ended, a boot, or nothing
+-- what is printed after the start of a stay that a shutdown ended, a boot, or nothing
 endings : map (λ end. ending end (stay false end) utc None) (Down ∷ Crash ∷ Still ∷ []) ≡ codes " - down                (00:13)" ∷ codes " - crash               (00:13)" ∷ codes "   still logged in" ∷ []
 unfolding ending span digits
 endings = refl
