@@ -20,7 +20,7 @@ use std::marker::Model;
 use std::thread::Threads;
 use tally_clock::Clock;
 use tally_records::{BATCH_LIMIT, Batch, Kind, Memory};
-use tally_sessions::{ENTRY_LIMIT as LOGIN_LIMIT, Entries, EntryList, HOST_LIMIT};
+use tally_sessions::{ENTRY_LIMIT as LOGIN_LIMIT, Entries, EntryList, HOST_LIMIT, Sessions};
 use tally_usage::{ENTRY_LIMIT as PROC_LIMIT, ProcEntries, ProcList, Summary};
 
 /// The most calls of a history.
@@ -229,6 +229,31 @@ impl Book {
             before,
             after,
         })
+    }
+
+    /// Hands out the sessions of the stored login entries, which are counted by so many threads at most where no
+    /// question has had them counted. It errs where memory runs out for that.
+    pub fn into_sessions<R: Threads + Sync>(
+        self,
+        rt: &R,
+        alloc: Global,
+        threads: u32,
+    ) -> Result<Sessions, Memory>
+        ensures entries { IfOk result (λ sessions. sessions.entries ≡ self.logins) }
+        ensures hosts { IfOk result (λ sessions. sessions.hosts ≡ self.callers) }
+    {
+        let Book {
+            callers: _,
+            clock: _,
+            mut logins,
+            summary: _,
+            calls: _,
+        } = self;
+        logins.count_by(rt, alloc, threads)?;
+        let Some(sessions) = logins.into_sessions() else {
+            unreachable!()
+        };
+        Ok(sessions)
     }
 
     /// Counts the sessions of what is stored by so many threads at most, so that no question has to wait for that. What the book

@@ -101,6 +101,21 @@ impl LoginStore {
         }
     }
 
+    /// Hands out the sessions, where they are kept.
+    pub(crate) fn into_sessions(self) -> Option<Sessions>
+        ensures { MatchOption result (self.is_counted ≡ false) (λ sessions. (sessions.entries ≡ self.entries) × (sessions.hosts ≡ self.hosts)) }
+    {
+        let LoginStore {
+            hosts: _,
+            keys: _,
+            kept,
+        } = self;
+        match kept {
+            Kept::Listed(_) => None,
+            Kept::Counted(counted) => Some(counted),
+        }
+    }
+
     /// Stores a batch as a host's, or nothing of it.
     pub(crate) fn store(&mut self, host: u32, batch: &Batch) -> Result<(), Memory>
         requires host { host < self.old.hosts }

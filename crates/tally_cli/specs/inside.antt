@@ -1,3 +1,4 @@
+pub mod Asked
 -- What no public contract cites.
 pub mod Deals
 pub mod Failures

@@ -6,6 +6,7 @@ pub mod LastText
 pub mod Laws
 pub mod Output
 pub mod ReportTable
+pub mod Section
 pub mod Sections
 pub mod StayTable
 pub mod Tables

@@ -1,5 +1,6 @@
-ghost use Rattle.std.specs.Prelude.{◌≡◌, ◌++◌, OnOk, codes, if◌then◌else◌, ⊤};
+ghost use Rattle.std.specs.Prelude.{◌≡◌, ◌++◌, ◌<◌, OnOk, codes, if◌then◌else◌, ⊤};
 ghost use Rattle.tally_sessions.specs.Days.{IsOffset, local};
+ghost use Rattle.tally_sessions.specs.Totals.{first_time, latest_stays};
 ghost use Rattle.tally_print.specs.Output.{IsWritable, Prints, failed_calls};
 ghost use Rattle.tally_print.specs.Text.{left, moment, shown, span};
 ghost use Rattle.tally_print.specs.inside.LocalTime.{clock_of};
@@ -9,11 +10,12 @@ use crate::date::push_moment;
 use crate::lines::{Line, put_lines};
 use crate::local::Local;
 use crate::put::{new_page, put_all};
+use crate::stays::put_stays;
 use crate::text::{push_left, push_left_shown, push_span};
 use crate::{Output, PrintFault};
 use std::alloc::{AllocError, Global};
 use tally_clock::Clock;
-use tally_sessions::{End, Stay};
+use tally_sessions::{End, Sessions, Stay};
 
 /// Appends a field of a stay in its column, or the words that a boot has there.
 fn push_column(
@@ -178,5 +180,34 @@ pub fn print_last<O: Output>(
     };
     put_lines(&mut page, &line, rows, out)?;
     push_beginning(&mut page, first, &line.local)?;
+    put_all(page.as_slice(), out)
+}
+
+/// Prints the latest stays of a host, no more than the limit and counted up to a moment, as `print_last` does a list of them.
+/// No list is made: each is looked up when its line is printed.
+pub(crate) fn print_stays<O: Output>(
+    alloc: Global,
+    clock: &Clock,
+    sessions: &Sessions,
+    host: u32,
+    limit: Option<u32>,
+    counted: Option<i32>,
+    offset: i32,
+    out: &mut O,
+    until: Option<i32>,
+) -> Result<(), PrintFault>
+    requires writable { IsWritable (O.state out.old) }
+    requires host { host < sessions.now.hosts }
+    requires offset_in_range { IsOffset offset }
+    ensures writes { Prints (O.state out.old) (O.state out.new) result (failed_calls result)
+        (last_text (latest_stays host limit sessions.now.entries counted) (first_time host sessions.now.entries) (local clock.now offset) until) }
+{
+    let mut page = new_page(alloc)?;
+    let line = StayLine {
+        local: Local { clock, offset },
+        until,
+    };
+    put_stays(&mut page, &line, sessions, host, limit, counted, out)?;
+    push_beginning(&mut page, sessions.first(host), &line.local)?;
     put_all(page.as_slice(), out)
 }

@@ -32,7 +32,7 @@ pub enum Table {
     Users,
 }
 
-fn header(table: Table) -> &'static [u8]
+pub(crate) fn header(table: Table) -> &'static [u8]
     ensures { result.now ≡ row_text default_writer (header table) }
 {
     match table {
@@ -44,7 +44,7 @@ fn header(table: Table) -> &'static [u8]
 }
 
 /// Prints the rows of an answer.
-fn print_answer_rows<O: Output>(
+pub(crate) fn print_answer_rows<O: Output>(
     alloc: Global,
     clock: &Clock,
     table: Table,

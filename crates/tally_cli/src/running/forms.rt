@@ -1,16 +1,17 @@
 //! The two forms of a report: text in sections, and one table in CSV.
-ghost use Rattle.std.specs.Prelude.{◌≡◌};
+ghost use Rattle.std.specs.Prelude.{◌≡◌, map};
 ghost use Rattle.std.specs.List.{All};
 ghost use Rattle.tally_book.specs.Answers.{HasDays};
 ghost use Rattle.tally_print.specs.Output.{IsWritable, Prints, failed_calls};
+ghost use Rattle.tally_print.specs.Section.{NamesHostBelow, answer_in};
 ghost use Rattle.tally_sessions.specs.Days.{IsOffset, local};
 ghost use Rattle.tally_cli.specs.Output.{form_text, table_of};
 
 use std::alloc::Global;
-use tally_book::Answer;
 use tally_clock::Clock;
 use tally_line::{Form, Job, Report};
-use tally_print::{Output, PrintFault, Table, print_sections, print_table};
+use tally_print::{Output, PrintFault, Section, Table, print_all_sections, print_section_table};
+use tally_sessions::Sessions;
 
 /// The table that a report is as CSV.
 fn table_of(report: Report) -> Option<Table>
@@ -25,23 +26,30 @@ fn table_of(report: Report) -> Option<Table>
     }
 }
 
-/// Prints the answers to a job's questions in its form, in the time of a clock.
-pub(crate) fn print_answers<O: Output>(
+/// Prints the sections of a job's report in its form, over sessions and in the time of a clock.
+pub(crate) fn print_report<O: Output>(
     alloc: Global,
     clock: &Clock,
     job: &Job,
-    answers: &[Answer],
+    sessions: &Sessions,
+    sections: &[Section],
     out: &mut O,
 ) -> Result<(), PrintFault>
     requires writable { IsWritable (O.state out.old) }
     requires offset { IsOffset job.now.offset }
-    requires days { All HasDays answers.now }
+    requires hosts { All (NamesHostBelow sessions.now.hosts) sections.now }
+    requires days { All (λ s. HasDays (answer_in sessions.now.entries s)) sections.now }
     ensures writes { Prints (O.state out.old) (O.state out.new) result (failed_calls result)
-        (form_text job.now.form job.now.report (local clock.now job.now.offset) job.now.until answers.now) }
+        (form_text job.now.form job.now.report (local clock.now job.now.offset) job.now.until (map (answer_in sessions.now.entries) sections.now)) }
 {
+    let offset = job.offset;
     match (job.form, table_of(job.report)) {
-        (Form::Text, _) => { print_sections(alloc, clock, answers, job.offset, out, job.until) },
-        (Form::Csv, Some(table)) => { print_table(alloc, clock, table, answers, job.offset, out) },
+        (Form::Text, _) => print_all_sections(
+            alloc, clock, sessions, sections, offset, out, job.until,
+        ),
+        (Form::Csv, Some(table)) => print_section_table(
+            alloc, clock, sessions, table, sections, offset, out,
+        ),
         (Form::Csv, None) => Ok(()),
     }
 }

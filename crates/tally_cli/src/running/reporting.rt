@@ -1,65 +1,92 @@
 //! The job's report on the closed book, printed.
-ghost use Rattle.std.specs.Prelude.{◌≡◌, ◌<◌, ◌≤◌, [], IfErr, IfOk, length, map};
+ghost use Rattle.std.specs.Prelude.{◌≡◌, ◌<◌, ◌≤◌, [], IfErr, IfOk, OnOk, length, map};
 ghost use Rattle.std.specs.List.{All};
 ghost use Rattle.tally_book.specs.Answers.{HasDays, answer_of};
-ghost use Rattle.tally_cli.specs.Output.{questions_of, report_text};
+ghost use Rattle.tally_cli.specs.Output.{form_text, questions_of, report_text};
 ghost use Rattle.tally_cli.specs.Runs.{failed_writes};
 ghost use Rattle.tally_cli.specs.inside.RunSteps.{IsPrintFault};
 ghost use Rattle.tally_line.specs.Jobs.{IsRunnable};
-ghost use Rattle.tally_print.specs.Output.{IsWritable, Prints};
+ghost use Rattle.tally_print.specs.Output.{IsWritable, Prints, failed_calls};
+ghost use Rattle.tally_sessions.specs.Days.{IsOffset, local};
+ghost use Rattle.tally_print.specs.Section.{NamesHostBelow, answer_in};
 
 use crate::fault::RunFault;
-use crate::running::forms::print_answers;
-use crate::running::sections::{answers_to, questions_of};
+use crate::running::forms::print_report;
+use crate::running::sections::{questions_of, sections_for};
 use std::alloc::Global;
 use std::thread::Threads;
-use tally_book::{Answer, Book};
+use tally_book::Book;
 use tally_clock::Clock;
 use tally_line::Job;
-use tally_print::Output;
+use tally_print::{Output, PrintFault, Section};
 use tally_records::{Kind, Memory};
-use tally_sessions::HOST_LIMIT;
+use tally_sessions::{HOST_LIMIT, Sessions};
 
-/// The answers that the job's report prints, of a book of which each file is a host.
-fn answers_in<R: Threads + Sync>(
+/// The sections of the job's report, of a book of which each file is a host.
+fn sections_in<R: Threads + Sync>(
     rt: &R,
     alloc: Global,
     job: &Job,
     kinds: &[Kind],
     book: &mut Book,
-) -> Result<Vec<Answer>, Memory>
+) -> Result<Vec<Section>, Memory>
     requires runnable { IsRunnable job.now }
     requires hosts { length kinds.now ≤ book.old.callers }
     requires few { book.old.callers ≤ HOST_LIMIT }
     requires some { 0 < book.old.callers }
     requires calls { length book.old.calls ≤ 4224 }
-    ensures value { IfOk result (λ answers. answers.items ≡ map (λ q. answer_of book.old.clock q book.old.logins book.old.procs)
-        (questions_of job.now.report job.now.offset kinds.now job.now.until)) }
-    ensures days { IfOk result (λ answers. All HasDays answers.items) }
+    ensures callers { OnOk result (book.new.callers ≡ book.old.callers) }
+    ensures logins { OnOk result (book.new.logins ≡ book.old.logins) }
+    ensures value { IfOk result (λ sections. map (answer_in book.old.logins) sections.items
+        ≡ map (λ q. answer_of book.old.clock q book.old.logins book.old.procs) (questions_of job.now.report job.now.offset kinds.now job.now.until)) }
+    ensures hosts { IfOk result (λ sections. All (NamesHostBelow book.old.callers) sections.items) }
+    ensures days { IfOk result (λ sections. All (λ s. HasDays (answer_in book.old.logins s)) sections.items) }
 {
     book.count_sessions(rt, alloc, job.feeders)?;
     let questions = questions_of(alloc, job, kinds)?;
-    answers_to(alloc, book, questions.as_slice())
+    sections_for(alloc, book, questions.as_slice())
 }
 
-/// The same, and lets the book go.
-fn answers_of<R: Threads + Sync>(
+/// The same, and the sessions that they are of. The rest of the book is let go.
+fn sections_of<R: Threads + Sync>(
     rt: &R,
     alloc: Global,
     job: &Job,
     kinds: &[Kind],
     mut book: Book,
-) -> Result<Vec<Answer>, Memory>
+) -> Result<(Vec<Section>, Sessions), Memory>
     requires runnable { IsRunnable job.now }
     requires hosts { length kinds.now ≤ book.callers }
     requires few { book.callers ≤ HOST_LIMIT }
     requires some { 0 < book.callers }
     requires calls { length book.calls ≤ 4224 }
-    ensures value { IfOk result (λ answers. answers.items ≡ map (λ q. answer_of book.clock q book.logins book.procs)
-        (questions_of job.now.report job.now.offset kinds.now job.now.until)) }
-    ensures days { IfOk result (λ answers. All HasDays answers.items) }
+    ensures value { IfOk result (λ r. map (answer_in r.1.entries) r.0.items
+        ≡ map (λ q. answer_of book.clock q book.logins book.procs) (questions_of job.now.report job.now.offset kinds.now job.now.until)) }
+    ensures hosts { IfOk result (λ r. All (NamesHostBelow r.1.hosts) r.0.items) }
+    ensures days { IfOk result (λ r. All (λ s. HasDays (answer_in r.1.entries s)) r.0.items) }
 {
-    answers_in(rt, alloc, job, kinds, &mut book)
+    let sections = sections_in(rt, alloc, job, kinds, &mut book)?;
+    let sessions = book.into_sessions(rt, alloc, job.feeders)?;
+    Ok((sections, sessions))
+}
+
+/// Prints the sections over the sessions that they are of, and lets both go.
+fn print_and_drop<O: Output>(
+    alloc: Global,
+    clock: &Clock,
+    job: &Job,
+    sessions: Sessions,
+    sections: Vec<Section>,
+    out: &mut O,
+) -> Result<(), PrintFault>
+    requires writable { IsWritable (O.state out.old) }
+    requires offset { IsOffset job.now.offset }
+    requires hosts { All (NamesHostBelow sessions.hosts) sections.items }
+    requires days { All (λ s. HasDays (answer_in sessions.entries s)) sections.items }
+    ensures writes { Prints (O.state out.old) (O.state out.new) result (failed_calls result)
+        (form_text job.now.form job.now.report (local clock.now job.now.offset) job.now.until (map (answer_in sessions.entries) sections.items)) }
+{
+    print_report(alloc, clock, job, &sessions, sections.as_slice(), out)
 }
 
 /// Prints the job's report of the book, of which each file is a host, in the time of the book's clock.
@@ -83,8 +110,8 @@ pub(crate) fn report<R: Threads + Sync, O: Output>(
         (report_text clock.now job.now kinds.now book.logins book.procs) }
     ensures cause { IfErr result IsPrintFault }
 {
-    let answers = answers_of(rt, alloc, job, kinds, book)?;
-    print_answers(alloc, clock, job, answers.as_slice(), out)?;
+    let (sections, sessions) = sections_of(rt, alloc, job, kinds, book)?;
+    print_and_drop(alloc, clock, job, sessions, sections, out)?;
     Ok(())
 }
 

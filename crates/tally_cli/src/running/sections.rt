@@ -4,10 +4,13 @@ ghost use Rattle.std.specs.List.{All};
 ghost use Rattle.tally_book.specs.Answers.{HasDays, IsAskable, NamesHostBelow, answer_of};
 ghost use Rattle.tally_book.specs.Books.{asked};
 ghost use Rattle.tally_cli.specs.Output.{is_wanted, questions_of, stays_asked};
+ghost use Rattle.tally_cli.specs.inside.Asked.{IsAskedOnce};
+ghost use Rattle.tally_print.specs.Section.{NamesHostBelow as HasHostBelow, answer_in};
 
 use std::alloc::{AllocError, Global};
 use tally_book::{Answer, AskFault, Book, CALL_LIMIT, Question};
 use tally_line::{Job, Report};
+use tally_print::Section;
 use tally_records::{Kind, Memory};
 use tally_sessions::HOST_LIMIT;
 use tally_usage::Order;
@@ -133,24 +136,45 @@ fn answer_to(alloc: Global, book: &mut Book, question: &Question) -> Result<Answ
     }
 }
 
-/// The answers to the questions, of a book that can take as many calls more.
-pub(crate) fn answers_to(
+/// The section for one question, of a book that can take the call: stays are looked up only when they are printed.
+fn section_for(alloc: Global, book: &mut Book, question: &Question) -> Result<Section, Memory>
+    requires caller { 0 < book.old.callers }
+    requires askable { IsAskable question.now }
+    requires host { NamesHostBelow book.old.callers question.now }
+    requires room { length book.old.calls < CALL_LIMIT }
+    ensures kept { OnOk result (IsAskedOnce book.old book.new) }
+    ensures value { IfOk result (λ section. answer_in book.old.logins section
+        ≡ answer_of book.old.clock question.now book.old.logins book.old.procs) }
+    ensures host { IfOk result (HasHostBelow book.old.callers) }
+    ensures days { IfOk result (λ section. HasDays (answer_in book.old.logins section)) }
+{
+    match *question {
+        Question::Last { host, limit, until } => Ok(Section::Stays { host, limit, until }),
+        _ => Ok(Section::Answered(answer_to(alloc, book, question)?)),
+    }
+}
+
+/// The sections for the questions, of a book that can take as many calls more.
+pub(crate) fn sections_for(
     alloc: Global,
     book: &mut Book,
     questions: &[Question],
-) -> Result<Vec<Answer>, Memory>
+) -> Result<Vec<Section>, Memory>
     requires caller { 0 < book.old.callers }
     requires askable { All IsAskable questions.now }
     requires hosts { All (NamesHostBelow book.old.callers) questions.now }
     requires room { length book.old.calls + length questions.now ≤ CALL_LIMIT }
-    ensures value { IfOk result (λ answers. answers.items
+    ensures callers { OnOk result (book.new.callers ≡ book.old.callers) }
+    ensures logins { OnOk result (book.new.logins ≡ book.old.logins) }
+    ensures value { IfOk result (λ sections. map (answer_in book.old.logins) sections.items
         ≡ map (λ q. answer_of book.old.clock q book.old.logins book.old.procs) questions.now) }
-    ensures days { IfOk result (λ answers. All HasDays answers.items) }
+    ensures hosts { IfOk result (λ sections. All (HasHostBelow book.old.callers) sections.items) }
+    ensures days { IfOk result (λ sections. All (λ s. HasDays (answer_in book.old.logins s)) sections.items) }
 {
-    let mut answers = Vec::with_capacity(alloc, questions.len())?;
+    let mut sections = Vec::with_capacity(alloc, questions.len())?;
     for index in 0..questions.len() {
-        let answer = answer_to(alloc, book, &questions[index])?;
-        answers.push_reserved(answer);
+        let section = section_for(alloc, book, &questions[index])?;
+        sections.push_reserved(section);
     }
-    Ok(answers)
+    Ok(sections)
 }

@@ -1,6 +1,6 @@
 -- The stays of a host as they stand now, from its track.
-use Rattle.std.proofs.Common.{◌≡◌, ℕ, ◌+◌, ◌*◌, ◌<◌, ◌≤◌, ◌≤ℤ◌, List, [], ◌∷◌, ◌++◌, map, length, get_or, take, drop, reverse, Option, Some, None, unwrap_or, ℤ, pos, refl, sym, ap, subst, ◌∙◌, arith}
-use Rattle.std.proofs.lemmas.List.{take_all, length-map, at_drop_more, reverse-append, take-append-le, take-append-drop, get_or-map}
+use Rattle.std.proofs.Common.{◌≡◌, ℕ, ◌+◌, ◌-◌, ◌*◌, ◌<◌, ◌≤◌, ◌≤ℤ◌, List, [], ◌∷◌, ◌++◌, map, length, get_or, take, drop, reverse, Option, Some, None, unwrap_or, ℤ, pos, refl, sym, ap, subst, ◌∙◌, arith}
+use Rattle.std.proofs.lemmas.List.{take_all, length-map, at_drop_more, reverse-append, take-append-le, take-append-drop, get_or-map, get_or-reverse}
 use Rattle.std.proofs.lemmas.List.Sums.{sum_by_more_le}
 use Rattle.std.proofs.Math.Seq.{take-length}
 use Rattle.std.specs.List.{IsDistinct}
@@ -71,6 +71,20 @@ same_count host es a until h = sym (ap length (stays_now host es a until h)) ∙
 
 pub count_now : (host : ℕ) (es : List Entry) (a : Track) → IsTrack host es (length es) a → length a.stays.items ≤ length (of_host host es)
 count_now host es a h = omega (arith, same_count host es a None h, length-stays_from host [] (of_host host es) None)
+
+-- the stay at a place, counted from the latest back
+pub latest_here : (host : ℕ) (es : List Entry) (a : Track) (until : Option ℤ) (k : ℕ) (d : Stay) → IsTrack host es (length es) a → k < length a.stays.items
+    → get_or (reverse (stays_of host es until)) k d ≡ stay_now host es a.clock (unwrap_or until a.last) (stay_at a.stays.items (length a.stays.items - k - 1))
+latest_here host es a until k d h lt =
+    let f = stay_now host es a.clock (unwrap_or until a.last) in
+    let stays = stays_of host es until in
+    let i = length a.stays.items - k - 1 in
+    let count = same_count host es a until h in
+    let place : length stays - 1 - k ≡ i = omega (arith, count) in
+    get_or-reverse stays k d (omega (arith, count, lt))
+    ∙ ap (λ j. get_or stays j d) place
+    ∙ ap (λ ss. get_or ss i d) (sym (stays_now host es a until h))
+    ∙ get_or-map f a.stays.items i no_stay d (omega (arith, lt))
 
 -- one stay further back
 pub latest_more : (f : TrackedStay → Stay) (ts : List TrackedStay) (i : ℕ) (t : TrackedStay) (d : Stay) → i < length ts → reverse (drop i (map f ts)) ≡ reverse (drop (i + 1) (map f ts)) ++ f (get_or ts i t) ∷ []

@@ -1,5 +1,5 @@
 //! What the track of a host answers.
-ghost use Rattle.std.specs.Prelude.{◌≡◌, ◌≤◌, ◌<◌, ◌+◌, ◌*◌, ◌^◌, [], ◌∷◌, All, IfNone, IfSome, IfOk, length, reverse, take, unwrap_or, vec_len};
+ghost use Rattle.std.specs.Prelude.{◌≡◌, ◌≤◌, ◌<◌, ◌+◌, ◌*◌, ◌^◌, [], ◌∷◌, All, IfNone, IfSome, IfOk, length, reverse, slice_index_or, take, unwrap_or, vec_len};
 ghost use Rattle.tally_sessions.specs.Hosts.{of_host};
 ghost use Rattle.tally_sessions.specs.Lent.{entries_in};
 ghost use Rattle.tally_sessions.specs.Sums.{sessions_among};
@@ -96,6 +96,24 @@ impl Track {
             found.push(self.stay(host, entries, i, time))?;
         }
         List::from_vec(alloc, found)
+    }
+
+    /// The stay of the host at a place, counted from that of the latest record back.
+    pub(crate) fn latest_at(
+        &self,
+        host: u32,
+        entries: Entries<'_>,
+        place: usize,
+        until: Option<i32>,
+    ) -> Stay
+        requires place { place < vec_len self.now.stays }
+        requires few { length (entries_in entries) ≤ ENTRY_LIMIT }
+        requires track { spec.IsTrack host (entries_in entries) (length (entries_in entries)) self.now }
+        ensures value { result ≡ slice_index_or (reverse (stays_of host (entries_in entries.entry) until)) place result }
+        ensures fits { result.length < 2 ^ 32 }
+    {
+        let time = self.time_now(until);
+        self.stay(host, entries, self.stays.len() - place - 1, time)
     }
 
     /// The session that the stay at a place is, unless it is a boot's.

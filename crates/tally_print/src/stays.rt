@@ -1,0 +1,45 @@
+//! The stays of a host, printed one by one: no list of them is made.
+ghost use Rattle.std.specs.Prelude.{◌≡◌, ◌<◌, ◌++◌, List, length, flat_map};
+ghost use Rattle.tally_sessions.specs.Totals.{latest_stays, limited};
+ghost use Rattle.tally_sessions.specs.declared.entry.Stay.{Stay as Row};
+ghost use Rattle.tally_print.specs.Output.{IsWritable, failed_calls};
+ghost use Rattle.tally_print.specs.inside.Pages.{Fills};
+
+use crate::lines::Line;
+use crate::put::turn_page;
+use crate::{Output, PrintFault};
+use tally_sessions::{Sessions, Stay};
+
+/// How many of so many stays are within a limit.
+fn count_within(limit: Option<u32>, count: usize) -> usize
+    ensures { (stays : List Row) → count ≡ length stays → result ≡ length (limited limit stays) }
+{
+    match limit {
+        None => count,
+        Some(limit) => count.min(limit as usize),
+    }
+}
+
+/// Appends a line for each of the latest stays of a host to the page, which is written out each time that it is full.
+pub(crate) fn put_stays<L: Line<Stay>, O: Output>(
+    page: &mut Vec<u8>,
+    line: &L,
+    sessions: &Sessions,
+    host: u32,
+    limit: Option<u32>,
+    until: Option<i32>,
+    out: &mut O,
+) -> Result<(), PrintFault>
+    requires writable { IsWritable (O.state out.old) }
+    requires host { host < sessions.now.hosts }
+    requires printed { (stay : Row) → L.prints stay }
+    ensures fills { Fills (O.state out.old) (O.state out.new) result (failed_calls result) page.new.items
+        (page.old.items ++ flat_map (L.text line.now) (latest_stays host limit sessions.now.entries until)) }
+{
+    for place in 0..count_within(limit, sessions.stay_count(host)) {
+        let stay = sessions.latest_stay(host, place, until);
+        line.push(page, &stay)?;
+        turn_page(page, out)?;
+    }
+    Ok(())
+}
