@@ -14,7 +14,7 @@ use crate::text::two;
 use std::alloc::AllocError;
 use tally_sessions::{End, Stay};
 
-/// The sign of an offset: there is no `-` for none.
+/// The sign of an offset, `+` for none.
 fn sign(offset: i32) -> u8
     ensures { result ≡ (if int_le (pos 0) offset then 43 else 45) }
 {
