@@ -1,12 +1,14 @@
 -- The fields of a table: which need quotes, and what stands between the quotes.
-use Rattle.std.proofs.Common.{◌≡◌, ℕ, ◌+◌, ◌<◌, ◌≤◌, ◌∷◌, List, length, get_or, drop, false, true, refl, sym, ◌∙◌, ap, eqb, [], arith, inl, inr}
+use Rattle.std.proofs.Common.{◌≡◌, ℕ, zero, suc, ◌+◌, ◌<◌, ◌≤◌, ◌∷◌, List, length, get_or, take, drop, false, true, refl, sym, ◌∙◌, ap, eqb, [], arith, inl, inr}
+use Rattle.std.specs.Bool.{OnTrue}
 use Rattle.std.specs.Prelude.{Bool, nat_le, ◌&&◌, ◌||◌}
 use Rattle.std.proofs.lemmas.Bool.{cases_Bool, eqb-true}
-use Rattle.std.proofs.lemmas.List.{at_drop_all}
+use Rattle.std.proofs.lemmas.List.{append-nil, at_drop_all}
 use Rattle.std.proofs.lemmas.Bool.Decides.{nat_tests}
-use Rattle.csv.specs.Writing.{default_writer, escaped, needs_byte, needs_quotes}
+use Rattle.csv.specs.Writing.{default_writer, escaped, field_text, needs_byte, needs_quotes}
 use Rattle.tally_print.specs.Text.{shown, shown_byte}
-use Rattle.tally_print.proofs.ShownLemmas.{shown-drop, shown-drop_stop}
+use Rattle.tally_print.specs.inside.Plain.{ArePlain}
+use Rattle.tally_print.proofs.ShownLemmas.{shown-drop, shown-drop_stop, shown_front, usual}
 
 -- a byte as it is printed needs quotes only where it is a comma or a quote
 plain_where_shown : (b : ℕ) → eqb b 44 ≡ false → eqb b 34 ≡ false → (nat_le 0x20 b && nat_le b 0x7E) ≡ true → needs_byte default_writer b ≡ false
@@ -75,3 +77,31 @@ quote_is_mark b comma = elim (cases_Bool (eqb b 34)) [
   | inl quote ↦ rw (quote, eqb-true b 34 quote) refl
   | inr other ↦ rw other (plain_shown_byte b comma other)
 ]
+
+-- plain bytes need no quotes
+plain_needs_none : (field : List ℕ) (n : ℕ) → n ≤ length field → ArePlain field 0 n → needs_quotes default_writer (take n field) ≡ false
+plain_needs_none field zero h plain = refl
+plain_needs_none [] (suc n) h plain = absurd (omega arith)
+plain_needs_none (b ∷ rest) (suc n) h plain =
+    let is = usual b (plain 0 (omega arith) (omega arith)) in
+    let next = plain_needs_none rest n (omega arith) (λ k from to. plain (suc k) (omega arith) (omega arith)) in
+    rw (plain_where_shown b is.comma is.quote is.within) next
+
+-- where the text ends behind them, they are the field
+pub plain_text_as_field : (field : List ℕ) (n : ℕ) → n ≤ length field → ArePlain field 0 n → shown (drop n field) ≡ [] → field_text default_writer (shown field) ≡ take n field
+plain_text_as_field field n h plain over =
+    let whole : shown field ≡ take n field = shown_front field n h plain ∙ rw over (append-nil (take n field)) in
+    ap (field_text default_writer) whole ∙ rw (plain_needs_none field n h plain) refl
+
+-- whether the text is over, by the byte that comes next
+on_nul : (b : ℕ) (P : Type 0) → (eqb b 0 ≡ true → P) → OnTrue (eqb b 0) P
+on_nul b P f = elim (cases_Bool (eqb b 0)) [
+  | inl nul ↦ rw nul (f nul)
+  | inr other ↦ rw other tt
+]
+
+pub over_at_byte : (field : List ℕ) (i : ℕ) → i < length field → OnTrue (eqb (get_or field i 0) 0) (shown (drop i field) ≡ [])
+over_at_byte field i within = on_nul (get_or field i 0) _ (shown-drop_stop field i within)
+
+pub over_at_end : (field : List ℕ) (i : ℕ) → length field ≤ i → shown (drop i field) ≡ []
+over_at_end field i beyond = at_drop_all shown field i beyond

@@ -2,4 +2,5 @@
 pub mod LocalTime
 pub mod Moments
 pub mod Pages
+pub mod Plain
 pub mod Tables

@@ -12,6 +12,7 @@ mod laws;
 mod lines;
 mod local;
 mod output;
+mod plain;
 mod put;
 mod report_table;
 mod section;

@@ -1,5 +1,5 @@
 //! Stays as CSV.
-ghost use Rattle.std.specs.Prelude.{◌≡◌, ◌+◌, ◌++◌, ◌∷◌, [], OnOk, decimal, ⊤, refl};
+ghost use Rattle.std.specs.Prelude.{◌≡◌, ◌+◌, ◌++◌, ◌∷◌, [], OnOk, decimal, if◌then◌else◌, int_le, pos, ⊤, refl};
 ghost use Rattle.std.specs.Fmt.{signed_decimal};
 ghost use Rattle.csv.specs.Writing.{default_writer, field_text, row_text};
 ghost use Rattle.tally_print.specs.StayTable.{end_word, iso_moment, line_field, stay_fields, stay_header, user_field, zone};
@@ -10,9 +10,16 @@ use crate::date::push_marked_moment;
 use crate::fields::{push_number, push_seconds, push_shown_field};
 use crate::lines::{Fields, Line};
 use crate::local::Local;
-use crate::text::push_two;
+use crate::text::two;
 use std::alloc::AllocError;
 use tally_sessions::{End, Stay};
+
+/// The sign of an offset, `+` for none.
+fn sign(offset: i32) -> u8
+    ensures { result ≡ (if int_le (pos 0) offset then 43 else 45) }
+{
+    if offset < 0 { b'-' } else { b'+' }
+}
 
 /// Appends an offset in seconds east of UTC as hours and minutes. Seconds beyond the last whole
 /// minute are cut off, and the sign stays: 30 seconds west print as `-00:00`.
@@ -21,15 +28,10 @@ fn push_zone(line: &mut Vec<u8>, offset: i32) -> Result<(), AllocError>
     requires { IsAhead offset }
     ensures { OnOk result (line.new.items ≡ line.old.items ++ zone offset) }
 {
-    if offset < 0 {
-        line.push(b'-')?;
-    } else {
-        line.push(b'+')?;
-    }
     let seconds = offset.unsigned_abs();
-    push_two(line, (seconds / 3600) as u8)?;
-    line.push(b':')?;
-    push_two(line, (seconds / 60 % 60) as u8)
+    let [h, hh] = two((seconds / 3600) as u8);
+    let [m, mm] = two((seconds / 60 % 60) as u8);
+    line.extend_from_slice(&[sign(offset), h, hh, b':', m, mm])
 }
 
 #[tactic(auto, unfolding(crate::specs::StayTable::iso_moment))]
