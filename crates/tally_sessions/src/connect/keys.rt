@@ -21,13 +21,6 @@ pub(crate) struct RowUser {
     pub(crate) row: usize,
 }
 
-/// The sum of a key, where a table without it has 0.
-fn change_of<K: Ord + Copy + Drop>(changes: &BTreeMap<K, i64>, at: K) -> i64
-    ensures { result ≡ change_of K.cmp changes.now.entries at }
-{
-    changes.get(&at).copied().unwrap_or(0)
-}
-
 /// Adds to the sum of a key.
 pub(crate) fn add_change<K: Ord + Copy + Drop>(
     changes: &mut BTreeMap<K, i64>,
@@ -44,7 +37,14 @@ pub(crate) fn add_change<K: Ord + Copy + Drop>(
         → get K.cmp changes.new k ≡ get K.cmp changes.old k) }
     ensures ahead { OnOk result ((weight : K → ℕ) → sum_by (λ e. weight e.0) changes.new.entries ≤ sum_by (λ e. weight e.0) changes.old.entries + weight at) }
 {
-    let so_far = change_of(changes, at);
-    changes.insert(at, so_far + more)?;
-    Ok(())
+    match changes.get_mut(&at) {
+        Some(sum) => {
+            *sum += more;
+            Ok(())
+        }
+        None => {
+            changes.insert(at, more)?;
+            Ok(())
+        }
+    }
 }
