@@ -4,20 +4,21 @@ ghost use Rattle.std.specs.BTreeMap.{get};
 ghost use Rattle.std.specs.Ordering.{is_eq};
 ghost use Rattle.tally_sessions.specs.inside.Sums.{change_of};
 
+use crate::connect::name_key::NameKey;
 use std::collections::BTreeMap;
-use tally_records::{Memory, Name};
+use tally_records::Memory;
 
 /// A user on a day.
 #[derive(Clone, Copy, PartialEq, Eq, PartialOrd, Ord)]
 pub(crate) struct DayUser {
     pub(crate) day: i32,
-    pub(crate) user: Name,
+    pub(crate) user: NameKey,
 }
 
 /// A user from a row of a clock on.
 #[derive(Clone, Copy, PartialEq, Eq, PartialOrd, Ord)]
 pub(crate) struct RowUser {
-    pub(crate) user: Name,
+    pub(crate) user: NameKey,
     pub(crate) row: usize,
 }
 
