@@ -11,6 +11,8 @@ pub mod DaySpread
 pub mod DayTable
 pub mod DayUsers
 pub mod KeyLemmas
+pub mod NameBytes
+pub mod NameWords
 pub mod RowLemmas
 pub mod RowOrder
 pub mod RowSteps

@@ -3,6 +3,7 @@ pub mod Changes
 pub mod Counts
 pub mod Entries
 pub mod Kept
+pub mod Names
 pub mod Numbers
 pub mod Spans
 pub mod Stored

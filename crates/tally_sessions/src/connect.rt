@@ -12,6 +12,7 @@ mod cut;
 mod day_sums;
 mod day_user_rows;
 pub(crate) mod keys;
+pub(crate) mod name_key;
 mod span;
 mod user_sums;
 pub(crate) mod walk;

@@ -1,11 +1,13 @@
 -- A table of sums that may go below 0, after one was added to.
-use Rattle.std.proofs.Common.{◌≡◌, ℕ, ◌+◌, ◌≤◌, Bool, true, false, cond, List, [], ◌∷◌, ℤ, pos, ◌+ℤ◌, Some, unwrap_or, refl, ap, ◌∙◌, arith, Ordering}
+use Rattle.std.proofs.Common.{◌≡◌, ℕ, ◌+◌, ◌≤◌, Bool, true, false, cond, List, [], ◌∷◌, ℤ, pos, ◌+ℤ◌, Some, unwrap_or, refl, sym, ap, subst, ◌∙◌, arith, Ordering}
 use Rattle.std.proofs.lemmas.Cmp.{eq_by_cmp_equiv}
 use Rattle.std.proofs.lemmas.Int.{ints}
 use Rattle.std.proofs.lemmas.List.Sums.{sum_by-cons}
+use Rattle.std.proofs.lemmas.Map.{lookup-set_value}
 use Rattle.std.specs.BTreeMap.{insert_entry}
 use Rattle.std.specs.Cmp.{IsTotalOrder}
-use Rattle.std.specs.Map.{lookup}
+use Rattle.std.specs.Map.{lookup, set_value}
+use Rattle.std.specs.Option.{IsSome}
 use Rattle.std.specs.Ordering.{is_eq, match_ordering}
 use Rattle.std.specs.Prelude.{sum_by}
 use Rattle.std.specs.declared.cmp.Ordering.TheVariants.{Less, Equal, Greater}
@@ -37,3 +39,19 @@ ahead_put {K} R weight (e ∷ es) at v = by (R at e.0) (ahead_put R weight es at
     by Less rest = let first = sum_by-cons (λ (x : K × ℤ). weight x.0) (at, v) (e ∷ es) in omega arith
     by Equal rest = let same = sum_by-cons (λ (x : K × ℤ). weight x.0) (e.0, v) es in let was = sum_by-cons (λ (x : K × ℤ). weight x.0) e es in omega arith
     by Greater rest = let is = sum_by-cons (λ (x : K × ℤ). weight x.0) e (insert_entry R es at v) in let was = sum_by-cons (λ (x : K × ℤ). weight x.0) e es in omega arith
+
+-- the value of an entry is no part of the weights
+pub ahead_kept : {K : Type 0} (test : K → Bool) (weight : K → ℕ) (es : List (K × ℤ)) (v : ℤ) → sum_by (λ e. weight e.0) (set_value test es v) ≡ sum_by (λ e. weight e.0) es
+ahead_kept test weight [] v = refl
+ahead_kept {K} test weight (e ∷ es) v = by (test e.0) (ahead_kept test weight es v)
+  where
+    by : (b : Bool) → sum_by (λ x. weight x.0) (set_value test es v) ≡ sum_by (λ x. weight x.0) es
+        → sum_by (λ x. weight x.0) (cond b ((e.0, v) ∷ es) (e ∷ set_value test es v)) ≡ sum_by (λ x. weight x.0) (e ∷ es)
+    by true rest = let same = sum_by-cons (λ (x : K × ℤ). weight x.0) (e.0, v) es in let was = sum_by-cons (λ (x : K × ℤ). weight x.0) e es in omega arith
+    by false rest = let is = sum_by-cons (λ (x : K × ℤ). weight x.0) e (set_value test es v) in let was = sum_by-cons (λ (x : K × ℤ). weight x.0) e es in omega arith
+
+-- what a table has at each key once the value of one that it had is another
+pub set_updates : {K : Type 0} (R : K → K → Ordering) → IsTotalOrder R → (old : List (K × ℤ)) (at : K) (was v : ℤ) → lookup (λ j. is_eq (R at j)) old ≡ Some was
+    → (k : K) → lookup (λ j. is_eq (R k j)) (set_value (λ j. is_eq (R at j)) old v) ≡ cond (is_eq (R at k)) (Some v) (lookup (λ j. is_eq (R k j)) old)
+set_updates {K} R o old at was v has k =
+    lookup-set_value (eq_by_cmp_equiv o) (λ j. is_eq (R at j)) (λ x y h. (eq_by_cmp_equiv o).congr at x y h) k v old (subst IsSome (sym has) refl)

@@ -12,6 +12,7 @@ ghost use Rattle.tally_sessions.specs.declared.connect.keys.DayUser.{DayUser as 
 
 use crate::connect::cut::{Cut, row_span};
 use crate::connect::keys::{DayUser, RowUser, add_change};
+use crate::connect::name_key::NameKey;
 use crate::connect::span::{Span, day_of};
 use crate::connect::walk::Place;
 use crate::sessions::{ENTRY_LIMIT, Sessions};
@@ -20,13 +21,13 @@ use crate::times::DayUserTime;
 use std::alloc::Global;
 use std::collections::BTreeMap;
 use tally_clock::Clock;
-use tally_records::{Memory, Name};
+use tally_records::Memory;
 
 /// Adds the changes of a span's seconds from day to day, so many times, to those of a user. They are
 /// on its first two days, its last and the next.
 fn add_changes(
     changes: &mut BTreeMap<DayUser, i64>,
-    user: Name,
+    user: NameKey,
     span: &Span,
     times: i64,
 ) -> Result<(), Memory>
@@ -56,7 +57,7 @@ fn add_changes(
 /// Adds one session of a user that has whole each row from one up to another.
 fn count_rows(
     counts: &mut BTreeMap<RowUser, i64>,
-    user: Name,
+    user: NameKey,
     from: usize,
     to: usize,
 ) -> Result<(), Memory>
@@ -95,12 +96,13 @@ fn add_session(
     ensures days { OnOk result ((day : ℤ) → 0 < seconds_on (local clock.now offset) day session.now.begin session.now.end_time → days.IsDay day) }
 {
     let cut = Cut::of(clock, offset, session);
-    add_changes(changes, session.user, &cut.first, 1)?;
+    let user = NameKey::of(&session.user);
+    add_changes(changes, user, &cut.first, 1)?;
     match cut.rest {
         None => Ok(()),
         Some(rest) => {
-            add_changes(changes, session.user, &rest.last, 1)?;
-            count_rows(counts, session.user, rest.from, rest.to)?;
+            add_changes(changes, user, &rest.last, 1)?;
+            count_rows(counts, user, rest.from, rest.to)?;
             Ok(())
         }
     }
@@ -203,7 +205,7 @@ impl Sessions {
             if seconds > 0 {
                 rows.push(DayUserTime {
                     day,
-                    user,
+                    user: user.name(),
                     seconds: seconds as u64,
                 })?;
                 add_change(&mut changes, DayUser { day: day + 1, user }, seconds)?;

@@ -4,28 +4,22 @@ ghost use Rattle.std.specs.BTreeMap.{get};
 ghost use Rattle.std.specs.Ordering.{is_eq};
 ghost use Rattle.tally_sessions.specs.inside.Sums.{change_of};
 
+use crate::connect::name_key::NameKey;
 use std::collections::BTreeMap;
-use tally_records::{Memory, Name};
+use tally_records::Memory;
 
 /// A user on a day.
 #[derive(Clone, Copy, PartialEq, Eq, PartialOrd, Ord)]
 pub(crate) struct DayUser {
     pub(crate) day: i32,
-    pub(crate) user: Name,
+    pub(crate) user: NameKey,
 }
 
 /// A user from a row of a clock on.
 #[derive(Clone, Copy, PartialEq, Eq, PartialOrd, Ord)]
 pub(crate) struct RowUser {
-    pub(crate) user: Name,
+    pub(crate) user: NameKey,
     pub(crate) row: usize,
-}
-
-/// The sum of a key, where a table without it has 0.
-fn change_of<K: Ord + Copy + Drop>(changes: &BTreeMap<K, i64>, at: K) -> i64
-    ensures { result ≡ change_of K.cmp changes.now.entries at }
-{
-    changes.get(&at).copied().unwrap_or(0)
 }
 
 /// Adds to the sum of a key.
@@ -44,7 +38,14 @@ pub(crate) fn add_change<K: Ord + Copy + Drop>(
         → get K.cmp changes.new k ≡ get K.cmp changes.old k) }
     ensures ahead { OnOk result ((weight : K → ℕ) → sum_by (λ e. weight e.0) changes.new.entries ≤ sum_by (λ e. weight e.0) changes.old.entries + weight at) }
 {
-    let so_far = change_of(changes, at);
-    changes.insert(at, so_far + more)?;
-    Ok(())
+    match changes.get_mut(&at) {
+        Some(sum) => {
+            *sum += more;
+            Ok(())
+        }
+        None => {
+            changes.insert(at, more)?;
+            Ok(())
+        }
+    }
 }

@@ -1,9 +1,10 @@
-use Rattle.std.proofs.Common.{◌∙◌, ℕ, ◌+◌, ◌-◌, ◌≤◌, ◌^◌, cond, List, ℤ, pos, neg_ℤ, ◌+ℤ◌, ◌≤ℤ◌, ap, arith, to_z, of_z, w64}
+use Rattle.std.proofs.Common.{◌≡◌, ◌∙◌, Bool, true, false, ◌*ℤ◌, ℕ, ◌+◌, ◌-◌, ◌≤◌, ◌^◌, cond, List, ℤ, pos, neg_ℤ, ◌+ℤ◌, ◌≤ℤ◌, ap, arith, to_z, of_z, w64}
 use Rattle.std.proofs.lemmas.Int.{ints, to_z-of_z}
 use Rattle.std.specs.Ordering.{is_eq}
 use Rattle.std.specs.Prelude.{bytes_eq, unsigned_abs}
 use Rattle.tally_sessions.proofs.connect.CountLemmas.{IsMoreAt, size_if, stand_if}
 use Rattle.tally_sessions.proofs.connect.UserCounts.{at_row, more_at, put_within}
+use Rattle.tally_sessions.proofs.connect.Weights.{times_none}
 use Rattle.tally_sessions.specs.declared.connect.keys.RowUser.{RowUser}
 use Rattle.tally_sessions.specs.inside.Changes.{count_of}
 use Rattle.tally_sessions.specs.inside.Sums.{change_of, row_user_cmp}
@@ -47,3 +48,13 @@ returns-in_ok-add_change-clause-within c within =
 
 pub returns-in_ok-add_change-clause-nearer : goal.returns-in_ok-add_change-clause-nearer
 returns-in_ok-add_change-clause-nearer c = c.in_ok-add_change.ensures.ahead (λ (k : RowUser). c.args.rows - k.row)
+
+-- after the last row no time is left
+none_more : (s z : ℤ) (p : Bool) → z ≡ pos 0 → s ≡ s +ℤ cond p z (pos 0)
+none_more s z true none = omega (arith, ints)
+none_more s z false none = omega (arith, ints)
+
+pub returns-else-row-rows-clause-value : goal.returns-else-row-rows-clause-value
+returns-else-row-rows-clause-value c change name none =
+    let last : c.args.at.row + 1 ≡ c.args.rows = omega (arith, c.requires.row_in, c.if-row-rows.false) in
+    none_more _ (c.args.times *ℤ change (c.args.at.row + 1)) (bytes_eq c.args.at.user name) (times_none c.args.times _ (ap change last ∙ none))

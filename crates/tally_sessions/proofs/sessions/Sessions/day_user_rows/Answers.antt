@@ -1,4 +1,4 @@
-use Rattle.std.proofs.Common.{◌≡◌, ◌∙◌, ◌≤◌, ◌<◌, ◌^◌, ℕ, zero, suc, ℤ, All, true, false, List, [], ◌∷◌, length, refl, FitsSigned, pos, ◌+ℤ◌, ◌≤ℤ◌, sym, ap, subst, arith, to_z, of_z, w32, w64}
+use Rattle.std.proofs.Common.{◌≡◌, ◌∙◌, ◌≤◌, ◌<◌, ◌^◌, ℕ, zero, suc, ℤ, All, true, false, List, [], ◌∷◌, ◌++◌, length, refl, FitsSigned, pos, ◌+ℤ◌, ◌≤ℤ◌, sym, ap, subst, arith, to_z, of_z, w32, w64}
 use Rattle.std.proofs.lemmas.Int.{ints, to_z-of_z}
 use Rattle.std.specs.Prelude.{int_lt, unsigned_abs}
 use Rattle.tally_sessions.specs.declared.connect.keys.DayUser.{DayUser}
@@ -113,10 +113,11 @@ loop-at-preserved-in-Continue-branch-3 c =
     let day = c.in_ok-changes.ensures.days at some in
     let on : ℤ → DayUser = λ d. record { day = d; user = at.user } in
     subst (λ rows. IsWalk (all_of clock ss) rows c.add_change.new.changes.entries) (sym c.in_ok-push.ensures.items)
+    (subst (λ user. IsWalk (all_of clock ss) (c.loop-at.rows.items ++ (record { day = held at.day; user = user; seconds = unsigned_abs (kept c.in-Some.seconds) } ∷ [])) c.add_change.new.changes.entries) (sym c.name.ensures)
     (walk_on (all_of clock ss) c.loop-at.rows.items c.loop-at.changes.entries c.pop_first.new.self.entries at c.in-Some.seconds c.loop-at.invariant out
     (record { day = held at.day; user = at.user; seconds = unsigned_abs (kept c.in-Some.seconds) }) c.add_change.new.changes.entries (on (held (held at.day +ℤ pos 1))) (kept c.in-Some.seconds)
     c.in_ok-changes.ensures.days (ap on (same_day at.day day)) (ap unsigned_abs first.kept_amount) some (ap on (next_day at.day day)) first.kept_amount
-    c.in_ok-add_change.ensures.value c.in_ok-add_change.ensures.others)
+    c.in_ok-add_change.ensures.value c.in_ok-add_change.ensures.others))
 
 pub loop-at-preserved : goal.loop-at-preserved
 loop-at-preserved c =
