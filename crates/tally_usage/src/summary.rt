@@ -11,6 +11,7 @@ ghost use Rattle.tally_usage.specs.User.{user_rows};
 
 use crate::command::{self, Command, CommandRow};
 use crate::entry::{ENTRY_LIMIT, KeptProc, ProcEntries, ProcList};
+use crate::guesses::CommandGuesses;
 use crate::order::Order;
 use crate::table::count_entries;
 use crate::usage::Usage;
@@ -33,7 +34,7 @@ pub struct Summary {
     commands: IndexMap<Command, Usage, RandomState>,
     users: IndexMap<u32, Usage, RandomState>,
     total: Usage,
-    command_guesses: Guesses,
+    command_guesses: CommandGuesses,
     user_guesses: Guesses,
 }
 
@@ -62,7 +63,7 @@ impl Summary {
             commands: IndexMap::with_hasher(alloc, keys),
             users: IndexMap::with_hasher(alloc, keys),
             total: Usage::none(),
-            command_guesses: Guesses::new(alloc),
+            command_guesses: CommandGuesses::new(alloc),
             user_guesses: Guesses::new(alloc),
         }
     }
