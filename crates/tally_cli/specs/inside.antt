@@ -1,5 +1,5 @@
-pub mod Asked
 -- What no public contract cites.
+pub mod Asked
 pub mod Deals
 pub mod Failures
 pub mod RunSteps
