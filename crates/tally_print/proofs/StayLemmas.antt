@@ -1,5 +1,5 @@
 -- The first of a host's latest stays.
-use Rattle.std.proofs.Common.{◌≡◌, ℕ, ◌<◌, List, Option, Some, None, arith, get_or, length, min, refl, take}
+use Rattle.std.proofs.Common.{◌≡◌, ℕ, ◌<◌, List, Option, Some, None, arith, get_or, length, refl}
 use Rattle.std.proofs.lemmas.List.{get_or-take, length-take}
 use Rattle.tally_sessions.specs.declared.entry.Stay.{Stay}
 use Rattle.tally_sessions.specs.Totals.{limited}

@@ -12,7 +12,7 @@ use Rattle.tally_print.specs.ConnectTable.{connect_fields, connect_header}
 use Rattle.tally_print.specs.LastText.{beginning, ending, line_column, user_column}
 use Rattle.tally_print.specs.ReportTable.{connect_rows, header}
 use Rattle.tally_print.specs.StayTable.{end_word, stay_header, who_fields}
-use Rattle.tally_print.specs.Text.{moment, span}
+use Rattle.tally_print.specs.Text.{span}
 use Rattle.tally_print.specs.UsageTable.{command_fields, command_header, name_fields, sum_fields, user_fields, user_header}
 use Rattle.tally_print.specs.UsageText.{average, columns, command_line, named_total_line, total_line, user_line}
 use Rattle.tally_print.specs.declared.report_table.Table.TheVariants.{Stays, Connect, Commands, Users}

@@ -1,7 +1,7 @@
 use Rattle.std.proofs.Common.{◌++◌, ◌∙◌, ap, flat_map, rules, subst, w32, ℤ}
 use Rattle.std.proofs.lemmas.Int.{to_z-of_z}
 use Rattle.tally_sessions.specs.Days.{local}
-use Rattle.tally_sessions.specs.Totals.{first_time, latest_stays}
+use Rattle.tally_sessions.specs.Totals.{latest_stays}
 use Rattle.tally_print.specs.LastText.{beginning, stay_line}
 use Rattle.tally_print.specs.declared.output.PrintFault.TheVariants.{Memory}
 use Rattle.tally_print.specs.inside.Pages.{Fills}
