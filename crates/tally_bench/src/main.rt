@@ -3,6 +3,7 @@
 #![tactic(auto)]
 
 mod digest;
+mod jobs;
 mod logins;
 mod made;
 mod numbers;

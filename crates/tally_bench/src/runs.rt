@@ -2,6 +2,7 @@
 ghost use Rattle.tally_line.specs.Jobs.{IsRunnable};
 
 use crate::digest::Digest;
+use crate::jobs::{all_reports, commands, connect_time, sessions, users};
 use crate::logins::Manner;
 use crate::made::Made;
 use crate::numbers::Numbers;
@@ -10,7 +11,7 @@ use std::alloc::{AllocError, Global};
 use std::hash::RandomState;
 use std::sync::Wait;
 use std::thread::Threads;
-use tally_cli::{Form, Job, Report, Source, run};
+use tally_cli::{Form, Job, Source, run};
 use tally_clock::Clock;
 use tally_desk::OpenGate;
 use tally_records::Kind;
@@ -110,80 +111,6 @@ pub(crate) struct Bench {
     pub(crate) numbers: Numbers,
     pub(crate) parts: u32,
     pub(crate) digest: Digest,
-}
-
-/// A job of one thread.
-fn connect_time(by_day: bool, by_user: bool, form: Form) -> Job
-    ensures { IsRunnable result }
-{
-    Job {
-        report: Report::Connect { by_day, by_user },
-        form,
-        feeders: 1,
-        askers: 0,
-        offset: 0,
-        until: None,
-    }
-}
-
-fn sessions(limit: Option<u32>, form: Form) -> Job
-    ensures { IsRunnable result }
-{
-    Job {
-        report: Report::Last { limit },
-        form,
-        feeders: 1,
-        askers: 0,
-        offset: 0,
-        until: None,
-    }
-}
-
-fn commands(order: Order, all: bool, form: Form) -> Job
-    ensures { IsRunnable result }
-{
-    Job {
-        report: Report::Commands {
-            order,
-            reverse: all,
-            all,
-        },
-        form,
-        feeders: 1,
-        askers: 0,
-        offset: 0,
-        until: None,
-    }
-}
-
-fn users(order: Order) -> Job
-    ensures { IsRunnable result }
-{
-    Job {
-        report: Report::Users {
-            order,
-            reverse: false,
-        },
-        form: Form::Text,
-        feeders: 1,
-        askers: 0,
-        offset: 0,
-        until: None,
-    }
-}
-
-/// All reports, by four threads.
-fn all_reports() -> Job
-    ensures { IsRunnable result }
-{
-    Job {
-        report: Report::All,
-        form: Form::Text,
-        feeders: 4,
-        askers: 0,
-        offset: 0,
-        until: None,
-    }
 }
 
 /// Runs a job over new files.
