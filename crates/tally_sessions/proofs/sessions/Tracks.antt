@@ -62,6 +62,7 @@ AreTracked-take es es' n lines swept stays same h = record {
       let old = h.at i lt in
       let start = start_same es es' n (stay_at stays i) same old.placed in record {
         placed = old.placed;
+        time = old.time ∙ sym (ap (λ (r : LoginRecord). r.time) start);
         starts = ap (λ (r : LoginRecord). starts_stay (event_of r)) start ∙ old.starts;
         moved = old.moved;
         ended = old.ended;
@@ -131,6 +132,7 @@ IsTrack-others h host es n m a other of le within t =
         at = λ i lt.
             let old = t.tracked.at i lt in record {
               placed = let p = old.placed in omega arith;
+              time = old.time;
               starts = old.starts;
               moved = IsWithin-all n m _ le old.moved;
               ended = old.ended;

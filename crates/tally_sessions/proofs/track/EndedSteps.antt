@@ -86,7 +86,7 @@ ended_sum-le who es ts fits =
     sum_by-le (ended_length who es) 4294967295 ts
     (λ k d lt. subst (λ t. ended_length who es t ≤ 4294967295) (get_or_default ts k no_stay d lt) (few_seconds (counts who (start_of es (stay_at ts k))) (stay_at ts k).ended (fits k lt)))
 
-ended_nothing : (who : Option (List ℕ)) (es : List Entry) (n : ℕ) (now : ℤ) (user : ℕ) (b : Bool) → ended_sum who es (cond b (record { entry = n; clock_at = now; ended = None; user = user } ∷ []) []) ≡ 0
+ended_nothing : (who : Option (List ℕ)) (es : List Entry) (n : ℕ) (now : ℤ) (user : ℕ) (b : Bool) → ended_sum who es (cond b (record { entry = n; clock_at = now; ended = None; user = user; start = (entry_at es n).item.time } ∷ []) []) ≡ 0
 ended_nothing who es n now user false = refl
 ended_nothing who es n now user true = let none = no_length (counts who (entry_at es n).item) 0 in omega arith
   where
@@ -104,7 +104,7 @@ pub HasSums-start : (es : List Entry) (n : ℕ) (now : ℤ) (user : ℕ) (sums s
 HasSums-start es n now user sums sums' ts h same kept entered few = by (starts_stay (event_of (entry_at es n).item)) few
   where
     new : TrackedStay
-    new = record { entry = n; clock_at = now; ended = None; user = user }
+    new = record { entry = n; clock_at = now; ended = None; user = user; start = (entry_at es n).item.time }
 
     none≢some : (e : Ending) → None ≡ Some e → ⊥
     none≢some e h = cc

@@ -36,7 +36,7 @@ map-tracked_in host es now x (t ∷ ts) =
 started-fresh : (host : ℕ) (es : List Entry) (n : ℕ) (rs : List LoginRecord) (now : ℤ) (user : ℕ) → now ≡ clock (rs ++ (entry_at es n).item ∷ []) → map (tracked_in host es) (started es n now user) ≡ fresh rs (entry_at es n).item
 started-fresh host es n rs now user e = by (starts_stay (event_of (entry_at es n).item)) ∙ ap (λ (z : ℤ). cond (starts_stay (event_of (entry_at es n).item)) (record { start = (entry_at es n).item; clock_at = z; ended = None } ∷ []) []) e
   where
-    by : (b : Bool) → map (tracked_in host es) (cond b (record { entry = n; clock_at = now; ended = None; user = user } ∷ []) []) ≡ cond b (record { start = (entry_at es n).item; clock_at = now; ended = None } ∷ []) []
+    by : (b : Bool) → map (tracked_in host es) (cond b (record { entry = n; clock_at = now; ended = None; user = user; start = (entry_at es n).item.time } ∷ []) []) ≡ cond b (record { start = (entry_at es n).item; clock_at = now; ended = None } ∷ []) []
     by true = refl
     by false = refl
 
@@ -47,7 +47,7 @@ first_more (r ∷ rs) x = refl
 length-started : (es : List Entry) (n : ℕ) (now : ℤ) (user : ℕ) → length (started es n now user) ≤ 1
 length-started es n now user = by (starts_stay (event_of (entry_at es n).item))
   where
-    by : (b : Bool) → length {A = TrackedStay} (cond b (record { entry = n; clock_at = now; ended = None; user = user } ∷ []) []) ≤ 1
+    by : (b : Bool) → length {A = TrackedStay} (cond b (record { entry = n; clock_at = now; ended = None; user = user; start = (entry_at es n).item.time } ∷ []) []) ≤ 1
     by true = omega arith
     by false = omega arith
 

@@ -51,7 +51,7 @@ module _ (es : List Entry) (n : ℕ) (lines lines' : List (List ℕ × ℕ)) (sw
       ∙ get_or-map (after es now x) stays k no_stay no_stay lt
 
   abbrev new : TrackedStay
-  new = record { entry = n; clock_at = now; ended = None; user = user }
+  new = record { entry = n; clock_at = now; ended = None; user = user; start = x.time }
 
   started_is : (b : Bool) → starts_stay (event_of x) ≡ b → started es n now user ≡ cond b (new ∷ []) []
   started_is b h = ap (λ t. cond t (new ∷ []) []) h
@@ -96,6 +96,7 @@ module _ (es : List Entry) (n : ℕ) (lines lines' : List (List ℕ × ℕ)) (sw
           let t = stay_at stays k in
           let old = h.at k lt in record {
             placed = let p = old.placed in omega arith;
+            time = old.time;
             starts = old.starts;
             moved = IsWithin-more n t.clock_at old.moved;
             ended = λ below. by_sweep sweeps below;
@@ -113,6 +114,7 @@ module _ (es : List Entry) (n : ℕ) (lines lines' : List (List ℕ × ℕ)) (sw
       new_at : (k : ℕ) → k ≡ length stays → starts_stay (event_of x) ≡ true → IsTracked es (n + 1) lines' swept' k new
       new_at k e starts = record {
         placed = omega arith;
+        time = refl;
         starts = starts;
         moved = within;
         ended = λ below. absurd (let bad : k < length stays = omega arith in omega arith);

@@ -24,7 +24,7 @@ use Rattle.tally_sessions.specs.inside.Tracking.{Tracked, clock, tracked_from}
 
 -- what a read of a tracked stay gives past the end
 abbrev pub no_stay : TrackedStay
-no_stay = record { entry = 0; clock_at = pos 0; ended = None; user = 0 }
+no_stay = record { entry = 0; clock_at = pos 0; ended = None; user = 0; start = pos 0 }
 
 -- the tracked stay at a place
 abbrev pub stay_at : List TrackedStay → ℕ → TrackedStay
@@ -100,6 +100,7 @@ pub record ArePlaced (n : ℕ) (stays : List TrackedStay) : Type 0 where
 -- the tracked stay at a place: its line leads to it, while it is a login that is pending
 pub record IsTracked (es : List Entry) (n : ℕ) (lines : List (List ℕ × ℕ)) (swept i : ℕ) (t : TrackedStay) : Type 0 where
   pub placed : t.entry < n
+  pub time : t.start ≡ (start_of es t).time
   pub starts : starts_stay (event_of (start_of es t)) ≡ true
   pub moved : IsWithin n t.clock_at
   pub ended : i < swept → IsSome t.ended
@@ -177,7 +178,7 @@ IsNewTrack track = (host : ℕ) (es : List Entry) → IsTrack host es 0 track
 
 -- the stay that the entry at a place starts, while the clock is this, with its user's sum at a place
 abbrev pub started_from : LoginRecord → ℕ → ℤ → ℕ → List TrackedStay
-started_from r at now user = if starts_stay (event_of r) then record { entry = at; clock_at = now; ended = None; user = user } ∷ [] else []
+started_from r at now user = if starts_stay (event_of r) then record { entry = at; clock_at = now; ended = None; user = user; start = r.time } ∷ [] else []
 
 -- the stay that the entry at a place starts, likewise
 abbrev pub started : List Entry → ℕ → ℤ → ℕ → List TrackedStay

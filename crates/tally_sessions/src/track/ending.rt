@@ -2,6 +2,7 @@
 ghost use Rattle.std.specs.Prelude.{◌≡◌, ◌≤◌, ◌<◌, ◌+◌, ◌^◌, ℕ, List, Option, Some, true, bytes_eq, length, map, slice_set, pos, neg_ℤ, ◌≤ℤ◌};
 ghost use Rattle.tally_records.specs.Event.{event_of};
 ghost use Rattle.tally_records.specs.declared.login.Event.TheVariants.{Login};
+ghost use Rattle.tally_records.specs.declared.login.LoginRecord.{LoginRecord};
 ghost use Rattle.tally_sessions.specs.declared.track.ending.Ending.{Ending as Ended};
 ghost use Rattle.tally_sessions.specs.inside.Entries.{IsRecordOf, entry_at, record_in};
 ghost use Rattle.tally_sessions.specs.Stays.{ends_stay};
@@ -44,6 +45,8 @@ pub(crate) struct TrackedStay {
     pub(crate) entry: u32,
     /// Where the sum of a session's user stands.
     pub(crate) user: u32,
+    /// When that entry's record was written.
+    pub(crate) start: i32,
 }
 
 /// The end of a stay at an event, where the clock moved so far between its start and this.
@@ -76,30 +79,41 @@ pub(crate) fn still(start: i32, moved: i64, time: i32) -> Ending
     }
 }
 
-/// A stay after a record that ends it, if it is pending.
-fn ended_by(
-    stay: TrackedStay,
-    start: StoredRecord<'_>,
-    clock: i64,
-    stored: StoredRecord<'_>,
-    event: Event,
-) -> TrackedStay
+/// A stay that started at a time, after a record of another time that ends it, if it is pending.
+fn ended_by(stay: TrackedStay, start: i32, clock: i64, time: i32, event: Event) -> TrackedStay
     requires before { spec.IsWithin ENTRY_LIMIT stay.clock_at }
     requires now { spec.IsWithin ENTRY_LIMIT clock }
-    requires told { event ≡ event_of (record_in stored) }
-    requires ends { ends_stay (record_in start) (record_in stored) ≡ true }
-    ensures value { result ≡ spec.after_from (record_in start.entry) clock (record_in stored.entry) stay }
+    ensures value { (begun by_record : LoginRecord) → start ≡ begun.time → time ≡ by_record.time → event ≡ event_of by_record → ends_stay begun by_record ≡ true
+        → result ≡ spec.after_from begun clock by_record stay }
     ensures fits { spec.LengthFits stay → spec.LengthFits result }
 {
     if stay.ended.is_some() {
         return stay;
     }
     let moved = clock - stay.clock_at;
-    let ended = Some(ending_at(start.time(), moved, stored.time(), event));
+    let ended = Some(ending_at(start, moved, time, event));
     TrackedStay { ended, ..stay }
 }
 
 /// Counts the length of a login's stay that goes from one state to the next, where it has ended.
+fn count_login(sums: &mut EndedSums, before: TrackedStay, after: TrackedStay)
+    requires entered { before.user < length sums.old.users.entries }
+    requires room { (who : Option (List ℕ)) → spec.sum_of sums.old who < 2 ^ 63 }
+    requires keeps { (e : Ended) → before.ended ≡ Some e → after.ended ≡ Some e }
+    ensures sums { (start : LoginRecord) → event_of start ≡ Login → StandsAt sums.old.users before.user start.user → (who : Option (List ℕ))
+        → spec.sum_of sums.new who + spec.ended_from who start before ≡ spec.sum_of sums.old who + spec.ended_from who start (record before { ended = after.ended }) }
+    ensures kept { keys_of sums.new.users.entries ≡ keys_of sums.old.users.entries }
+    ensures spare { sums.new.users.spare ≡ sums.old.users.spare }
+{
+    if before.ended.is_some() {
+        return;
+    }
+    if let Some(ending) = after.ended {
+        sums.add(before.user, ending.length());
+    }
+}
+
+/// The same, where the stay may be a boot's, which does not count.
 fn count(sums: &mut EndedSums, start: StoredRecord<'_>, before: TrackedStay, after: TrackedStay)
     requires entered { event_of (record_in start) ≡ Login → StandsAt sums.old.users before.user (record_in start).user }
     requires room { (who : Option (List ℕ)) → spec.sum_of sums.old who < 2 ^ 63 }
@@ -109,13 +123,8 @@ fn count(sums: &mut EndedSums, start: StoredRecord<'_>, before: TrackedStay, aft
     ensures kept { keys_of sums.new.users.entries ≡ keys_of sums.old.users.entries }
     ensures spare { sums.new.users.spare ≡ sums.old.users.spare }
 {
-    if before.ended.is_some() {
-        return;
-    }
-    if let Some(ending) = after.ended {
-        if is_login(start.event()) {
-            sums.add(before.user, ending.length());
-        }
+    if is_login(start.event()) {
+        count_login(sums, before, after);
     }
 }
 
@@ -144,8 +153,39 @@ fn end_stay(
 {
     let before = stays[i];
     let start = entries.record(before.entry as usize);
-    let after = ended_by(before, start, clock, stored, event);
+    let after = ended_by(before, start.time(), clock, stored.time(), event);
     count(sums, start, before, after);
+    stays[i] = after;
+}
+
+/// The same of a login's stay, which knows when it started, by a record of this time: nothing is looked up.
+fn end_login(
+    stays: &mut [TrackedStay],
+    sums: &mut EndedSums,
+    i: usize,
+    entries: &EntryList,
+    clock: i64,
+    stored: StoredRecord<'_>,
+    event: Event,
+    time: i32,
+)
+    requires i_in { i < length stays.old }
+    requires few { length stays.old ≤ ENTRY_LIMIT }
+    requires before { spec.IsWithin ENTRY_LIMIT (spec.stay_at stays.old i).clock_at }
+    requires now { spec.IsWithin ENTRY_LIMIT clock }
+    requires told { event ≡ event_of (entry_at entries.now stored.at).item }
+    requires timed { time ≡ (entry_at entries.now stored.at).item.time }
+    requires ends { ends_stay (spec.start_of entries.now (spec.stay_at stays.old i)) (entry_at entries.now stored.at).item ≡ true }
+    requires login { event_of (spec.start_of entries.now (spec.stay_at stays.old i)) ≡ Login }
+    requires started { (spec.stay_at stays.old i).start ≡ (spec.start_of entries.now (spec.stay_at stays.old i)).time }
+    requires sums { spec.HasSums entries.now sums.old stays.old }
+    ensures stays { stays.new ≡ slice_set stays.old i (spec.after entries.now clock (entry_at entries.now stored.entry.at).item (spec.stay_at stays.old i)) }
+    ensures sums { spec.HasSums entries.now sums.new stays.new }
+    ensures spare { sums.new.users.spare ≡ sums.old.users.spare }
+{
+    let before = stays[i];
+    let after = ended_by(before, before.start, clock, time, event);
+    count_login(sums, before, after);
     stays[i] = after;
 }
 
@@ -187,6 +227,7 @@ pub(crate) fn end_pending(
     stored: StoredRecord<'_>,
     clock: i64,
     event: Event,
+    time: i32,
 )
     requires swept_in { swept ≤ length stays.old }
     requires of { IsRecordOf entries.now stored }
@@ -196,6 +237,7 @@ pub(crate) fn end_pending(
         × (spec.ends_line_stay event ≡ true → latest ≡ lookup (bytes_eq (entry_at entries.now stored.at).item.line) lines) }
     requires now { spec.IsWithin ENTRY_LIMIT clock }
     requires told { event ≡ event_of (entry_at entries.now stored.at).item }
+    requires timed { time ≡ (entry_at entries.now stored.at).item.time }
     requires sums { spec.HasSums entries.now sums.old stays.old }
     ensures stays { stays.new ≡ map (spec.after entries.now clock (entry_at entries.now stored.entry.at).item) stays.old }
     ensures sums { spec.HasSums entries.now sums.new stays.new }
@@ -205,7 +247,7 @@ pub(crate) fn end_pending(
         sweep(stays, sums, swept, entries, clock, stored, event);
     } else if ends_line(event) {
         if let Some(i) = latest {
-            end_stay(stays, sums, i as usize, entries, clock, stored, event);
+            end_login(stays, sums, i as usize, entries, clock, stored, event, time);
         }
     }
 }

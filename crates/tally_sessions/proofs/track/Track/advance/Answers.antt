@@ -44,8 +44,8 @@ returns-clause-after c =
     ∙ ap (λ (z : ℤ). map (after es z (entry_at es n).item) c.deref_mut.result.now) same
     ∙ ap (map (after es c.tick.new.self.clock (entry_at es n).item)) c.deref_mut.ensures.value
     ∙ ap (λ v. map (after es c.tick.new.self.clock (entry_at es n).item) v.items) t.stays in
-    let time_fits : FitsSigned w32 c.time.result = search rules in
-    let time : to_z w32 (of_z w32 c.time.result) ≡ (entry_at es n).item.time = to_z-of_z w32 c.time.result time_fits ∙ c.time.ensures ∙ ap (λ (r : LoginRecord). r.time) x in
+    let time_fits : FitsSigned w32 c.time-time.result = search rules in
+    let time : to_z w32 (of_z w32 c.time-time.result) ≡ (entry_at es n).item.time = to_z-of_z w32 c.time-time.result time_fits ∙ c.time-time.ensures ∙ ap (λ (r : LoginRecord). r.time) x in
     let clock_is = t.clock ∙ ap (λ (z : ℤ). lined.clock +ℤ shift_at c.event-event.result lined.old_time z) time ∙ ap (λ (e : Event). lined.clock +ℤ shift_at e lined.old_time (entry_at es n).item.time) event in
     let old_time_is = t.old_time ∙ ap (λ (z : ℤ). pending_at c.event-event.result z lined.old_time) time ∙ ap (λ (e : Event). pending_at e (entry_at es n).item.time lined.old_time) event in
     let ended_sums : HasSums es c.end_pending.new.sums c.end_pending.new.stays = c.end_pending.ensures.sums in
