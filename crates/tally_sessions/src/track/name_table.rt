@@ -1,5 +1,5 @@
 //! A table by names, which first looks where a name of the same mark was last found.
-ghost use Rattle.std.specs.Prelude.{◌≡◌, ◌≤◌, ◌<◌, ◌+◌, ◌^◌, ◌++◌, [], ◌∷◌, ℕ, List, Option, Some, None, IfSome, IfNone, OnOk, bytes_eq, if◌then◌else◌, length, slice_get, unwrap_or};
+ghost use Rattle.std.specs.Prelude.{◌≡◌, ◌≤◌, ◌<◌, ◌+◌, ◌^◌, ◌++◌, [], ◌∷◌, ℕ, List, Option, Some, None, true, IfSome, IfNone, OnOk, bytes_eq, if◌then◌else◌, length, slice_get, unwrap_or};
 ghost use Rattle.std.specs.List.{IsDistinct};
 ghost use Rattle.std.specs.Map.{keys_of, lookup};
 ghost use Rattle.tally_sessions.specs.inside.Numbers.{StandsAt};
@@ -9,13 +9,13 @@ use std::alloc::Global;
 use std::hash::RandomState;
 use std::marker::Model;
 use std::mem;
-use tally_records::{Guesses, Key, Memory, Name};
+use tally_records::{Hints, Key, Memory, Name};
 
 /// A number for each name, in the order in which the names came.
 #[derive(Drop)]
 pub(crate) struct NameTable {
     numbers: IndexMap<Key, u64, RandomState>,
-    guesses: Guesses,
+    hints: Hints,
 }
 
 impl Model for NameTable {
@@ -27,11 +27,11 @@ impl Model for NameTable {
     ghost view = { λ table. record { entries = table.numbers.entries; spare = spare table.numbers } };
 }
 
-/// A number that few names share: from their first 16 bytes, a number of 10 bits.
+/// A number that few names share: from their first 16 bytes, a number of 12 bits.
 fn mark_of(name: &Key) -> usize {
     let words = name.words();
     let mixed = (words[0] ^ words[1].rotate_left(32)).wrapping_mul(0x9E37_79B9_7F4A_7C15);
-    (mixed >> 54) as usize
+    (mixed >> 52) as usize
 }
 
 impl NameTable {
@@ -41,7 +41,7 @@ impl NameTable {
     {
         NameTable {
             numbers: IndexMap::with_hasher(alloc, keys),
-            guesses: Guesses::new(alloc),
+            hints: Hints::new(alloc),
         }
     }
 
@@ -51,7 +51,7 @@ impl NameTable {
         ensures room { OnOk result (count ≤ self.new.spare) }
     {
         self.numbers.reserve(count)?;
-        self.guesses.make_room()?;
+        self.hints.make_room()?;
         Ok(())
     }
 
@@ -84,16 +84,34 @@ impl NameTable {
         (name.name(), *number)
     }
 
+    /// Whether a name stands at a place.
+    fn is_at(&self, place: usize, name: &Key) -> bool
+        ensures { result ≡ true → StandsAt self.now place name.now }
+    {
+        match self.numbers.get_index(place) {
+            Some((own, _)) => own == name,
+            None => false,
+        }
+    }
+
+    /// Where the table finds a name, whatever its hint.
+    fn search(&self, name: &Key) -> Option<usize>
+        ensures found { IfSome result (λ i. StandsAt self.now i name.now) }
+        ensures absent { IfNone result (lookup (bytes_eq name.now) self.now.entries ≡ None) }
+    {
+        self.numbers.get_index_of(name)
+    }
+
     /// Where a name stands: where the names of its mark were last found, or where the table finds it.
     fn place_of(&self, name: &Key) -> Option<usize>
         ensures found { IfSome result (λ i. StandsAt self.now i name.now) }
         ensures absent { IfNone result (lookup (bytes_eq name.now) self.now.entries ≡ None) }
     {
-        let guess = self.guesses.get(mark_of(name));
-        match self.numbers.get_index(guess) {
-            Some((own, _)) if own == name => Some(guess),
-            _ => self.numbers.get_index_of(name),
+        let hint = self.hints.get(mark_of(name));
+        if self.is_at(hint, name) {
+            return Some(hint);
         }
+        self.search(name)
     }
 
     /// The number of a name.
@@ -111,8 +129,13 @@ impl NameTable {
         ensures absent { IfNone result (lookup (bytes_eq name.now) self.old.entries ≡ None) }
         ensures same { self.new ≡ self.old }
     {
-        let place = self.place_of(name)?;
-        self.guesses.set(mark_of(name), place);
+        let mark = mark_of(name);
+        let hint = self.hints.get(mark);
+        if self.is_at(hint, name) {
+            return Some(hint);
+        }
+        let place = self.search(name)?;
+        self.hints.set(mark, place);
         Some(place)
     }
 
@@ -126,7 +149,7 @@ impl NameTable {
         ensures room { self.old.spare ≤ self.new.spare + 1 }
     {
         let place = self.numbers.len();
-        self.guesses.set(mark_of(&name), place);
+        self.hints.set(mark_of(&name), place);
         self.numbers.insert(name, number).unwrap();
         place
     }
