@@ -1,6 +1,7 @@
 -- What no public contract cites.
 pub mod Changes
 pub mod Counts
+pub mod Endings
 pub mod Entries
 pub mod Kept
 pub mod Names

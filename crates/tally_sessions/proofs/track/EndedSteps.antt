@@ -20,21 +20,10 @@ use Rattle.tally_sessions.specs.inside.Numbers.{StandsAt}
 use Rattle.tally_sessions.specs.Stays.{starts_stay}
 use Rattle.tally_sessions.proofs.track.Places.{each-push}
 
--- a login's stay that has ended counts for its user and for all
-pub counted : (who : Option (List ℕ)) (start : LoginRecord) (before : TrackedStay) (ending : Ending) (n n' : ℕ) → is_login_event (event_of start) ≡ true → before.ended ≡ None
-    → n' ≡ n + (if covers who start.user then length_of ending else 0) → n' + ended_from who start before ≡ n + ended_from who start (record before { ended = Some ending })
-counted who start before ending n n' login pending more =
-    let nothing : ended_from who start before ≡ 0 = ap (λ o. ended_from who start (record before { ended = o })) pending ∙ none (counts who start) in
-    let own : ended_from who start (record before { ended = Some ending }) ≡ (if covers who start.user then length_of ending else 0) = ap (λ b. cond b (length_of ending) 0) (alike who) in
-    omega (arith, more, nothing, own)
-  where
-    none : (b : Bool) → ◌≡◌ {A = ℕ} (cond b 0 0) 0
-    none true = refl
-    none false = refl
-
-    alike : (who : Option (List ℕ)) → counts who start ≡ covers who start.user
-    alike None = login
-    alike (Some user) = ap (λ b. b && bytes_eq start.user user) login
+-- whether a login counts
+pub counts_alike : (start : LoginRecord) → event_of start ≡ Login → (who : Option (List ℕ)) → counts who start ≡ covers who start.user
+counts_alike start login None = ap is_login_event login
+counts_alike start login (Some user) = ap (λ e. is_login_event e && bytes_eq start.user user) login
 
 -- tables of the same names are as long
 pub same_length : (xs ys : List (List ℕ × ℕ)) → keys_of ys ≡ keys_of xs → length ys ≡ length xs
@@ -74,6 +63,22 @@ HasSums-set es sums sums' ts i before after h lt is same same_user moved kept fi
     by_fits : (k : ℕ) → k < length ts → (k ≡ i) ⊎ (k ≢ i) → LengthFits (stay_at (set ts i after) k)
     by_fits k within (inl e) = subst (λ j. LengthFits (stay_at (set ts i after) j)) (sym e) (subst LengthFits (sym (get_or-set_same ts i after no_stay lt)) fits)
     by_fits k within (inr other) = subst LengthFits (sym (get_or-set_other ts i k after no_stay other)) (h.fits k within)
+
+-- a pending stay gets an end
+pub HasSums-close : (es : List Entry) (sums sums' : EndedSums) (ts : List TrackedStay) (i : ℕ) (ending : Ending) → HasSums es sums ts → i < length ts → (stay_at ts i).ended ≡ None
+    → ((who : Option (List ℕ)) → sum_of sums' who ≡ sum_of sums who + (if counts who (start_of es (stay_at ts i)) then length_of ending else 0))
+    → keys_of sums'.users.entries ≡ keys_of sums.users.entries → length_of ending < 4294967296 → HasSums es sums' (set ts i (record (stay_at ts i) { ended = Some ending }))
+HasSums-close es sums sums' ts i ending h lt pending more kept fits =
+    HasSums-set es sums sums' ts i (stay_at ts i) (record (stay_at ts i) { ended = Some ending }) h lt refl refl refl
+    (λ who. moved (counts who (start_of es (stay_at ts i))) (sum_of sums' who) (sum_of sums who) (stay_at ts i).ended pending (more who))
+    kept (λ e is. subst (λ n. n < 4294967296) (ap (λ o. option_map_or length_of o 0) is) fits)
+  where
+    moved : (b : Bool) (n' n : ℕ) (o : Option Ending) → o ≡ None → n' ≡ n + cond b (length_of ending) 0 → n' + cond b (option_map_or length_of o 0) 0 ≡ n + cond b (length_of ending) 0
+    moved b n' n o none more = ap (λ e. n' + cond b (option_map_or length_of e 0) 0) none ∙ by b more
+      where
+        by : (b : Bool) → n' ≡ n + cond b (length_of ending) 0 → n' + cond b 0 0 ≡ n + cond b (length_of ending) 0
+        by true h = omega arith
+        by false h = omega arith
 
 -- a sum is below 2^52
 few_seconds : (b : Bool) (o : Option Ending) → ((e : Ending) → o ≡ Some e → length_of e < 4294967296) → cond b (option_map_or length_of o 0) 0 ≤ 4294967295

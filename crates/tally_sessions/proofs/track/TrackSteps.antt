@@ -49,25 +49,12 @@ tracked_in-after host es now x t = by t.ended
     by None = pending (ends_stay (start_of es t) x)
 
 -- a pending stay that is closed
-pub after-closes : (start : LoginRecord) (now : ℤ) (x : LoginRecord) (t : TrackedStay) (at began : ℤ) (ending : Ending) → is_some t.ended ≡ false → ends_stay start x ≡ true → at ≡ t.clock_at → began ≡ t.start
-    → ending ≡ ending_of start (now -ℤ t.clock_at) x → record { entry = t.entry; clock_at = at; ended = Some ending; user = t.user; start = began } ≡ after_from start now x t
-after-closes start now x t at began ending pending ends same same_start is = by t.ended pending
-  where
-    by : (e : Option Ending) → is_some e ≡ false
-        → record { entry = t.entry; clock_at = at; ended = Some ending; user = t.user; start = began } ≡ record t { ended = option_or e (end_if (ends_stay start x) (ending_of start (now -ℤ t.clock_at) x)) }
-    by (Some e) h = absurd (false≢true (sym h))
-    by None h =
-        (λ j. record { entry = t.entry; clock_at = same j; ended = Some ending; user = t.user; start = same_start j })
-        ∙ ap (λ (e : Ending). record t { ended = Some e }) is
-        ∙ ap (λ b. record t { ended = end_if b (ending_of start (now -ℤ t.clock_at) x) }) (sym ends)
-
--- a stay that has ended, whatever started it
-pub after_from-ended : (start : LoginRecord) (now : ℤ) (x : LoginRecord) (t : TrackedStay) → is_some t.ended ≡ true → after_from start now x t ≡ t
-after_from-ended start now x t h = by t.ended h
-  where
-    by : (e : Option Ending) → is_some e ≡ true → record t { ended = option_or e (end_if (ends_stay start x) (ending_of start (now -ℤ t.clock_at) x)) } ≡ record t { ended = e }
-    by (Some e) h = refl
-    by None h = absurd (false≢true h)
+pub after-closes : (start : LoginRecord) (now : ℤ) (x : LoginRecord) (t : TrackedStay) (ending : Ending) → t.ended ≡ None → ends_stay start x ≡ true
+    → ending ≡ ending_of start (now -ℤ t.clock_at) x → record t { ended = Some ending } ≡ after_from start now x t
+after-closes start now x t ending pending ends is =
+    ap (λ (e : Ending). record t { ended = Some e }) is
+    ∙ ap (λ b. record t { ended = end_if b (ending_of start (now -ℤ t.clock_at) x) }) (sym ends)
+    ∙ ap (λ (o : Option Ending). record t { ended = option_or o (end_if (ends_stay start x) (ending_of start (now -ℤ t.clock_at) x)) }) (sym pending)
 
 -- a stay that has ended
 pub after-ended : (es : List Entry) (now : ℤ) (x : LoginRecord) (t : TrackedStay) → IsSome t.ended → after es now x t ≡ t

@@ -1,9 +1,7 @@
 //! Stays that have started, and what ends them.
-ghost use Rattle.std.specs.Prelude.{◌≡◌, ◌≤◌, ◌<◌, ◌+◌, ◌^◌, ℕ, List, Option, Some, true, bytes_eq, length, map, slice_set, pos, neg_ℤ, ◌≤ℤ◌};
+ghost use Rattle.std.specs.Prelude.{◌≡◌, ◌≤◌, ◌<◌, ◌+◌, ◌^◌, ℕ, List, Option, true, bytes_eq, if◌then◌else◌, length, map, slice_set, pos, neg_ℤ, ◌≤ℤ◌};
 ghost use Rattle.tally_records.specs.Event.{event_of};
 ghost use Rattle.tally_records.specs.declared.login.Event.TheVariants.{Login};
-ghost use Rattle.tally_records.specs.declared.login.LoginRecord.{LoginRecord};
-ghost use Rattle.tally_sessions.specs.declared.track.ending.Ending.{Ending as Ended};
 ghost use Rattle.tally_sessions.specs.inside.Entries.{IsRecordOf, entry_at, record_in};
 ghost use Rattle.tally_sessions.specs.Stays.{ends_stay};
 ghost use Rattle.std.specs.Map.{keys_of, lookup};
@@ -15,6 +13,7 @@ use crate::entries::stored::StoredRecord;
 use crate::entry::End;
 use crate::sessions::ENTRY_LIMIT;
 use crate::track::ended::EndedSums;
+use crate::track::kept_ending::KeptEnding;
 use crate::track::rules::{begin_of, end_at, ends_every, ends_line, is_login, seconds_between};
 use tally_records::Event;
 
@@ -40,7 +39,7 @@ impl Ending {
 pub(crate) struct TrackedStay {
     /// By how much the clock of its host had moved at its start.
     pub(crate) clock_at: i64,
-    pub(crate) ended: Option<Ending>,
+    pub(crate) ended: KeptEnding,
     /// The place of the entry that started it.
     pub(crate) entry: u32,
     /// Where the sum of a session's user stands.
@@ -79,52 +78,16 @@ pub(crate) fn still(start: i32, moved: i64, time: i32) -> Ending
     }
 }
 
-/// A stay that started at a time, after a record of another time that ends it, if it is pending.
-fn ended_by(stay: TrackedStay, start: i32, clock: i64, time: i32, event: Event) -> TrackedStay
-    requires before { spec.IsWithin ENTRY_LIMIT stay.clock_at }
-    requires now { spec.IsWithin ENTRY_LIMIT clock }
-    ensures value { (begun by_record : LoginRecord) → start ≡ begun.time → time ≡ by_record.time → event ≡ event_of by_record → ends_stay begun by_record ≡ true
-        → result ≡ spec.after_from begun clock by_record stay }
-    ensures fits { spec.LengthFits stay → spec.LengthFits result }
-{
-    if stay.ended.is_some() {
-        return stay;
-    }
-    let moved = clock - stay.clock_at;
-    let ended = Some(ending_at(start, moved, time, event));
-    TrackedStay { ended, ..stay }
-}
-
-/// Counts the length of a login's stay that goes from one state to the next, where it has ended.
-fn count_login(sums: &mut EndedSums, before: TrackedStay, after: TrackedStay)
-    requires entered { before.user < length sums.old.users.entries }
+/// Counts the length of an ended stay that a record started, if it is a login.
+fn count(sums: &mut EndedSums, start: StoredRecord<'_>, user: u32, seconds: u32)
+    requires entered { event_of (record_in start) ≡ Login → StandsAt sums.old.users user (record_in start).user }
     requires room { (who : Option (List ℕ)) → spec.sum_of sums.old who < 2 ^ 63 }
-    requires keeps { (e : Ended) → before.ended ≡ Some e → after.ended ≡ Some e }
-    ensures sums { (start : LoginRecord) → event_of start ≡ Login → StandsAt sums.old.users before.user start.user → (who : Option (List ℕ))
-        → spec.sum_of sums.new who + spec.ended_from who start before ≡ spec.sum_of sums.old who + spec.ended_from who start (record before { ended = after.ended }) }
-    ensures kept { keys_of sums.new.users.entries ≡ keys_of sums.old.users.entries }
-    ensures spare { sums.new.users.spare ≡ sums.old.users.spare }
-{
-    if before.ended.is_some() {
-        return;
-    }
-    if let Some(ending) = after.ended {
-        sums.add(before.user, ending.length());
-    }
-}
-
-/// The same, where the stay may be a boot's, which does not count.
-fn count(sums: &mut EndedSums, start: StoredRecord<'_>, before: TrackedStay, after: TrackedStay)
-    requires entered { event_of (record_in start) ≡ Login → StandsAt sums.old.users before.user (record_in start).user }
-    requires room { (who : Option (List ℕ)) → spec.sum_of sums.old who < 2 ^ 63 }
-    requires keeps { (e : Ended) → before.ended ≡ Some e → after.ended ≡ Some e }
-    ensures sums { (who : Option (List ℕ)) → spec.sum_of sums.new who + spec.ended_from who (record_in start.entry) before
-        ≡ spec.sum_of sums.old who + spec.ended_from who (record_in start.entry) (record before { ended = after.ended }) }
+    ensures sums { (who : Option (List ℕ)) → spec.sum_of sums.new who ≡ spec.sum_of sums.old who + (if spec.counts who (record_in start.entry) then seconds else 0) }
     ensures kept { keys_of sums.new.users.entries ≡ keys_of sums.old.users.entries }
     ensures spare { sums.new.users.spare ≡ sums.old.users.spare }
 {
     if is_login(start.event()) {
-        count_login(sums, before, after);
+        sums.add(user, seconds);
     }
 }
 
@@ -151,11 +114,14 @@ fn end_stay(
     ensures sums { spec.HasSums entries.now sums.new stays.new }
     ensures spare { sums.new.users.spare ≡ sums.old.users.spare }
 {
-    let before = stays[i];
-    let start = entries.record(before.entry as usize);
-    let after = ended_by(before, start.time(), clock, stored.time(), event);
-    count(sums, start, before, after);
-    stays[i] = after;
+    let stay = &stays[i];
+    if stay.ended.is_some() {
+        return;
+    }
+    let start = entries.record(stay.entry as usize);
+    let ending = ending_at(start.time(), clock - stay.clock_at, stored.time(), event);
+    count(sums, start, stay.user, ending.length());
+    stays[i].ended = KeptEnding::of(ending);
 }
 
 /// The same of a login's stay, which knows when it started, by a record of this time: nothing is looked up.
@@ -183,10 +149,13 @@ fn end_login(
     ensures sums { spec.HasSums entries.now sums.new stays.new }
     ensures spare { sums.new.users.spare ≡ sums.old.users.spare }
 {
-    let before = stays[i];
-    let after = ended_by(before, before.start, clock, time, event);
-    count_login(sums, before, after);
-    stays[i] = after;
+    let stay = &stays[i];
+    if stay.ended.is_some() {
+        return;
+    }
+    let ending = ending_at(stay.start, clock - stay.clock_at, time, event);
+    sums.add(stay.user, ending.length());
+    stays[i].ended = KeptEnding::of(ending);
 }
 
 /// Ends each pending stay from a place on. Those before it have ended.

@@ -26,14 +26,14 @@ impl Track {
     }
 
     /// The end of a stay as it stands at a time.
-    fn ending(&self, entries: Entries<'_>, stay: TrackedStay, time: i32) -> Ending
-        requires placed { stay.entry < length (entries_in entries) }
-        requires before { spec.IsWithin ENTRY_LIMIT stay.clock_at }
+    fn ending(&self, entries: Entries<'_>, stay: &TrackedStay, time: i32) -> Ending
+        requires placed { stay.now.entry < length (entries_in entries) }
+        requires before { spec.IsWithin ENTRY_LIMIT stay.now.clock_at }
         requires now { spec.IsWithin ENTRY_LIMIT self.now.clock }
-        ensures value { result ≡ spec.ending_now (entries_in entries.entry) self.now.clock time stay }
+        ensures value { result ≡ spec.ending_now (entries_in entries.entry) self.now.clock time stay.now }
         ensures fits { spec.length_of result < 2 ^ 32 }
     {
-        match stay.ended {
+        match stay.ended.get() {
             Some(ended) => ended,
             None => {
                 let start = entries.record(stay.entry as usize).time();
@@ -50,7 +50,7 @@ impl Track {
         ensures value { result ≡ spec.stay_now host (entries_in entries.entry) self.now.clock time (spec.stay_at self.now.stays.items i) }
         ensures fits { result.length < 2 ^ 32 }
     {
-        let stay = self.stays[i];
+        let stay = &self.stays[i];
         let record = entries.record(stay.entry as usize);
         let LoginRecord {
             kind: _,
@@ -130,7 +130,7 @@ impl Track {
         ensures session { IfSome result (λ s. sessions_among (spec.stay_now host (entries_in entries.entry) self.now.clock (unwrap_or until self.now.last) (spec.stay_at self.now.stays.items i) ∷ []) ≡ s ∷ []) }
         ensures none { IfNone result (sessions_among (spec.stay_now host (entries_in entries.entry) self.now.clock (unwrap_or until self.now.last) (spec.stay_at self.now.stays.items i) ∷ []) ≡ []) }
     {
-        let stay = self.stays[i];
+        let stay = &self.stays[i];
         let ending = self.ending(entries, stay, self.time_now(until));
         let record = entries.record(stay.entry as usize);
         if !is_login(record.event()) {
@@ -167,7 +167,7 @@ impl Track {
         requires track { spec.IsTrack host (entries_in entries) (length (entries_in entries)) self.now }
         ensures { result ≡ spec.pending_length who.now (entries_in entries.entry) self.now.clock time (spec.stay_at self.now.stays.items i) }
     {
-        let stay = self.stays[i];
+        let stay = &self.stays[i];
         if stay.ended.is_some() || !is_counted(entries, stay.entry as usize, who) {
             return 0;
         }
