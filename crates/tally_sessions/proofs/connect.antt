@@ -1,6 +1,9 @@
 -- Rows of connect time.
 pub mod Ahead
 pub mod Candidates
+pub mod CellRows
+pub mod CellTable
+pub mod Cells
 pub mod CompleteRows
 pub mod CountLemmas
 pub mod CutChanges

@@ -9,6 +9,7 @@ pub mod Numbers
 pub mod Spans
 pub mod Stored
 pub mod Sums
+pub mod Tables
 pub mod Totals
 pub mod Track
 pub mod Tracking

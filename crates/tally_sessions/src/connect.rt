@@ -10,6 +10,10 @@ ghost use Rattle.tally_sessions.specs.Totals.{connect_of};
 
 mod cut;
 mod day_sums;
+mod day_table;
+mod day_table_rows;
+mod day_table_size;
+mod day_table_sums;
 mod day_user_rows;
 pub(crate) mod keys;
 pub(crate) mod name_key;
@@ -108,6 +112,6 @@ impl Sessions {
         ensures value { IfOk result (λ rows. rows ≡ day_user_times (local clock.now offset) self.now.entries until) }
         ensures days { IfOk result (All (λ row. IsDay row.day)) }
     {
-        List::from_vec(alloc, self.day_user_rows(alloc, clock, offset, until)?)
+        List::from_vec(alloc, self.rows_by_day_user(alloc, clock, offset, until)?)
     }
 }

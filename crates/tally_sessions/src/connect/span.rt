@@ -27,7 +27,7 @@ pub(crate) fn day_of(time: i64) -> i32
 
 impl Span {
     /// The seconds that a day has of the span.
-    fn seconds_on(&self, day: i32) -> i64
+    pub(crate) fn seconds_on(&self, day: i32) -> i64
         ensures value { result ≡ pos (span_on day self.now.begin self.now.end_time) }
         ensures low { pos 0 ≤ℤ result }
         ensures high { result ≤ℤ pos 86400 }

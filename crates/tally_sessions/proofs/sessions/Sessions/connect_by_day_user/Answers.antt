@@ -12,8 +12,8 @@ pub returns-clause-value : goal.returns-clause-value
 returns-clause-value c =
     let es : List Entry = c.args.self.now.entries in
     let offset = to_z-of_z w32 c.args.offset (search rules) in
-    IfOk-weaker c.from_vec.result _ _ (λ rows is. is ∙ c.in_ok-day_user_rows.ensures.rows ∙ ap (λ (z : ℤ). session_rows (local c.args.clock.now z) (sessions_of es c.args.until)) offset) c.from_vec.ensures
+    IfOk-weaker c.from_vec.result _ _ (λ rows is. is ∙ c.in_ok-rows_by_day_user.ensures.rows ∙ ap (λ (z : ℤ). session_rows (local c.args.clock.now z) (sessions_of es c.args.until)) offset) c.from_vec.ensures
 
 pub returns-clause-days : goal.returns-clause-days
 returns-clause-days c =
-    IfOk-weaker c.from_vec.result _ _ (λ rows is. subst (All (λ (r : DayUserTime). IsDay r.day)) (sym is) c.in_ok-day_user_rows.ensures.days) c.from_vec.ensures
+    IfOk-weaker c.from_vec.result _ _ (λ rows is. subst (All (λ (r : DayUserTime). IsDay r.day)) (sym is) c.in_ok-rows_by_day_user.ensures.days) c.from_vec.ensures

@@ -1,0 +1,178 @@
+//! Which days and users a table of seconds has, and when it is small enough to be made.
+ghost use Rattle.std.specs.Prelude.{◌≡◌, ◌≤◌, ◌<◌, ◌*◌, ◌^◌, pos, neg_ℤ, ◌≤ℤ◌, IfOk, IfSome};
+ghost use Rattle.std.specs.Cmp.Lexicographic.{slice_cmp};
+ghost use Rattle.std.specs.List.Sorted.{IsStrictlySortedBy};
+ghost use Rattle.std.specs.Ordering.{nat_cmp};
+ghost use Rattle.tally_sessions.specs.Days as days;
+
+use crate::connect::day_table::days_between;
+use crate::connect::name_key::NameKey;
+use crate::connect::span::day_of;
+use crate::connect::walk::Place;
+use crate::sessions::{ENTRY_LIMIT, Sessions};
+use crate::sums::Session;
+use crate::track::Track;
+use std::alloc::Global;
+use tally_records::Memory;
+
+/// How many cells a table may have for each session, and how many more.
+const CELLS_FOR_A_SESSION: usize = 4;
+
+const CELLS_FOR_NO_SESSION: usize = 4096;
+
+/// The first day that a time can have.
+const FIRST_DAY: i32 = -24_858;
+
+/// The day after the last.
+const END_DAY: i32 = 24_858;
+
+/// The days of a table: from one on, so many.
+#[derive(Clone, Copy)]
+pub(crate) struct TableDays {
+    pub(crate) first: i32,
+    pub(crate) count: usize,
+}
+
+/// The times of sessions: the earliest and the latest, how many sessions there are, and the sum of the
+/// days that each has.
+#[derive(Clone, Copy)]
+pub(crate) struct Extent {
+    begin: i32,
+    end_time: i32,
+    sessions: usize,
+    days: usize,
+}
+
+/// The most days that a session has.
+fn days_over(session: &Session) -> usize {
+    let seconds = i64::from(session.end_time) - i64::from(session.begin);
+    (seconds.max(0) / 86_400) as usize + 2
+}
+
+/// The day two days before that of a second, or the first that a time can have.
+fn first_day(time: i32) -> i32
+    ensures { days.IsDay result }
+{
+    let day = day_of(i64::from(time));
+    if day < FIRST_DAY + 2 {
+        FIRST_DAY
+    } else {
+        day - 2
+    }
+}
+
+/// The day three days after that of a second, or the one after the last that a time can have.
+fn end_day(time: i32) -> i32
+    ensures low { neg_ℤ (pos 24858) ≤ℤ result }
+    ensures high { result ≤ℤ pos 24858 }
+{
+    let day = day_of(i64::from(time));
+    if day < END_DAY - 3 { day + 3 } else { END_DAY }
+}
+
+impl Extent {
+    /// That of no sessions.
+    fn none() -> Extent {
+        Extent {
+            begin: i32::MAX,
+            end_time: i32::MIN,
+            sessions: 0,
+            days: 0,
+        }
+    }
+
+    /// That with a session more.
+    fn with(self, session: &Session) -> Extent {
+        Extent {
+            begin: self.begin.min(session.begin),
+            end_time: self.end_time.max(session.end_time),
+            sessions: self.sessions.saturating_add(1),
+            days: self.days.saturating_add(days_over(session)),
+        }
+    }
+
+    /// How many cells are worth it for these sessions.
+    fn most_cells(&self) -> usize {
+        self.sessions
+            .saturating_mul(CELLS_FOR_A_SESSION)
+            .saturating_add(CELLS_FOR_NO_SESSION)
+    }
+
+    /// The days of a table, with two more at both ends for local time. There is none where the sessions
+    /// have too many days.
+    pub(crate) fn table_days(&self) -> Option<TableDays>
+        ensures first_in { IfSome result (λ table. days.IsDay table.first) }
+        ensures few { IfSome result (λ table. table.count ≤ 2 ^ 17) }
+    {
+        if self.days > self.most_cells() {
+            return None;
+        }
+        let first = first_day(self.begin);
+        Some(TableDays {
+            first,
+            count: days_between(first, end_day(self.end_time)),
+        })
+    }
+
+    /// The number of cells for so many days and users, where there are some and it is small enough.
+    pub(crate) fn cells(&self, days: usize, users: usize) -> Option<usize>
+        ensures count { IfSome result (λ cells. cells ≡ days * users) }
+        ensures some { IfSome result (λ _. 0 < users) }
+        ensures few { IfSome result (λ _. users ≤ ENTRY_LIMIT) }
+    {
+        if users == 0 || users > ENTRY_LIMIT {
+            return None;
+        }
+        let cells = days.checked_mul(users)?;
+        if cells > self.most_cells() {
+            return None;
+        }
+        Some(cells)
+    }
+}
+
+impl Track {
+    /// Adds the users of the host's sessions.
+    fn push_users(&self, users: &mut Vec<NameKey>) -> Result<(), Memory> {
+        for place in 0..self.sums.users.len() {
+            let (name, _) = self.sums.users.pair_at(place);
+            users.push(NameKey::of(&name))?;
+        }
+        Ok(())
+    }
+}
+
+impl Sessions {
+    /// The times of all sessions.
+    pub(crate) fn extent(&self, until: Option<i32>) -> Extent {
+        let entries = self.entries();
+        let mut at = Place::first();
+        let mut extent = Extent::none();
+        while let Some(session) = self.next_session(entries, &mut at, until) {
+            extent = extent.with(&session);
+        }
+        extent
+    }
+
+    /// The most users that a host has.
+    pub(crate) fn most_users(&self) -> usize {
+        let mut most = 0;
+        for track in &self.tracks {
+            most = track.sums.users.len().max(most);
+        }
+        most
+    }
+
+    /// The users of all hosts, each once, in order of name bytes.
+    pub(crate) fn users_in_order(&self, alloc: Global) -> Result<Vec<NameKey>, Memory>
+        ensures { IfOk result (λ users. IsStrictlySortedBy (slice_cmp nat_cmp) users.items) }
+    {
+        let mut users = Vec::new(alloc);
+        for track in &self.tracks {
+            track.push_users(&mut users)?;
+        }
+        users.sort_unstable();
+        users.dedup();
+        Ok(users)
+    }
+}

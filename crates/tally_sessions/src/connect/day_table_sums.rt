@@ -1,0 +1,108 @@
+//! A table of the seconds of users on days, filled with those of all sessions.
+ghost use Rattle.std.specs.Prelude.{◌≡◌, ◌≤◌, ◌<◌, ◌^◌, ℕ, All, IfOk, IfSome, IsTrue, get_or, length};
+ghost use Rattle.std.specs.Cmp.Lexicographic.{slice_cmp};
+ghost use Rattle.std.specs.List.Sorted.{IsStrictlySortedBy};
+ghost use Rattle.std.specs.Ordering.{nat_cmp};
+ghost use Rattle.tally_sessions.specs.Days as days;
+ghost use Rattle.tally_sessions.specs.Days.{local};
+ghost use Rattle.tally_sessions.specs.Sums.{sessions_of};
+ghost use Rattle.tally_sessions.specs.inside.Changes.{session_rows};
+ghost use Rattle.tally_sessions.specs.inside.Tables.{HasSeconds};
+
+use crate::connect::day_table::{Column, add_session, rank_of};
+use crate::connect::day_table_rows::rows_of_cells;
+use crate::connect::name_key::NameKey;
+use crate::connect::walk::Place;
+use crate::sessions::Sessions;
+use crate::times::DayUserTime;
+use std::alloc::Global;
+use tally_clock::Clock;
+use tally_records::Memory;
+
+impl Sessions {
+    /// Adds all sessions to the cells of a table with a user at each rank. It gives up where the table
+    /// has no cell for some second of a session.
+    fn add_all(
+        &self,
+        cells: &mut [u64],
+        users: &[NameKey],
+        first: i32,
+        clock: &Clock,
+        offset: i32,
+        until: Option<i32>,
+    ) -> bool
+        requires offset_in { days.IsOffset offset }
+        requires first_in { days.IsDay first }
+        requires narrow { length users.now < 2 ^ 40 }
+        requires ascending { IsStrictlySortedBy (slice_cmp nat_cmp) users.now }
+        requires empty { (i : ℕ) → get_or cells.old i 0 ≡ 0 }
+        ensures { IsTrue result → HasSeconds (local clock.now offset) first users.now cells.new (sessions_of self.now.entries until) }
+    {
+        let entries = self.entries();
+        let mut at = Place::first();
+        while let Some(session) = self.next_session(entries, &mut at, until) {
+            let Some(rank) = rank_of(users, &NameKey::of(&session.user)) else {
+                return false;
+            };
+            let column = Column {
+                first,
+                width: users.len(),
+                rank,
+            };
+            if !add_session(cells, column, clock, offset, &session) {
+                return false;
+            }
+        }
+        true
+    }
+
+    /// The rows of the users on days that have any time, from a table with a cell for each user on each
+    /// day, where that is small enough.
+    fn rows_by_table(
+        &self,
+        alloc: Global,
+        clock: &Clock,
+        offset: i32,
+        until: Option<i32>,
+    ) -> Result<Option<Vec<DayUserTime>>, Memory>
+        requires { days.IsOffset offset }
+        ensures rows { IfOk result (λ found. IfSome found (λ rows. rows.items ≡ session_rows (local clock.now offset) (sessions_of self.now.entries until))) }
+        ensures days { IfOk result (λ found. IfSome found (λ rows. All (λ row. days.IsDay row.day) rows.items)) }
+    {
+        let extent = self.extent(until);
+        let Some(table) = extent.table_days() else {
+            return Ok(None);
+        };
+        if extent.cells(table.count, self.most_users()).is_none() {
+            return Ok(None);
+        }
+        let users = self.users_in_order(alloc)?;
+        let Some(count) = extent.cells(table.count, users.len()) else {
+            return Ok(None);
+        };
+        let mut cells = vec![in alloc; 0; count]?;
+        if !self.add_all(&mut cells, &users, table.first, clock, offset, until) {
+            return Ok(None);
+        }
+        let rows = rows_of_cells(alloc, table.first, &users, &cells)?;
+        Ok(Some(rows))
+    }
+
+    /// The rows of the users on days that have any time, by day and then by name bytes.
+    pub(crate) fn rows_by_day_user(
+        &self,
+        alloc: Global,
+        clock: &Clock,
+        offset: i32,
+        until: Option<i32>,
+    ) -> Result<Vec<DayUserTime>, Memory>
+        requires { days.IsOffset offset }
+        ensures rows { IfOk result (λ rows. rows.items ≡ session_rows (local clock.now offset) (sessions_of self.now.entries until)) }
+        ensures days { IfOk result (λ rows. All (λ row. days.IsDay row.day) rows.items) }
+    {
+        match self.rows_by_table(alloc, clock, offset, until)? {
+            Some(rows) => Ok(rows),
+            None => self.day_user_rows(alloc, clock, offset, until),
+        }
+    }
+}
