@@ -4,13 +4,14 @@
 //! texts, as a `head` and its `words` each, `decode` reads them, `events` and `key` look at the words
 //! alone. `process` has the process record: `packed` reads it and keeps its numbers as they are in a
 //! file, `compressed` and `elapsed` work them out. A `batch` is of one kind, a `field` a text, a
-//! `list` is shared by its copies, and `guesses` are of places in tables.
+//! `list` is shared by its copies, and `guesses` and `hints` are of places in tables.
 #![tactic(auto)]
 
 mod batch;
 mod fault;
 mod field;
 mod guesses;
+mod hints;
 mod laws;
 mod list;
 mod login;
@@ -21,6 +22,7 @@ pub use crate::batch::{BATCH_LIMIT, Batch, Kind};
 pub use crate::fault::{BatchFault, Memory, RecordFault};
 pub use crate::field::{Comm, Name, Remote, whole_words};
 pub use crate::guesses::Guesses;
+pub use crate::hints::Hints;
 pub use crate::laws::{ordered_items_are_all, ordered_items_ascend};
 pub use crate::list::List;
 pub use crate::login::key::Key;

@@ -5,7 +5,6 @@ mod command;
 mod entry;
 mod entry_iter;
 mod group;
-mod guesses;
 mod laws;
 mod order;
 mod summary;

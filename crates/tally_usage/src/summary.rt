@@ -11,7 +11,6 @@ ghost use Rattle.tally_usage.specs.User.{user_rows};
 
 use crate::command::{self, Command, CommandRow};
 use crate::entry::{ENTRY_LIMIT, KeptProc, ProcEntries, ProcList};
-use crate::guesses::CommandGuesses;
 use crate::order::Order;
 use crate::table::count_entries;
 use crate::usage::Usage;
@@ -20,7 +19,7 @@ use indexmap::IndexMap;
 use std::alloc::Global;
 use std::hash::RandomState;
 use std::marker::Model;
-use tally_records::{Batch, Guesses, List, Memory, PackedProc};
+use tally_records::{Batch, Guesses, Hints, List, Memory, PackedProc};
 
 /// The stored process records, with the sums of each command, of each user and of all.
 #[derive(Drop)]
@@ -34,7 +33,7 @@ pub struct Summary {
     commands: IndexMap<Command, Usage, RandomState>,
     users: IndexMap<u32, Usage, RandomState>,
     total: Usage,
-    command_guesses: CommandGuesses,
+    command_guesses: Hints,
     user_guesses: Guesses,
 }
 
@@ -63,7 +62,7 @@ impl Summary {
             commands: IndexMap::with_hasher(alloc, keys),
             users: IndexMap::with_hasher(alloc, keys),
             total: Usage::none(),
-            command_guesses: CommandGuesses::new(alloc),
+            command_guesses: Hints::new(alloc),
             user_guesses: Guesses::new(alloc),
         }
     }

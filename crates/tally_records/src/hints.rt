@@ -1,4 +1,4 @@
-//! Guesses at where commands stand in their table.
+//! Hints at where names stand in a table, four times as many as `Guesses` and half as large each.
 ghost use Rattle.std.specs.Prelude.{◌≡◌, ◌%◌, ◌^◌, ℕ, OnErr, OnOk, get_or, length, slice_set};
 
 use std::alloc::{AllocError, Global};
@@ -7,34 +7,34 @@ use std::marker::Model;
 /// How many marks there are.
 const MARKS: usize = 4096;
 
-/// A place for each mark, as where the commands of that mark were last found. A file has some hundred
-/// commands, so few of them share a mark. A wrong guess costs a search alone.
+/// A place for each mark, as where the names of that mark were last found in their table. A table of some hundred
+/// names has few that share a mark. A wrong hint costs a search alone.
 #[derive(Drop)]
-pub(crate) struct CommandGuesses {
+pub struct Hints {
     places: Vec<u32>,
 }
 
-impl Model for CommandGuesses {
+impl Model for Hints {
     ghost use Rattle.std.specs.Prelude.{List, ℕ};
 
     ghost Value = { List ℕ };
 
-    ghost view = { λ guesses. guesses.places.items };
+    ghost view = { λ hints. hints.places.items };
 }
 
-impl CommandGuesses {
-    /// No guess yet, and no room for one.
-    pub(crate) fn new(alloc: Global) -> CommandGuesses
+impl Hints {
+    /// No hint yet, and no room for one.
+    pub fn new(alloc: Global) -> Hints
         ensures { length result ≡ 0 }
     {
-        CommandGuesses {
+        Hints {
             places: Vec::new(alloc),
         }
     }
 
     /// Makes room for all marks, and keeps the place of each, which is 0 until it is set. Where memory is
     /// refused, all is as it was.
-    pub(crate) fn make_room(&mut self) -> Result<(), AllocError>
+    pub fn make_room(&mut self) -> Result<(), AllocError>
         ensures room { OnOk result (length self.new ≡ 4096) }
         ensures places { (mark : ℕ) → get_or self.new (mark % 4096) 0 ≡ get_or self.old (mark % 4096) 0 }
         ensures refused { OnErr result (self.new ≡ self.old) }
@@ -43,7 +43,7 @@ impl CommandGuesses {
     }
 
     /// The place of a mark.
-    pub(crate) fn get(&self, mark: usize) -> usize
+    pub fn get(&self, mark: usize) -> usize
         ensures { result ≡ get_or self.now (mark % 4096) 0 }
     {
         match self.places.get(mark % MARKS) {
@@ -52,12 +52,13 @@ impl CommandGuesses {
         }
     }
 
-    /// Sets the place of a mark, where there is room. A summary has no place past 32 bits.
-    pub(crate) fn set(&mut self, mark: usize, place: usize)
+    /// Sets the place of a mark, where there is room. Of a place the lowest 32 bits are kept, so that the hint at
+    /// a place past them is wrong.
+    pub fn set(&mut self, mark: usize, place: usize)
         ensures { self.new ≡ slice_set self.old (mark % 4096) (place % 2 ^ 32) }
     {
-        if let Some(guess) = self.places.get_mut(mark % MARKS) {
-            *guess = (place % 0x1_0000_0000) as u32;
+        if let Some(hint) = self.places.get_mut(mark % MARKS) {
+            *hint = (place % 0x1_0000_0000) as u32;
         }
     }
 }
