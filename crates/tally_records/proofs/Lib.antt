@@ -1,5 +1,6 @@
 mod CompressedLemmas
 mod ElapsedLemmas
+mod NameLemmas
 mod PackedLemmas
 pub mod Texts
 pub mod Words

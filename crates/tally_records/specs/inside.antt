@@ -2,4 +2,5 @@
 pub mod Compact
 pub mod Items
 pub mod Lengths
+pub mod Names
 pub mod Values

@@ -2,9 +2,9 @@
 //!
 //! `login` has the login record and its events: `logins` keeps many without the zeros after their
 //! texts, as a `head` and its `words` each, `decode` reads them, `events` and `key` look at the words
-//! alone. `process` has the process record: `packed` reads it and keeps its numbers as they are in a
-//! file, `compressed` and `elapsed` work them out. A `batch` is of one kind, a `field` a text, a
-//! `list` is shared by its copies, and `guesses` and `hints` are of places in tables.
+//! alone. `process` has the process record: `packed` reads it, with the `name` of its command, and keeps
+//! its numbers as they are in a file, `compressed` and `elapsed` work them out. A `batch` is of one kind,
+//! a `field` a text, a `list` is shared by its copies, and `guesses` and `hints` are of places in tables.
 #![tactic(auto)]
 
 mod batch;

@@ -193,6 +193,6 @@ fn place_records(kept: &mut Vec<KeptProc>, host: u32, records: &[PackedProc])
     ensures { kept.new.items ≡ kept.old.items ++ kept_of host records.now }
 {
     for item in records {
-        kept.push_reserved(KeptProc { host, item: *item });
+        kept.push_reserved(KeptProc { item: *item, host });
     }
 }

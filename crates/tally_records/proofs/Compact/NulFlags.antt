@@ -211,3 +211,10 @@ nul_at-some w t fits some at =
     let h = flags_lowest (λ k. eqb (byte w k) 0) (nul_flags w) t (is_flags w fits) some at in
     let within : t / 8 < 8 = h.0 in
     sym (position_or_len_is (λ b. eqb b 0) (word_bytes w) (t / 8) 0 (omega (arith, length-word_bytes w)) h.2 (λ _. h.1))
+
+pub nul_at-within : (w : ℕ) → w < 2 ^ 64 → 0 < nul_flags w → nul_at w < 8
+nul_at-within w fits some =
+    let at = nul_at-some w (count_trailing_zeros 64 (nul_flags w)) fits some refl in
+    let h = flags_lowest (λ k. eqb (byte w k) 0) (nul_flags w) (count_trailing_zeros 64 (nul_flags w)) (is_flags w fits) some refl in
+    let within : count_trailing_zeros 64 (nul_flags w) / 8 < 8 = h.0 in
+    omega arith

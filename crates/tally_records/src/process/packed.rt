@@ -5,9 +5,10 @@ ghost use Rattle.tally_records.specs.ProcRecord.{IsBounded, fields_2, fields_3, 
 ghost use Rattle.tally_records.specs.Text.{text_of, u16_at};
 
 use crate::fault::RecordFault;
-use crate::field::{Comm, number_at, text};
+use crate::field::{Comm, number_at};
 use crate::process::compressed::comp;
 use crate::process::elapsed::elapsed;
+use crate::process::name::name_of;
 use crate::process::{PROC_SIZE, ProcRecord};
 use byteorder::{ByteOrder, LittleEndian};
 
@@ -84,10 +85,11 @@ fn comp_at(bytes: &[u8; PROC_SIZE], offset: usize) -> u16
 /// The name of the command in a field of so many bytes.
 fn comm_at(bytes: &[u8; PROC_SIZE], offset: usize, size: usize) -> Comm
     requires within { offset + size ≤ 64 }
+    requires whole { 16 ≤ size }
     requires few { size ≤ 17 }
     ensures { result ≡ text_of 17 (take size (drop offset bytes.now)) }
 {
-    text(&bytes[offset..offset + size])
+    name_of(&bytes[offset..offset + size])
 }
 
 /// The fields of struct acct, linux/acct.h.
