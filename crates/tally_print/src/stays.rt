@@ -6,6 +6,7 @@ ghost use Rattle.tally_print.specs.Output.{IsWritable, failed_calls};
 ghost use Rattle.tally_print.specs.inside.Pages.{Fills};
 
 use crate::lines::Line;
+use crate::printed_day::PrintedDays;
 use crate::put::turn_page;
 use crate::{Output, PrintFault};
 use tally_sessions::{Sessions, Stay};
@@ -36,9 +37,10 @@ pub(crate) fn put_stays<L: Line<Stay>, O: Output>(
     ensures fills { Fills (O.state out.old) (O.state out.new) result (failed_calls result) page.new.items
         (page.old.items ++ flat_map (L.text line.now) (latest_stays host limit sessions.now.entries until)) }
 {
+    let mut days = PrintedDays::first();
     for place in 0..count_within(limit, sessions.stay_count(host)) {
         let stay = sessions.latest_stay(host, place, until);
-        line.push(page, &stay)?;
+        line.push(page, &mut days, &stay)?;
         turn_page(page, out)?;
     }
     Ok(())

@@ -3,6 +3,7 @@ ghost use Rattle.tally_print.specs.Output.{IsWritable, Prints, failed_calls};
 ghost use Rattle.tally_print.specs.UsageText.{average, columns, total_line, command_line, commands_text, named_total_line, user_line, users_text};
 
 use crate::lines::{Line, print_lines};
+use crate::printed_day::PrintedDays;
 use crate::put::new_page;
 use crate::text::{push_left, push_left_number, push_right_minutes, push_right_number, push_shown};
 use crate::{Output, PrintFault};
@@ -97,7 +98,12 @@ impl Line<CommandRow> for CommandLine {
 
     ghost text = { λ _ row. command_line row };
 
-    fn push(&self, page: &mut Vec<u8>, row: &CommandRow) -> Result<(), AllocError> {
+    fn push(
+        &self,
+        page: &mut Vec<u8>,
+        _days: &mut PrintedDays,
+        row: &CommandRow,
+    ) -> Result<(), AllocError> {
         push_command(page, row)
     }
 }
@@ -110,7 +116,12 @@ impl Line<UidRow> for UserLine {
 
     ghost text = { λ _ row. user_line row };
 
-    fn push(&self, page: &mut Vec<u8>, row: &UidRow) -> Result<(), AllocError> {
+    fn push(
+        &self,
+        page: &mut Vec<u8>,
+        _days: &mut PrintedDays,
+        row: &UidRow,
+    ) -> Result<(), AllocError> {
         push_user(page, row)
     }
 }
