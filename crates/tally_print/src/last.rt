@@ -19,6 +19,7 @@ use tally_clock::Clock;
 use tally_sessions::{End, Sessions, Stay};
 
 /// Appends a field of a stay in its column, or the words that a boot has there.
+#[inline(always)]
 fn push_column(
     line: &mut Vec<u8>,
     is_boot: bool,
