@@ -5,11 +5,12 @@ ghost use Rattle.tally_sessions.specs.Days.{IsDay};
 
 use crate::date::date_digits;
 
-/// A day, and its date in digits.
+/// A day and its date in digits, and how many rows of a clock had begun when it was printed, as a guess.
 #[derive(Drop)]
 pub(crate) struct PrintedDay {
     day: i32,
     digits: [u8; 10],
+    pub(crate) begun: usize,
     ghost is_date: { digits ≡ date day },
 }
 
@@ -19,6 +20,7 @@ impl PrintedDay {
         PrintedDay {
             day: 0,
             digits: date_digits(0),
+            begun: 0,
         }
     }
 

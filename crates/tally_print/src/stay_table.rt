@@ -11,9 +11,12 @@ use crate::fields::{push_number, push_seconds, push_shown_field};
 use crate::lines::{Fields, Line};
 use crate::local::Local;
 use crate::printed_day::{PrintedDay, PrintedDays};
-use crate::text::two;
+use crate::text::{ten_digits, two};
 use std::alloc::AllocError;
 use tally_sessions::{End, Stay};
+
+/// The least number of ten digits, a time of the year 2001.
+const LEAST_OF_TEN: i32 = 1_000_000_000;
 
 /// The sign of an offset, `+` for none.
 fn sign(offset: i32) -> u8
@@ -44,7 +47,7 @@ fn push_iso(
 ) -> Result<(), AllocError>
     ensures { OnOk result (line.new.items ≡ line.old.items ++ iso_moment time (clock_of local.now)) }
 {
-    let ahead = local.ahead_at(time);
+    let ahead = local.ahead_at(&mut last.begun, time);
     push_marked_moment(line, last, time, b'T', ahead)?;
     push_zone(line, ahead)
 }
@@ -53,9 +56,13 @@ fn push_iso(
 fn push_time(line: &mut Vec<u8>, time: i32) -> Result<(), AllocError>
     ensures { OnOk result (line.new.items ≡ line.old.items ++ (signed_decimal time ++ 44 ∷ [])) }
 {
-    push_number(line, time)?;
-    line.push(b',')?;
-    Ok(())
+    if time < LEAST_OF_TEN {
+        push_number(line, time)?;
+        line.push(b',')?;
+        return Ok(());
+    }
+    let [a, b, c, d, e, f, g, h, i, j] = ten_digits(time as u32);
+    line.extend_from_slice(&[a, b, c, d, e, f, g, h, i, j, b','])
 }
 
 /// Appends the number of a file, counted from 1.
