@@ -87,11 +87,14 @@ plain_needs_none (b ∷ rest) (suc n) h plain =
     let next = plain_needs_none rest n (omega arith) (λ k from to. plain (suc k) (omega arith) (omega arith)) in
     rw (plain_where_shown b is.comma is.quote is.within) next
 
--- where the text ends behind them, they are the field
+-- where the text ends after plain bytes, they are the text
+pub plain_text : (field : List ℕ) (n : ℕ) → n ≤ length field → ArePlain field 0 n → shown (drop n field) ≡ [] → shown field ≡ take n field
+plain_text field n h plain over = shown_front field n h plain ∙ rw over (append-nil (take n field))
+
+-- and so they are the field of a table
 pub plain_text_as_field : (field : List ℕ) (n : ℕ) → n ≤ length field → ArePlain field 0 n → shown (drop n field) ≡ [] → field_text default_writer (shown field) ≡ take n field
 plain_text_as_field field n h plain over =
-    let whole : shown field ≡ take n field = shown_front field n h plain ∙ rw over (append-nil (take n field)) in
-    ap (field_text default_writer) whole ∙ rw (plain_needs_none field n h plain) refl
+    ap (field_text default_writer) (plain_text field n h plain over) ∙ rw (plain_needs_none field n h plain) refl
 
 -- whether the text is over, by the byte that comes next
 on_nul : (b : ℕ) (P : Type 0) → (eqb b 0 ≡ true → P) → OnTrue (eqb b 0) P

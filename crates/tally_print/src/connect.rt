@@ -7,6 +7,7 @@ ghost use Rattle.tally_print.specs.ConnectText.{day_column, user_column, connect
 
 use crate::date::push_date;
 use crate::lines::{Line, put_lines};
+use crate::printed_day::PrintedDays;
 use crate::put::{new_page, put_all};
 use crate::text::{push_left, push_left_shown, push_right_hours};
 use crate::{Output, PrintFault};
@@ -66,7 +67,12 @@ impl Line<ConnectRow> for ConnectLine {
 
     ghost text = { λ _ row. connect_line row };
 
-    fn push(&self, page: &mut Vec<u8>, row: &ConnectRow) -> Result<(), AllocError> {
+    fn push(
+        &self,
+        page: &mut Vec<u8>,
+        _days: &mut PrintedDays,
+        row: &ConnectRow,
+    ) -> Result<(), AllocError> {
         push_row(page, row)
     }
 }

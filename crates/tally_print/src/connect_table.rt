@@ -9,6 +9,7 @@ ghost use Rattle.tally_print.specs.inside.Tables.{before_last};
 
 use crate::fields::{push_date_field, push_seconds, push_shown_field};
 use crate::lines::{Fields, Line};
+use crate::printed_day::PrintedDays;
 use std::alloc::AllocError;
 use tally_book::ConnectRow;
 use tally_records::Name;
@@ -66,7 +67,12 @@ impl Line<ConnectRow> for ConnectFields {
 
     ghost text = { λ asked row. row_text default_writer (connect_fields asked.by_day asked.by_user row) };
 
-    fn push(&self, page: &mut Vec<u8>, row: &ConnectRow) -> Result<(), AllocError> {
+    fn push(
+        &self,
+        page: &mut Vec<u8>,
+        _days: &mut PrintedDays,
+        row: &ConnectRow,
+    ) -> Result<(), AllocError> {
         push_row(page, self.by_day, self.by_user, row)
     }
 }

@@ -1,12 +1,11 @@
 //! Fields of a table, as the crate `csv` writes them.
-ghost use Rattle.std.specs.Prelude.{◌≡◌, ◌≤◌, ◌++◌, ◌∷◌, [], OnOk, decimal, drop, length, true};
-ghost use Rattle.std.specs.Bool.{OnTrue};
+ghost use Rattle.std.specs.Prelude.{◌≡◌, ◌++◌, ◌∷◌, [], OnOk, decimal, true};
 ghost use Rattle.csv.specs.Writing.{default_writer, escaped, field_text, needs_byte, needs_quotes};
 ghost use Rattle.tally_print.specs.Text.{date, shown, shown_byte};
 ghost use Rattle.tally_sessions.specs.Days.{IsDay};
 
 use crate::date::push_date;
-use crate::plain::plain_len;
+use crate::plain::{is_over, plain_len};
 use crate::text::{push_shown, shown_byte};
 use itoa::{Buffer, Integer};
 use std::alloc::AllocError;
@@ -60,17 +59,6 @@ fn push_unusual_field(line: &mut Vec<u8>, field: &[u8]) -> Result<(), AllocError
     push_escaped(line, field)?;
     line.push(b'"')?;
     Ok(())
-}
-
-/// Whether the text of a field is over before the byte at `at`.
-fn is_over(field: &[u8], at: usize) -> bool
-    requires { at ≤ length field.now }
-    ensures { OnTrue result (shown (drop at field.now) ≡ []) }
-{
-    if at == field.len() {
-        return true;
-    }
-    field[at] == 0
 }
 
 /// Appends the text of a field as it is printed, in quotes where it has a mark of the format.

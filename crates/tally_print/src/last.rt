@@ -9,6 +9,7 @@ ghost use Rattle.tally_print.specs.LastText.{ending, still_ending, still_words, 
 use crate::date::push_moment;
 use crate::lines::{Line, put_lines};
 use crate::local::Local;
+use crate::printed_day::{PrintedDay, PrintedDays};
 use crate::put::{new_page, put_all};
 use crate::stays::put_stays;
 use crate::text::{push_left, push_left_shown, push_span};
@@ -18,6 +19,7 @@ use tally_clock::Clock;
 use tally_sessions::{End, Sessions, Stay};
 
 /// Appends a field of a stay in its column, or the words that a boot has there.
+#[inline(always)]
 fn push_column(
     line: &mut Vec<u8>,
     is_boot: bool,
@@ -68,7 +70,7 @@ fn push_first(line: &mut Vec<u8>, first: i32, local: &Local<'_>) -> Result<(), A
         ≡ line.old.items ++ (codes "\nwtmp begins " ++ moment first (clock_of local.now) ++ codes "\n")) }
 {
     line.extend_from_slice(b"\nwtmp begins ")?;
-    push_moment(line, first, local)?;
+    push_moment(line, &mut PrintedDay::first(), first, local)?;
     line.push(b'\n')?;
     Ok(())
 }
@@ -95,12 +97,17 @@ struct StayLine<'a> {
 }
 
 impl StayLine<'_> {
-    fn push_logout(&self, page: &mut Vec<u8>, stay: &Stay) -> Result<(), AllocError>
+    fn push_logout(
+        &self,
+        page: &mut Vec<u8>,
+        last: &mut PrintedDay,
+        stay: &Stay,
+    ) -> Result<(), AllocError>
         ensures { OnOk result (page.new.items ≡ page.old.items
             ++ (codes " - " ++ moment stay.now.end_time (clock_of self.now.local) ++ codes " " ++ span stay.now.length)) }
     {
         page.extend_from_slice(b" - ")?;
-        push_moment(page, stay.end_time, &self.local)?;
+        push_moment(page, last, stay.end_time, &self.local)?;
         page.push(b' ')?;
         push_span(page, stay.length)
     }
@@ -115,13 +122,18 @@ impl StayLine<'_> {
     }
 
     #[tactic(auto, unfolding(crate::specs::LastText::ending))]
-    fn push_ending(&self, page: &mut Vec<u8>, stay: &Stay) -> Result<(), AllocError>
+    fn push_ending(
+        &self,
+        page: &mut Vec<u8>,
+        last: &mut PrintedDay,
+        stay: &Stay,
+    ) -> Result<(), AllocError>
         ensures { OnOk result (page.new.items
             ≡ page.old.items ++ ending stay.now.end stay.now (clock_of self.now.local) self.now.until) }
     {
         match stay.end {
-            End::Logout => self.push_logout(page, stay),
-            End::Next => self.push_logout(page, stay),
+            End::Logout => self.push_logout(page, last, stay),
+            End::Next => self.push_logout(page, last, stay),
             End::Down => push_cut_off(page, b"down", stay.length),
             End::Crash => push_cut_off(page, b"crash", stay.length),
             End::Still => self.push_open(page, stay),
@@ -129,7 +141,12 @@ impl StayLine<'_> {
     }
 
     #[tactic(auto, unfolding(crate::specs::LastText::stay_line))]
-    fn push_stay(&self, page: &mut Vec<u8>, stay: &Stay) -> Result<(), AllocError>
+    fn push_stay(
+        &self,
+        page: &mut Vec<u8>,
+        days: &mut PrintedDays,
+        stay: &Stay,
+    ) -> Result<(), AllocError>
         ensures { OnOk result (page.new.items ≡ page.old.items ++ stay_line (clock_of self.now.local) self.now.until stay.now) }
     {
         push_column(page, stay.is_boot, b"reboot", &stay.user, 8)?;
@@ -138,8 +155,8 @@ impl StayLine<'_> {
         page.push(b' ')?;
         push_left_shown(page, &stay.remote, 16)?;
         page.push(b' ')?;
-        push_moment(page, stay.start, &self.local)?;
-        self.push_ending(page, stay)?;
+        push_moment(page, &mut days.start, stay.start, &self.local)?;
+        self.push_ending(page, &mut days.end, stay)?;
         page.push(b'\n')?;
         Ok(())
     }
@@ -150,8 +167,13 @@ impl Line<Stay> for StayLine<'_> {
 
     ghost text = { λ line stay. stay_line (clock_of line.local) line.until stay };
 
-    fn push(&self, page: &mut Vec<u8>, stay: &Stay) -> Result<(), AllocError> {
-        self.push_stay(page, stay)
+    fn push(
+        &self,
+        page: &mut Vec<u8>,
+        days: &mut PrintedDays,
+        stay: &Stay,
+    ) -> Result<(), AllocError> {
+        self.push_stay(page, days, stay)
     }
 }
 

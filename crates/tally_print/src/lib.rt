@@ -13,6 +13,7 @@ mod lines;
 mod local;
 mod output;
 mod plain;
+mod printed_day;
 mod put;
 mod report_table;
 mod section;

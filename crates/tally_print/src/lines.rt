@@ -5,6 +5,7 @@ ghost use Rattle.tally_print.specs.Output.{IsWritable, Prints, failed_calls};
 ghost use Rattle.tally_print.specs.Tables.{Row, csv_text};
 ghost use Rattle.tally_print.specs.inside.Pages.{Fills};
 
+use crate::printed_day::PrintedDays;
 use crate::put::{new_page, put_all, turn_page};
 use crate::{Output, PrintFault};
 use std::alloc::{AllocError, Global};
@@ -17,8 +18,8 @@ pub(crate) trait Line<X> {
     // The line of a row.
     ghost text: { Self → X → List ℕ };
 
-    /// Appends the line of the row.
-    fn push(&self, page: &mut Vec<u8>, row: &X) -> Result<(), AllocError>
+    /// Appends the line of the row, where these days were printed last.
+    fn push(&self, page: &mut Vec<u8>, days: &mut PrintedDays, row: &X) -> Result<(), AllocError>
         requires { prints row.now }
         ensures { OnOk result (page.new.items ≡ page.old.items ++ text self.now row.now) };
 }
@@ -44,8 +45,9 @@ pub(crate) fn put_lines<X, L: Line<X>, O: Output>(
     ensures fills { Fills (O.state out.old) (O.state out.new) result (failed_calls result) page.new.items
         (page.old.items ++ flat_map (L.text line.now) rows.now) }
 {
+    let mut days = PrintedDays::first();
     for row in rows {
-        line.push(page, row)?;
+        line.push(page, &mut days, row)?;
         turn_page(page, out)?;
     }
     Ok(())

@@ -1,5 +1,7 @@
 //! Texts that are printed as they are, looked through by 16 bytes at a time.
-ghost use Rattle.std.specs.Prelude.{◌≡◌, ◌≤◌, ◌+◌, length};
+ghost use Rattle.std.specs.Bool.{OnTrue};
+ghost use Rattle.std.specs.Prelude.{◌≡◌, ◌≤◌, ◌+◌, [], drop, length};
+ghost use Rattle.tally_print.specs.Text.{shown};
 ghost use Rattle.tally_print.specs.inside.Plain.{ArePlain, IsRun, is_unusual, lowest_bit};
 
 use std::simd::prelude::*;
@@ -64,4 +66,15 @@ pub(crate) fn plain_len(field: &[u8]) -> usize
         }
     }
     plain_end(field, at)
+}
+
+/// Whether the text of a field is over before the byte at `at`.
+pub(crate) fn is_over(field: &[u8], at: usize) -> bool
+    requires { at ≤ length field.now }
+    ensures { OnTrue result (shown (drop at field.now) ≡ []) }
+{
+    if at == field.len() {
+        return true;
+    }
+    field[at] == 0
 }

@@ -10,9 +10,13 @@ use crate::date::push_marked_moment;
 use crate::fields::{push_number, push_seconds, push_shown_field};
 use crate::lines::{Fields, Line};
 use crate::local::Local;
-use crate::text::two;
+use crate::printed_day::{PrintedDay, PrintedDays};
+use crate::text::{ten_digits, two};
 use std::alloc::AllocError;
 use tally_sessions::{End, Stay};
+
+/// The least number of ten digits, a time of the year 2001.
+const LEAST_OF_TEN: i32 = 1_000_000_000;
 
 /// The sign of an offset, `+` for none.
 fn sign(offset: i32) -> u8
@@ -35,11 +39,16 @@ fn push_zone(line: &mut Vec<u8>, offset: i32) -> Result<(), AllocError>
 }
 
 #[tactic(auto, unfolding(crate::specs::StayTable::iso_moment))]
-fn push_iso(line: &mut Vec<u8>, time: i32, local: &Local<'_>) -> Result<(), AllocError>
+fn push_iso(
+    line: &mut Vec<u8>,
+    last: &mut PrintedDay,
+    time: i32,
+    local: &Local<'_>,
+) -> Result<(), AllocError>
     ensures { OnOk result (line.new.items ≡ line.old.items ++ iso_moment time (clock_of local.now)) }
 {
-    let ahead = local.ahead_at(time);
-    push_marked_moment(line, time, b'T', ahead)?;
+    let ahead = local.ahead_at(&mut last.begun, time);
+    push_marked_moment(line, last, time, b'T', ahead)?;
     push_zone(line, ahead)
 }
 
@@ -47,9 +56,13 @@ fn push_iso(line: &mut Vec<u8>, time: i32, local: &Local<'_>) -> Result<(), Allo
 fn push_time(line: &mut Vec<u8>, time: i32) -> Result<(), AllocError>
     ensures { OnOk result (line.new.items ≡ line.old.items ++ (signed_decimal time ++ 44 ∷ [])) }
 {
-    push_number(line, time)?;
-    line.push(b',')?;
-    Ok(())
+    if time < LEAST_OF_TEN {
+        push_number(line, time)?;
+        line.push(b',')?;
+        return Ok(());
+    }
+    let [a, b, c, d, e, f, g, h, i, j] = ten_digits(time as u32);
+    line.extend_from_slice(&[a, b, c, d, e, f, g, h, i, j, b','])
 }
 
 /// Appends the number of a file, counted from 1.
@@ -128,34 +141,49 @@ fn push_begin(line: &mut Vec<u8>, stay: &Stay) -> Result<(), AllocError>
     push_time(line, stay.begin)
 }
 
-fn push_start(line: &mut Vec<u8>, stay: &Stay, local: &Local<'_>) -> Result<(), AllocError>
+fn push_start(
+    line: &mut Vec<u8>,
+    last: &mut PrintedDay,
+    stay: &Stay,
+    local: &Local<'_>,
+) -> Result<(), AllocError>
     ensures { OnOk result (line.new.items ≡ line.old.items ++ (signed_decimal stay.now.start ++ 44 ∷ []
         ++ iso_moment stay.now.start (clock_of local.now) ++ 44 ∷ [] ++ (signed_decimal stay.now.begin ++ 44 ∷ []))) }
 {
     push_time(line, stay.start)?;
-    push_iso(line, stay.start, local)?;
+    push_iso(line, last, stay.start, local)?;
     line.push(b',')?;
     push_begin(line, stay)
 }
 
-fn push_ending(line: &mut Vec<u8>, stay: &Stay, local: &Local<'_>) -> Result<(), AllocError>
+fn push_ending(
+    line: &mut Vec<u8>,
+    last: &mut PrintedDay,
+    stay: &Stay,
+    local: &Local<'_>,
+) -> Result<(), AllocError>
     ensures { OnOk result (line.new.items ≡ line.old.items ++ (field_text default_writer (end_word stay.now.end) ++ 44 ∷ []
         ++ signed_decimal stay.now.end_time ++ 44 ∷ [] ++ iso_moment stay.now.end_time (clock_of local.now) ++ 44 ∷ [])) }
 {
     push_end(line, stay.end)?;
     line.push(b',')?;
     push_time(line, stay.end_time)?;
-    push_iso(line, stay.end_time, local)?;
+    push_iso(line, last, stay.end_time, local)?;
     line.push(b',')?;
     Ok(())
 }
 
-fn push_row(line: &mut Vec<u8>, stay: &Stay, local: &Local<'_>) -> Result<(), AllocError>
+fn push_row(
+    line: &mut Vec<u8>,
+    days: &mut PrintedDays,
+    stay: &Stay,
+    local: &Local<'_>,
+) -> Result<(), AllocError>
     ensures { OnOk result (line.new.items ≡ line.old.items ++ row_text default_writer (stay_fields (clock_of local.now) stay.now)) }
 {
     push_who(line, stay)?;
-    push_start(line, stay, local)?;
-    push_ending(line, stay, local)?;
+    push_start(line, &mut days.start, stay, local)?;
+    push_ending(line, &mut days.end, stay, local)?;
     push_seconds(line, stay.length)
 }
 
@@ -170,8 +198,13 @@ impl Line<Stay> for StayFields<'_> {
 
     ghost text = { λ fields stay. row_text default_writer (stay_fields (clock_of fields.local) stay) };
 
-    fn push(&self, page: &mut Vec<u8>, stay: &Stay) -> Result<(), AllocError> {
-        push_row(page, stay, &self.local)
+    fn push(
+        &self,
+        page: &mut Vec<u8>,
+        days: &mut PrintedDays,
+        stay: &Stay,
+    ) -> Result<(), AllocError> {
+        push_row(page, days, stay, &self.local)
     }
 }
 

@@ -6,9 +6,10 @@ ghost use Rattle.tally_print.specs.Output.{IsWritable, failed_calls};
 ghost use Rattle.tally_print.specs.inside.Pages.{Fills};
 
 use crate::lines::Line;
+use crate::printed_day::PrintedDays;
 use crate::put::turn_page;
 use crate::{Output, PrintFault};
-use tally_sessions::{Sessions, Stay};
+use tally_sessions::{End, Sessions, Stay};
 
 /// How many of so many stays are within a limit.
 fn count_within(limit: Option<u32>, count: usize) -> usize
@@ -17,6 +18,24 @@ fn count_within(limit: Option<u32>, count: usize) -> usize
     match limit {
         None => count,
         Some(limit) => count.min(limit as usize),
+    }
+}
+
+/// A stay that others are written over.
+fn blank() -> Stay
+    ensures { result.length ≡ 0 }
+{
+    Stay {
+        host: 0,
+        is_boot: false,
+        user: [0; 32],
+        line: [0; 32],
+        remote: [0; 256],
+        start: 0,
+        begin: 0,
+        end: End::Still,
+        end_time: 0,
+        length: 0,
     }
 }
 
@@ -36,9 +55,11 @@ pub(crate) fn put_stays<L: Line<Stay>, O: Output>(
     ensures fills { Fills (O.state out.old) (O.state out.new) result (failed_calls result) page.new.items
         (page.old.items ++ flat_map (L.text line.now) (latest_stays host limit sessions.now.entries until)) }
 {
+    let mut stay = blank();
+    let mut days = PrintedDays::first();
     for place in 0..count_within(limit, sessions.stay_count(host)) {
-        let stay = sessions.latest_stay(host, place, until);
-        line.push(page, &stay)?;
+        sessions.put_latest_stay(host, place, until, &mut stay);
+        line.push(page, &mut days, &stay)?;
         turn_page(page, out)?;
     }
     Ok(())

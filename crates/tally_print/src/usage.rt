@@ -3,8 +3,12 @@ ghost use Rattle.tally_print.specs.Output.{IsWritable, Prints, failed_calls};
 ghost use Rattle.tally_print.specs.UsageText.{average, columns, total_line, command_line, commands_text, named_total_line, user_line, users_text};
 
 use crate::lines::{Line, print_lines};
+use crate::printed_day::PrintedDays;
 use crate::put::new_page;
-use crate::text::{push_left, push_left_number, push_right_minutes, push_right_number, push_shown};
+use crate::text::{
+    push_left, push_left_number, push_right_minutes, push_right_number, push_right_wide,
+    push_shown, quotient,
+};
 use crate::{Output, PrintFault};
 use std::alloc::{AllocError, Global};
 use tally_usage::{CommandRow, UidRow, Usage};
@@ -12,11 +16,7 @@ use tally_usage::{CommandRow, UidRow, Usage};
 fn average(sum: u128, count: u64) -> u128
     ensures { result ≡ average sum count }
 {
-    if count == 0 {
-        0
-    } else {
-        sum / u128::from(count)
-    }
+    if count == 0 { 0 } else { quotient(sum, count) }
 }
 
 #[tactic(auto, unfolding(crate::specs::UsageText::columns))]
@@ -29,9 +29,9 @@ fn push_columns(line: &mut Vec<u8>, usage: &Usage) -> Result<(), AllocError>
     line.extend_from_slice(b"re ")?;
     push_right_minutes(line, u128::from(usage.cpu), 12)?;
     line.extend_from_slice(b"cp ")?;
-    push_right_number(line, average(u128::from(usage.io), usage.count), 10)?;
+    push_right_wide(line, average(u128::from(usage.io), usage.count), 10)?;
     line.extend_from_slice(b"avio ")?;
-    push_right_number(line, average(usage.mem_cpu, usage.cpu), 10)?;
+    push_right_wide(line, average(usage.mem_cpu, usage.cpu), 10)?;
     line.push(b'k')?;
     Ok(())
 }
@@ -97,7 +97,12 @@ impl Line<CommandRow> for CommandLine {
 
     ghost text = { λ _ row. command_line row };
 
-    fn push(&self, page: &mut Vec<u8>, row: &CommandRow) -> Result<(), AllocError> {
+    fn push(
+        &self,
+        page: &mut Vec<u8>,
+        _days: &mut PrintedDays,
+        row: &CommandRow,
+    ) -> Result<(), AllocError> {
         push_command(page, row)
     }
 }
@@ -110,7 +115,12 @@ impl Line<UidRow> for UserLine {
 
     ghost text = { λ _ row. user_line row };
 
-    fn push(&self, page: &mut Vec<u8>, row: &UidRow) -> Result<(), AllocError> {
+    fn push(
+        &self,
+        page: &mut Vec<u8>,
+        _days: &mut PrintedDays,
+        row: &UidRow,
+    ) -> Result<(), AllocError> {
         push_user(page, row)
     }
 }

@@ -6,6 +6,7 @@ ghost use Rattle.tally_print.specs.UsageTable.{command_fields, command_header, m
 
 use crate::fields::{push_number, push_shown_field};
 use crate::lines::{Fields, Line};
+use crate::printed_day::PrintedDays;
 use std::alloc::AllocError;
 use tally_usage::{CommandRow, UidRow, Usage};
 
@@ -98,7 +99,12 @@ impl Line<CommandRow> for CommandFields {
 
     ghost text = { λ _ row. row_text default_writer (command_fields row) };
 
-    fn push(&self, page: &mut Vec<u8>, row: &CommandRow) -> Result<(), AllocError> {
+    fn push(
+        &self,
+        page: &mut Vec<u8>,
+        _days: &mut PrintedDays,
+        row: &CommandRow,
+    ) -> Result<(), AllocError> {
         push_command(page, row)
     }
 }
@@ -117,7 +123,12 @@ impl Line<UidRow> for UserFields {
 
     ghost text = { λ _ row. row_text default_writer (user_fields row) };
 
-    fn push(&self, page: &mut Vec<u8>, row: &UidRow) -> Result<(), AllocError> {
+    fn push(
+        &self,
+        page: &mut Vec<u8>,
+        _days: &mut PrintedDays,
+        row: &UidRow,
+    ) -> Result<(), AllocError> {
         push_user(page, row)
     }
 }

@@ -7,6 +7,7 @@ mod events;
 mod head;
 pub(crate) mod key;
 pub(crate) mod logins;
+mod texts;
 mod words;
 
 use crate::fault::RecordFault;

@@ -17,7 +17,7 @@ pub(crate) struct Head {
 }
 
 /// Writes the bytes of words over the first of a field.
-fn lay(field: &mut [u8], words: &[u64])
+pub(crate) fn lay(field: &mut [u8], words: &[u64])
     requires { 8 * length words.now ≤ length field.old }
     ensures { field.new ≡ bytes_of words.now ++ drop (8 * length words.now) field.old }
 {
@@ -66,7 +66,7 @@ pub(crate) fn user_words(words: &[u64], head: Head) -> &[u64]
 }
 
 /// The words of the remote host of a head.
-fn remote_words(words: &[u64], head: Head) -> &[u64]
+pub(crate) fn remote_words(words: &[u64], head: Head) -> &[u64]
     requires within { head.start + size head ≤ length words.now }
     requires small { IsHead head }
     ensures { result.now ≡ part (head.start + head.line + head.user) head.remote words.now }

@@ -1,4 +1,4 @@
-ghost use Rattle.std.specs.Prelude.{◌≡◌, ◌≤◌, ◌<◌, ◌+◌, ◌++◌, [], length, option_map, take, slice_get, IfOk, IfErr, IfSome, OnOk, OnErr};
+ghost use Rattle.std.specs.Prelude.{◌≡◌, ◌≤◌, ◌<◌, ◌+◌, ◌++◌, [], length, option_map, take, slice_get, Some, IfOk, IfErr, IfSome, OnOk, OnErr};
 ghost use Rattle.tally_records.specs.Decoding.{decoded, IsRead};
 ghost use Rattle.tally_records.specs.Event.{event_of};
 ghost use Rattle.tally_records.specs.LoginRecord.{login_result};
@@ -7,11 +7,12 @@ ghost use Rattle.tally_records.specs.inside.Compact.Layout.{IsHead, record_at, s
 
 use crate::batch::BATCH_LIMIT;
 use crate::fault::BatchFault;
-use crate::field::Name;
+use crate::field::{Name, Remote};
 use crate::login::decode::{RECORD_WORDS, decode_all};
 use crate::login::events::event_at;
 use crate::login::head::{Head, head_at, line_words, record, user_of, user_words};
 use crate::login::key::Key;
+use crate::login::texts::put_texts;
 use crate::login::{Event, LOGIN_SIZE, LoginRecord};
 use std::alloc::Global;
 use std::marker::Model;
@@ -80,6 +81,17 @@ impl Logins {
     {
         let (words, head) = self.part(index)?;
         Some(record(words, head))
+    }
+
+    /// Writes the texts of a record over others: its line, its user and its remote host.
+    pub fn put_texts(&self, index: usize, line: &mut Name, user: &mut Name, remote: &mut Remote)
+        requires { index < length self.now }
+        ensures line { option_map (λ r. r.line) (slice_get self.now index) ≡ Some line.new }
+        ensures user { option_map (λ r. r.user) (slice_get self.now index) ≡ Some user.new }
+        ensures remote { option_map (λ r. r.remote) (slice_get self.now index) ≡ Some remote.new }
+    {
+        let (words, head) = self.part(index).unwrap();
+        put_texts(words, head, line, user, remote);
     }
 
     /// When a record was written.

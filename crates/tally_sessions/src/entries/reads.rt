@@ -10,7 +10,7 @@ use crate::entries::batches::StoredBatch;
 use crate::entries::stored::StoredRecord;
 use crate::sessions::ENTRY_LIMIT;
 use std::ops::Deref;
-use tally_records::{Event, Key, LoginRecord, Name};
+use tally_records::{Event, Key, LoginRecord, Name, Remote};
 
 impl StoredBatch {
     /// Where its entries end.
@@ -71,6 +71,15 @@ impl<'a> StoredRecord<'a> {
         ensures { result ≡ (record_in self.entry).user }
     {
         self.records.user(self.place).unwrap()
+    }
+
+    /// Writes its texts over others.
+    pub(crate) fn put_texts(self, line: &mut Name, user: &mut Name, remote: &mut Remote)
+        ensures line { line.new ≡ (record_in self.entry).line }
+        ensures user { user.new ≡ (record_in self.entry).user }
+        ensures remote { remote.new ≡ (record_in self.entry).remote }
+    {
+        self.records.put_texts(self.place, line, user, remote);
     }
 
     /// All of it.

@@ -24,4 +24,15 @@ impl Sessions {
     {
         self.tracks[host as usize].latest_at(host, self.entries(), place, until)
     }
+
+    /// Writes the stay that `latest_stay` answers over another, which may be any: where stays are looked at one after another,
+    /// no large value is moved.
+    pub fn put_latest_stay(&self, host: u32, place: usize, until: Option<i32>, stay: &mut Stay)
+        requires host { host < self.now.hosts }
+        requires place { place < length (latest_stays host None self.now.entries until) }
+        ensures value { stay.new ≡ slice_index_or (latest_stays host None self.now.entries until) place stay.new }
+        ensures fits { stay.new.length < 2 ^ 32 }
+    {
+        self.tracks[host as usize].put_latest_at(host, self.entries(), place, until, stay);
+    }
 }

@@ -74,6 +74,27 @@ impl Track {
         }
     }
 
+    /// Writes a stay as it stands at a time over another: no large value is moved.
+    fn put_stay(&self, host: u32, entries: Entries<'_>, i: usize, time: i32, found: &mut Stay)
+        requires i_in { i < vec_len self.now.stays }
+        requires few { length (entries_in entries) ≤ ENTRY_LIMIT }
+        requires track { spec.IsTrack host (entries_in entries) (length (entries_in entries)) self.now }
+        ensures value { found.new ≡ spec.stay_now host (entries_in entries.entry) self.now.clock time (spec.stay_at self.now.stays.items i) }
+        ensures fits { found.new.length < 2 ^ 32 }
+    {
+        let stay = &self.stays[i];
+        let record = entries.record(stay.entry as usize);
+        let ending = self.ending(entries, stay, time);
+        record.put_texts(&mut found.line, &mut found.user, &mut found.remote);
+        found.host = host;
+        found.is_boot = is_boot(record.event());
+        found.start = record.time();
+        found.begin = ending.begin;
+        found.end = ending.end;
+        found.end_time = ending.end_time;
+        found.length = u64::from(ending.length());
+    }
+
     /// The stays of the host, that of the latest record first, and no more than the limit.
     pub(crate) fn latest(
         &self,
@@ -114,6 +135,25 @@ impl Track {
     {
         let time = self.time_now(until);
         self.stay(host, entries, self.stays.len() - place - 1, time)
+    }
+
+    /// Writes the stay of the host at a place over another, counted as `latest_at` does.
+    pub(crate) fn put_latest_at(
+        &self,
+        host: u32,
+        entries: Entries<'_>,
+        place: usize,
+        until: Option<i32>,
+        found: &mut Stay,
+    )
+        requires place { place < vec_len self.now.stays }
+        requires few { length (entries_in entries) ≤ ENTRY_LIMIT }
+        requires track { spec.IsTrack host (entries_in entries) (length (entries_in entries)) self.now }
+        ensures value { found.new ≡ slice_index_or (reverse (stays_of host (entries_in entries.entry) until)) place found.new }
+        ensures fits { found.new.length < 2 ^ 32 }
+    {
+        let time = self.time_now(until);
+        self.put_stay(host, entries, self.stays.len() - place - 1, time, found);
     }
 
     /// The session that the stay at a place is, unless it is a boot's.

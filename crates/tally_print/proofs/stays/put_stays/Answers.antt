@@ -6,8 +6,8 @@ use Rattle.tally_print.proofs.PageLemmas.{fills_push, fills_stop, fills_turn, fl
 use Rattle.tally_print.proofs.StayLemmas.{limited_at, limited_in}
 use Rattle.tally_print.proofs.stays.put_stays.Goals as goal
 
-pub latest_stay-stay-requires-clause-place : goal.latest_stay-stay-requires-clause-place
-latest_stay-stay-requires-clause-place g c =
+pub put_latest_stay-requires-clause-place : goal.put_latest_stay-requires-clause-place
+put_latest_stay-requires-clause-place g c =
     let all = latest_stays c.args.host None c.args.sessions.now.entries c.args.until in
     let end = c.count_within-place-end.ensures all (c.stay_count.ensures c.args.until) in
     limited_in c.args.limit all c.loop-place.place (omega (arith, end, c.loop-place-test.true))
@@ -20,8 +20,8 @@ loop-place-preserved g c =
     let wanted = latest_stays c.args.host c.args.limit c.args.sessions.now.entries c.args.until in
     let end = c.count_within-place-end.ensures all (c.stay_count.ensures c.args.until) in
     let within : k < length wanted = omega (arith, end, c.loop-place-test.true) in
-    let stay = c.latest_stay-stay.result in
-    let is : stay ≡ get_or wanted k stay = c.latest_stay-stay.ensures.value ∙ sym (limited_at c.args.limit all k stay within) in
+    let stay = c.put_latest_stay.new.stay in
+    let is : stay ≡ get_or wanted k stay = c.put_latest_stay.ensures.value ∙ sym (limited_at c.args.limit all k stay within) in
     subst (Fills _ _ _ _ _) (flat_next c.args.page.now.items text wanted k stay within is)
     (fills_turn (fills_push _ c.loop-place.invariant c.in_ok-push.ensures) c.in_ok-turn_page.ensures.fills)
 
@@ -41,7 +41,7 @@ returns-in_err-turn_page g c =
     let wanted = latest_stays c.args.host c.args.limit c.args.sessions.now.entries c.args.until in
     let end = c.count_within-place-end.ensures all (c.stay_count.ensures c.args.until) in
     let within : k < length wanted = omega (arith, end, c.loop-place-test.true) in
-    let stay = c.latest_stay-stay.result in
-    let is : stay ≡ get_or wanted k stay = c.latest_stay-stay.ensures.value ∙ sym (limited_at c.args.limit all k stay within) in
+    let stay = c.put_latest_stay.new.stay in
+    let is : stay ≡ get_or wanted k stay = c.put_latest_stay.ensures.value ∙ sym (limited_at c.args.limit all k stay within) in
     let turned = subst (Fills _ _ _ _ _) (flat_next head text wanted k stay within is) (fills_turn (fills_push _ c.loop-place.invariant c.in_ok-push.ensures) c.in_err-turn_page.ensures.fills) in
     record { fills = subst (Fills _ _ _ _ _) (flat_rest head text wanted (k + 1)) (fills_stop c.in_err-turn_page.field-0.0 (search rules) (flat_map text (drop (k + 1) wanted)) turned) }
