@@ -21,25 +21,29 @@ mod span;
 mod user_sums;
 pub(crate) mod walk;
 
+use crate::connect::name_key::NameKey;
 use crate::sessions::{HOST_LIMIT, Sessions};
 use crate::times::{DayTime, DayUserTime, UserTime};
 use std::alloc::{AllocError, Global};
 use std::collections::BTreeMap;
 use tally_clock::Clock;
-use tally_records::{List, Memory, Name};
+use tally_records::{List, Memory};
 
 /// The rows of the users whose sum is above 0.
-fn user_rows(alloc: Global, sums: &BTreeMap<Name, u64>) -> Result<Vec<UserTime>, AllocError>
+fn user_rows(alloc: Global, sums: &BTreeMap<NameKey, u64>) -> Result<Vec<UserTime>, AllocError>
     ensures rows { IfOk result (λ rows. rows.items ≡ map user_time_of (filter above_zero sums.now.entries)) }
     ensures ordered { IsOrdered (slice_cmp nat_cmp) sums.now }
 {
-    sums.iter()
-        .filter(|(_user, seconds)| **seconds > 0)
-        .map(|(user, seconds)| UserTime {
-            user: *user,
-            seconds: *seconds,
-        })
-        .collect(alloc)
+    let mut rows = Vec::new(alloc);
+    for (user, seconds) in sums {
+        if *seconds > 0 {
+            rows.push(UserTime {
+                user: user.name(),
+                seconds: *seconds,
+            })?;
+        }
+    }
+    Ok(rows)
 }
 
 /// The rows of the days whose sum is above 0.
@@ -58,7 +62,7 @@ fn day_rows(alloc: Global, sums: &BTreeMap<i32, u64>) -> Result<Vec<DayTime>, Al
 
 impl Sessions {
     /// The seconds of each user's sessions on all hosts.
-    fn user_sums(&self, alloc: Global, until: Option<i32>) -> Result<BTreeMap<Name, u64>, Memory>
+    fn user_sums(&self, alloc: Global, until: Option<i32>) -> Result<BTreeMap<NameKey, u64>, Memory>
         ensures { IfOk result (λ sums. (user : Items ℕ) → sum_at (slice_cmp nat_cmp) sums.entries user ≡ connect_of user self.now.entries until) }
     {
         let entries = self.entries();

@@ -1,8 +1,10 @@
 //! Sums of seconds over sessions, one for each key.
-ghost use Rattle.std.specs.Prelude.{◌≡◌, ◌<◌, ◌+◌, ◌^◌, OnOk, if◌then◌else◌};
-ghost use Rattle.std.specs.Ordering.{is_eq};
+ghost use Rattle.std.specs.Prelude.{◌≡◌, ◌<◌, ◌+◌, ◌^◌, List, ℕ, OnOk, if◌then◌else◌};
+ghost use Rattle.std.specs.Cmp.Lexicographic.{slice_cmp};
+ghost use Rattle.std.specs.Ordering.{is_eq, nat_cmp};
 ghost use Rattle.tally_sessions.specs.inside.Sums.{sum_at};
 
+use crate::connect::name_key::NameKey;
 use std::collections::BTreeMap;
 use tally_records::{Memory, Name};
 
@@ -34,4 +36,17 @@ pub(crate) fn add<K: Ord + Copy + Drop>(
             Ok(())
         }
     }
+}
+
+/// Adds seconds to the sum of a user.
+pub(crate) fn add_for(
+    sums: &mut BTreeMap<NameKey, u64>,
+    user: &Name,
+    seconds: u64,
+) -> Result<(), Memory>
+    requires { sum_at (slice_cmp nat_cmp) sums.old.entries user.now + seconds < 2 ^ 64 }
+    ensures { OnOk result ((k : List ℕ) → sum_at (slice_cmp nat_cmp) sums.new.entries k
+        ≡ sum_at (slice_cmp nat_cmp) sums.old.entries k + (if is_eq (slice_cmp nat_cmp user.now k) then seconds else 0)) }
+{
+    add(sums, NameKey::of(user), seconds)
 }

@@ -9,9 +9,10 @@ ghost use Rattle.tally_sessions.specs.inside.Totals.{seconds_of};
 ghost use Rattle.tally_sessions.specs.Totals.{stays_of};
 ghost use Rattle.tally_sessions.specs.inside.Track as spec;
 
+use crate::connect::name_key::NameKey;
 use crate::entries::Entries;
 use crate::sessions::ENTRY_LIMIT;
-use crate::sums::add;
+use crate::sums::add_for;
 use crate::track::Track;
 use std::collections::BTreeMap;
 use tally_records::{Memory, Name};
@@ -32,7 +33,7 @@ impl Track {
         &self,
         host: u32,
         entries: Entries<'_>,
-        sums: &mut BTreeMap<Name, u64>,
+        sums: &mut BTreeMap<NameKey, u64>,
         until: Option<i32>,
     ) -> Result<(), Memory>
         requires few { length (entries_in entries) ≤ ENTRY_LIMIT }
@@ -48,7 +49,7 @@ impl Track {
         for k in 0..self.lines.len() {
             let i = self.on_line(host, entries, k);
             let seconds = self.pending_length(host, entries, i, time, &None);
-            add(sums, self.user_at(host, entries, i), seconds)?;
+            add_for(sums, &self.user_at(host, entries, i), seconds)?;
         }
         Ok(())
     }

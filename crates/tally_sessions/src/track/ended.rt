@@ -7,12 +7,13 @@ ghost use Rattle.tally_sessions.specs.inside.Sums.{sum_at};
 ghost use Rattle.tally_sessions.specs.inside.Numbers.{StandsAt};
 ghost use Rattle.tally_sessions.specs.inside.Track.{covers, sum_of};
 
-use crate::sums::add;
+use crate::connect::name_key::NameKey;
+use crate::sums::add_for;
 use crate::track::name_table::NameTable;
 use std::alloc::Global;
 use std::collections::BTreeMap;
 use std::hash::RandomState;
-use tally_records::{Key, Memory, Name};
+use tally_records::{Key, Memory};
 
 /// The sums of the lengths of a host's ended sessions: of all, and of each user.
 #[derive(Drop)]
@@ -80,14 +81,14 @@ impl EndedSums {
     }
 
     /// Adds the sum of each user to another.
-    pub(crate) fn add_to(&self, sums: &mut BTreeMap<Name, u64>) -> Result<(), Memory>
+    pub(crate) fn add_to(&self, sums: &mut BTreeMap<NameKey, u64>) -> Result<(), Memory>
         requires { (user : List ℕ) → sum_at (slice_cmp nat_cmp) sums.old.entries user + sum_of self.now (Some user) < 2 ^ 64 }
         ensures { OnOk result ((user : List ℕ) → sum_at (slice_cmp nat_cmp) sums.new.entries user
             ≡ sum_at (slice_cmp nat_cmp) sums.old.entries user + sum_of self.now (Some user)) }
     {
         for place in 0..self.users.len() {
             let (user, seconds) = self.users.pair_at(place);
-            add(sums, user, seconds)?;
+            add_for(sums, &user, seconds)?;
         }
         Ok(())
     }

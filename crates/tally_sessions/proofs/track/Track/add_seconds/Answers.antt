@@ -40,8 +40,8 @@ add_to-requires c user =
 pub loop-k-init : goal.loop-k-init
 loop-k-init c user = omega (arith, c.in_ok-add_to.ensures user)
 
-pub add-requires : goal.add-requires
-add-requires c =
+pub add_for-requires : goal.add_for-requires
+add_for-requires c =
     let es = entries_in c.args.entries in
     let a = c.args.self.now in
     let name : List ℕ = c.user_at.result in
@@ -69,9 +69,9 @@ loop-k-preserved c user =
     let e = line_at a.lines.entries c.loop-k.k in
     let own : c.user_at.result ≡ (start_of es (stay_at a.stays.items e.1)).user = c.user_at.ensures ∙ ap (λ i. (start_of es (stay_at a.stays.items i)).user) c.on_line-i.ensures.value in
     let value = pending_read None es a.clock _ time a.stays.items e _ _ c.pending_length-seconds.ensures (to_z-of_z w32 c.time_now-time.result (search rules) ∙ c.time_now-time.ensures) c.on_line-i.ensures.value in
-    pending_added (sum_at (slice_cmp nat_cmp) c.loop-k.sums.entries user) (sum_at (slice_cmp nat_cmp) c.add.new.sums.entries user) (sum_at (slice_cmp nat_cmp) c.args.sums.now.entries user + sum_of a.sums (Some user))
+    pending_added (sum_at (slice_cmp nat_cmp) c.loop-k.sums.entries user) (sum_at (slice_cmp nat_cmp) c.add_for.new.sums.entries user) (sum_at (slice_cmp nat_cmp) c.args.sums.now.entries user + sum_of a.sums (Some user))
     c.pending_length-seconds.result c.user_at.result user es a.clock time a.stays.items a.lines.entries c.loop-k.k no_line (omega (arith, c.len-k-end.ensures.len, c.loop-k-test.true)) own value
-    (c.loop-k.invariant user) (c.in_ok-add.ensures user)
+    (c.loop-k.invariant user) (c.in_ok-add_for.ensures user)
 
 pub returns-clause-value : goal.returns-clause-value
 returns-clause-value c user =

@@ -12,8 +12,8 @@ use Rattle.tally_sessions.proofs.track.ended.EndedSums.add_to.Goals as goal
 abbrev no_pair : List ℕ × ℕ
 no_pair = ([], 0)
 
-pub add-requires : goal.add-requires
-add-requires c =
+pub add_for-requires : goal.add_for-requires
+add_for-requires c =
     let users = c.args.self.now.users.entries in
     let place = c.loop-place.place in
     let pair : List ℕ × ℕ = c.pair_at-seconds.result in
@@ -30,8 +30,8 @@ loop-place-preserved c user =
     let pair : List ℕ × ℕ = c.pair_at-seconds.result in
     let lt : place < length users = omega (arith, c.len-place-end.ensures.len, c.loop-place-test.true) in
     let at : get_or users place no_pair ≡ pair = get_or_from_slice_get users place pair no_pair c.pair_at-seconds.ensures in
-    part_added (sum_at (slice_cmp nat_cmp) c.loop-place.sums.entries user) (sum_at (slice_cmp nat_cmp) c.add.new.sums.entries user) (sum_at (slice_cmp nat_cmp) c.args.sums.now.entries user) pair.1 pair.0 user users place no_pair lt at
-    (c.loop-place.invariant user) (c.in_ok-add.ensures user)
+    part_added (sum_at (slice_cmp nat_cmp) c.loop-place.sums.entries user) (sum_at (slice_cmp nat_cmp) c.add_for.new.sums.entries user) (sum_at (slice_cmp nat_cmp) c.args.sums.now.entries user) pair.1 pair.0 user users place no_pair lt at
+    (c.loop-place.invariant user) (c.in_ok-add_for.ensures user)
 
 pub returns : goal.returns
 returns c user =
