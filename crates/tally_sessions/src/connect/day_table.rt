@@ -109,11 +109,24 @@ pub(crate) fn add_session(
 }
 
 /// The place of a user among users in order.
-pub(crate) fn rank_of(users: &[NameKey], user: &NameKey) -> Option<usize>
+fn rank_of(users: &[NameKey], user: &NameKey) -> Option<usize>
     ensures { IfSome result (λ rank. slice_get users.now rank ≡ Some user.now) }
 {
     match users.binary_search(user) {
         Ok(rank) => Some(rank),
         Err(_) => None,
     }
+}
+
+/// The same, where a hint is tried first. It is set to the place that is found.
+pub(crate) fn rank_by(users: &[NameKey], user: &NameKey, hint: &mut usize) -> Option<usize>
+    ensures { IfSome result (λ rank. slice_get users.now rank ≡ Some user.now) }
+{
+    let guess = *hint;
+    if guess < users.len() && users[guess] == *user {
+        return Some(guess);
+    }
+    let rank = rank_of(users, user)?;
+    *hint = rank;
+    Some(rank)
 }

@@ -4,21 +4,21 @@ ghost use Rattle.std.specs.Cmp.Lexicographic.{slice_cmp};
 ghost use Rattle.std.specs.List.Sorted.{IsStrictlySortedBy};
 ghost use Rattle.std.specs.Ordering.{nat_cmp};
 ghost use Rattle.tally_sessions.specs.Days as days;
+ghost use Rattle.tally_sessions.specs.Lent.{entries_in};
 
 use crate::connect::day_table::days_between;
 use crate::connect::name_key::NameKey;
 use crate::connect::span::day_of;
-use crate::connect::walk::Place;
-use crate::sessions::{ENTRY_LIMIT, Sessions};
-use crate::sums::Session;
+use crate::entries::Entries;
+use crate::sessions::{ENTRY_LIMIT, HOST_LIMIT, Sessions};
 use crate::track::Track;
 use std::alloc::Global;
 use tally_records::Memory;
 
-/// How many cells a table may have for each session, and how many more.
-const CELLS_FOR_A_SESSION: usize = 4;
+/// How many cells a table may have for each stay, and how many more.
+const CELLS_FOR_A_STAY: usize = 4;
 
-const CELLS_FOR_NO_SESSION: usize = 4096;
+const CELLS_FOR_NO_STAY: usize = 4096;
 
 /// The first day that a time can have.
 const FIRST_DAY: i32 = -24_858;
@@ -33,19 +33,19 @@ pub(crate) struct TableDays {
     pub(crate) count: usize,
 }
 
-/// The times of sessions: the earliest and the latest, how many sessions there are, and the sum of the
-/// days that each has.
+/// The times of stays: the earliest and the latest, how many stays there are, and the sum of the days
+/// that each has.
 #[derive(Clone, Copy)]
 pub(crate) struct Extent {
     begin: i32,
     end_time: i32,
-    sessions: usize,
+    stays: usize,
     days: usize,
 }
 
-/// The most days that a session has.
-fn days_over(session: &Session) -> usize {
-    let seconds = i64::from(session.end_time) - i64::from(session.begin);
+/// The most days that a stay has.
+fn days_over(begin: i32, end_time: i32) -> usize {
+    let seconds = i64::from(end_time) - i64::from(begin);
     (seconds.max(0) / 86_400) as usize + 2
 }
 
@@ -71,34 +71,34 @@ fn end_day(time: i32) -> i32
 }
 
 impl Extent {
-    /// That of no sessions.
+    /// That of no stays.
     fn none() -> Extent {
         Extent {
             begin: i32::MAX,
             end_time: i32::MIN,
-            sessions: 0,
+            stays: 0,
             days: 0,
         }
     }
 
-    /// That with a session more.
-    fn with(self, session: &Session) -> Extent {
+    /// That with a stay more.
+    fn with(self, begin: i32, end_time: i32) -> Extent {
         Extent {
-            begin: self.begin.min(session.begin),
-            end_time: self.end_time.max(session.end_time),
-            sessions: self.sessions.saturating_add(1),
-            days: self.days.saturating_add(days_over(session)),
+            begin: self.begin.min(begin),
+            end_time: self.end_time.max(end_time),
+            stays: self.stays.saturating_add(1),
+            days: self.days.saturating_add(days_over(begin, end_time)),
         }
     }
 
-    /// How many cells are worth it for these sessions.
+    /// How many cells are worth it for these stays.
     fn most_cells(&self) -> usize {
-        self.sessions
-            .saturating_mul(CELLS_FOR_A_SESSION)
-            .saturating_add(CELLS_FOR_NO_SESSION)
+        self.stays
+            .saturating_mul(CELLS_FOR_A_STAY)
+            .saturating_add(CELLS_FOR_NO_STAY)
     }
 
-    /// The days of a table, with two more at both ends for local time. There is none where the sessions
+    /// The days of a table, with two more at both ends for local time. There is none where the stays
     /// have too many days.
     pub(crate) fn table_days(&self) -> Option<TableDays>
         ensures first_in { IfSome result (λ table. days.IsDay table.first) }
@@ -143,13 +143,35 @@ impl Track {
 }
 
 impl Sessions {
-    /// The times of all sessions.
+    /// Times with those of a host's stays. Only for one that nothing has ended the entry is read.
+    fn with_stays(
+        &self,
+        entries: Entries<'_>,
+        host: u32,
+        until: Option<i32>,
+        extent: Extent,
+    ) -> Extent
+        requires host_in { host < HOST_LIMIT }
+        requires same { entries_in entries ≡ self.now.entries }
+    {
+        let track = &self.tracks[host as usize];
+        let mut extent = extent;
+        for i in 0..track.stays.len() {
+            if let Some(ending) = track.stays[i].ended {
+                extent = extent.with(ending.begin, ending.end_time);
+            } else if let Some(session) = track.session_at(host, entries, i, until) {
+                extent = extent.with(session.begin, session.end_time);
+            }
+        }
+        extent
+    }
+
+    /// The times of all stays.
     pub(crate) fn extent(&self, until: Option<i32>) -> Extent {
         let entries = self.entries();
-        let mut at = Place::first();
         let mut extent = Extent::none();
-        while let Some(session) = self.next_session(entries, &mut at, until) {
-            extent = extent.with(&session);
+        for host in 0..HOST_LIMIT {
+            extent = self.with_stays(entries, host, until, extent);
         }
         extent
     }

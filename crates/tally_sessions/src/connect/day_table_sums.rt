@@ -9,9 +9,9 @@ ghost use Rattle.tally_sessions.specs.Sums.{sessions_of};
 ghost use Rattle.tally_sessions.specs.inside.Changes.{session_rows};
 ghost use Rattle.tally_sessions.specs.inside.Tables.{HasSeconds};
 
-use crate::connect::day_table::{Column, add_session, rank_of};
+use crate::connect::day_table::{Column, add_session, rank_by};
 use crate::connect::day_table_rows::rows_of_cells;
-use crate::connect::name_key::NameKey;
+use crate::connect::name_key::{KEY_MARKS, NameKey};
 use crate::connect::walk::Place;
 use crate::sessions::Sessions;
 use crate::times::DayUserTime;
@@ -40,8 +40,10 @@ impl Sessions {
     {
         let entries = self.entries();
         let mut at = Place::first();
+        let mut hints = [0; KEY_MARKS];
         while let Some(session) = self.next_session(entries, &mut at, until) {
-            let Some(rank) = rank_of(users, &NameKey::of(&session.user)) else {
+            let user = NameKey::of(&session.user);
+            let Some(rank) = rank_by(users, &user, &mut hints[user.mark()]) else {
                 return false;
             };
             let column = Column {

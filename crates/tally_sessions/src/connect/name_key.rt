@@ -1,5 +1,5 @@
 //! A name as a key in the order of its bytes, which is compared by words.
-ghost use Rattle.std.specs.Prelude.{◌≡◌, Some, nat_eq};
+ghost use Rattle.std.specs.Prelude.{◌≡◌, ◌<◌, Some, nat_eq};
 ghost use Rattle.std.proofs.Common.{refl};
 ghost use Rattle.std.specs.Cmp.{partial_equiv_from_equiv};
 ghost use Rattle.std.specs.Cmp.Lexicographic.{pointwise, slice_cmp, nat_list_cmp_total, nat_list_eq_equiv, texts_po, texts_ties};
@@ -9,6 +9,9 @@ ghost use Rattle.tally_sessions.specs.inside.Names.{word_of};
 use std::cmp::Ordering;
 use std::marker::Model;
 use tally_records::Name;
+
+/// How many marks of keys there are.
+pub(crate) const KEY_MARKS: usize = 1024;
 
 /// The words of a name. Each has its first byte as the highest, so words are in the order of their bytes.
 #[derive(Clone, Copy)]
@@ -55,6 +58,14 @@ impl NameKey {
             third: word_of(&words[2]),
             fourth: word_of(&words[3]),
         }
+    }
+
+    /// A number that few keys share, for a table of hints.
+    pub(crate) fn mark(&self) -> usize
+        ensures { result < KEY_MARKS }
+    {
+        let words = self.first ^ self.second ^ self.third ^ self.fourth;
+        (words.wrapping_mul(0x9e37_79b9_7f4a_7c15) >> 54) as usize
     }
 
     /// The name of a key.

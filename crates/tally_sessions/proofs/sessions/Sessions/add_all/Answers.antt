@@ -26,26 +26,26 @@ loop-session-init c =
 pub add_session-requires-clause-few : goal.add_session-requires-clause-few
 add_session-requires-clause-few c place =
     let users = c.args.users.now in
-    let rank = c.in-Some-rank_of.rank in
+    let rank = c.in-Some-rank_by.rank in
     let first = held c.args.first in
     let all = sessions_of c.args.self.now.entries c.args.until in
     let clock = local c.args.clock.now (held c.args.offset) in
     let near = near_local c.args.clock.now (held c.args.offset) (subst IsOffset (sym (to_z-of_z w32 c.args.offset c.ranges.offset)) c.requires.offset_in) in
     let few = few_sessions c.args.until c.entries-entries.ensures.value c.entries-entries.ensures.few in
-    cell-le clock first users c.loop-session.cells all _ place rank c.loop-session.invariant (slice_get_within users rank _ c.in-Some-rank_of.ensures)
+    cell-le clock first users c.loop-session.cells all _ place rank c.loop-session.invariant (slice_get_within users rank _ c.in-Some-rank_by.ensures)
     (seconds_of_day_user-le clock (key_at first users place rank) all near few)
 
 pub loop-session-preserved : goal.loop-session-preserved
 loop-session-preserved c =
     let users = c.args.users.now in
-    let rank = c.in-Some-rank_of.rank in
+    let rank = c.in-Some-rank_by.rank in
     let first = held c.args.first in
     let all = sessions_of c.args.self.now.entries c.args.until in
     let clock = local c.args.clock.now (held c.args.offset) in
     let cells = c.loop-session.cells in
     let s = c.in-Some.session in
-    let known = slice_get_within users rank _ c.in-Some-rank_of.ensures in
-    let user : get_or users rank [] ≡ s.user = get_or_from_slice_get users rank _ [] c.in-Some-rank_of.ensures ∙ c.of.ensures in
+    let known = slice_get_within users rank _ c.in-Some-rank_by.ensures in
+    let user : get_or users rank [] ≡ s.user = get_or_from_slice_get users rank _ [] c.in-Some-rank_by.ensures ∙ c.of-user.ensures in
     let before = subst (λ ss. HasSecondsBut clock first users cells all ss) c.in-Some.ensures.next c.loop-session.invariant in
     let e = c.if-not-add_session.ensures in
     seconds_more clock first users cells c.add_session.new.cells all _ s rank known user
