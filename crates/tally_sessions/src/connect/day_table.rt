@@ -118,15 +118,15 @@ fn rank_of(users: &[NameKey], user: &NameKey) -> Option<usize>
     }
 }
 
-/// The same, where a hint is tried first. It is set to the place that is found.
-pub(crate) fn rank_by(users: &[NameKey], user: &NameKey, hint: &mut usize) -> Option<usize>
+/// The same, where a hint is tried first. It is set to the place that is found, of which it has the lowest 16 bits.
+pub(crate) fn rank_by(users: &[NameKey], user: &NameKey, hint: &mut u16) -> Option<usize>
     ensures { IfSome result (λ rank. slice_get users.now rank ≡ Some user.now) }
 {
-    let guess = *hint;
+    let guess = usize::from(*hint);
     if guess < users.len() && users[guess] == *user {
         return Some(guess);
     }
     let rank = rank_of(users, user)?;
-    *hint = rank;
+    *hint = (rank % 65_536) as u16;
     Some(rank)
 }

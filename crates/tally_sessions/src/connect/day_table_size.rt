@@ -157,7 +157,7 @@ impl Sessions {
         let track = &self.tracks[host as usize];
         let mut extent = extent;
         for i in 0..track.stays.len() {
-            if let Some(ending) = track.stays[i].ended {
+            if let Some(ending) = track.stays[i].ended.get() {
                 extent = extent.with(ending.begin, ending.end_time);
             } else if let Some(session) = track.session_at(host, entries, i, until) {
                 extent = extent.with(session.begin, session.end_time);

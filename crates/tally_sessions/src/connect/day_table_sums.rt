@@ -40,7 +40,7 @@ impl Sessions {
     {
         let entries = self.entries();
         let mut at = Place::first();
-        let mut hints = [0; KEY_MARKS];
+        let mut hints = [0u16; KEY_MARKS];
         while let Some(session) = self.next_session(entries, &mut at, until) {
             let user = NameKey::of(&session.user);
             let Some(rank) = rank_by(users, &user, &mut hints[user.mark()]) else {
