@@ -13,7 +13,11 @@ use crate::entries::Entries;
 use crate::sessions::{ENTRY_LIMIT, HOST_LIMIT, Sessions};
 use crate::track::Track;
 use std::alloc::Global;
+use tally_clock::Clock;
 use tally_records::Memory;
+
+/// A stay on more days than this may have a row of a clock whole, if the rows are no shorter than is usual.
+const DAYS_OF_A_LONG_STAY: usize = 14;
 
 /// How many cells a table may have for each stay, and how many more.
 const CELLS_FOR_A_STAY: usize = 4;
@@ -33,20 +37,26 @@ pub(crate) struct TableDays {
     pub(crate) count: usize,
 }
 
-/// The times of stays: the earliest and the latest, how many stays there are, and the sum of the days
-/// that each has.
+/// The times of stays: the earliest and the latest, how many stays there are, the sum of the days that
+/// each has, and whether a long one has a row of the clock whole.
 #[derive(Clone, Copy)]
 pub(crate) struct Extent {
     begin: i32,
     end_time: i32,
     stays: usize,
     days: usize,
+    has_whole_row: bool,
 }
 
 /// The most days that a stay has.
 fn days_over(begin: i32, end_time: i32) -> usize {
     let seconds = i64::from(end_time) - i64::from(begin);
     (seconds.max(0) / 86_400) as usize + 2
+}
+
+/// Whether a stay begins before a row of the clock and ends after it.
+fn has_whole_row(clock: &Clock, begin: i32, end_time: i32) -> bool {
+    clock.count_at(begin).saturating_add(1) < clock.count_at(end_time)
 }
 
 /// The day two days before that of a second, or the first that a time can have.
@@ -78,16 +88,20 @@ impl Extent {
             end_time: i32::MIN,
             stays: 0,
             days: 0,
+            has_whole_row: false,
         }
     }
 
     /// That with a stay more.
-    fn with(self, begin: i32, end_time: i32) -> Extent {
+    fn with(self, clock: &Clock, begin: i32, end_time: i32) -> Extent {
+        let days = days_over(begin, end_time);
+        let is_long = days > DAYS_OF_A_LONG_STAY;
         Extent {
             begin: self.begin.min(begin),
             end_time: self.end_time.max(end_time),
             stays: self.stays.saturating_add(1),
-            days: self.days.saturating_add(days_over(begin, end_time)),
+            days: self.days.saturating_add(days),
+            has_whole_row: self.has_whole_row || is_long && has_whole_row(clock, begin, end_time),
         }
     }
 
@@ -99,12 +113,12 @@ impl Extent {
     }
 
     /// The days of a table, with two more at both ends for local time. There is none where the stays
-    /// have too many days.
+    /// have too many days, or one has a row of the clock whole.
     pub(crate) fn table_days(&self) -> Option<TableDays>
         ensures first_in { IfSome result (λ table. days.IsDay table.first) }
         ensures few { IfSome result (λ table. table.count ≤ 2 ^ 17) }
     {
-        if self.days > self.most_cells() {
+        if self.has_whole_row || self.days > self.most_cells() {
             return None;
         }
         let first = first_day(self.begin);
@@ -148,6 +162,7 @@ impl Sessions {
         &self,
         entries: Entries<'_>,
         host: u32,
+        clock: &Clock,
         until: Option<i32>,
         extent: Extent,
     ) -> Extent
@@ -158,20 +173,20 @@ impl Sessions {
         let mut extent = extent;
         for i in 0..track.stays.len() {
             if let Some(ending) = track.stays[i].ended.get() {
-                extent = extent.with(ending.begin, ending.end_time);
+                extent = extent.with(clock, ending.begin, ending.end_time);
             } else if let Some(session) = track.session_at(host, entries, i, until) {
-                extent = extent.with(session.begin, session.end_time);
+                extent = extent.with(clock, session.begin, session.end_time);
             }
         }
         extent
     }
 
     /// The times of all stays.
-    pub(crate) fn extent(&self, until: Option<i32>) -> Extent {
+    pub(crate) fn extent(&self, clock: &Clock, until: Option<i32>) -> Extent {
         let entries = self.entries();
         let mut extent = Extent::none();
         for host in 0..HOST_LIMIT {
-            extent = self.with_stays(entries, host, until, extent);
+            extent = self.with_stays(entries, host, clock, until, extent);
         }
         extent
     }

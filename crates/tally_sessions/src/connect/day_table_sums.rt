@@ -71,7 +71,7 @@ impl Sessions {
         ensures rows { IfOk result (λ found. IfSome found (λ rows. rows.items ≡ session_rows (local clock.now offset) (sessions_of self.now.entries until))) }
         ensures days { IfOk result (λ found. IfSome found (λ rows. All (λ row. days.IsDay row.day) rows.items)) }
     {
-        let extent = self.extent(until);
+        let extent = self.extent(clock, until);
         let Some(table) = extent.table_days() else {
             return Ok(None);
         };
