@@ -5,7 +5,7 @@ ghost use Rattle.tally_sessions.specs.Days.{IsDay};
 
 use crate::date::date_digits;
 
-/// A day and its date in digits, and how many rows of a clock had begun when it was printed, as a guess.
+/// A day and its date in digits. How many rows of a clock had begun then is a first guess at the next moment.
 #[derive(Drop)]
 pub(crate) struct PrintedDay {
     day: i32,

@@ -2,10 +2,11 @@
 //!
 //! `entries` keeps the records: `list` stores them in batches, `batches` finds the batch of a place, `stored` is one
 //! record where it is kept, `reads` reads it, `iter` goes over all. `track` goes forward over those of one host:
-//! `rules` says what a record means, `ending` ends stays, `ended` sums those that have ended, `name_table` finds lines
-//! and users, `questions` answers. `connect` has the rows of connect time: `walk` goes over all sessions, `cut` cuts one
+//! `rules` says what a record means, `ending` ends stays, `kept_ending` is an end if there is one, `ended` sums those that
+//! have ended, `name_table` finds lines and users, `questions` answers. `connect` has the rows of connect time: `walk` goes over all sessions, `cut` cuts one
 //! where the offset of a clock changes, `span` counts the days of a part, `user_sums` sums by user, `day_sums` by day,
-//! `day_user_rows` by both, in tables by `keys`; `sums` is what rows and tracks add up. `sessions` holds the
+//! `day_user_rows` by both, in maps by `keys`, or `day_table`, where it is small enough (`day_table_size`), filled by
+//! `day_table_sums` and read by `day_table_rows`; `sums` is what rows and tracks add up. `sessions` holds the
 //! tracks of all hosts, which `of_entries` makes of a list, each thread those of some hosts; an `entry`
 //! and a stay are plain values, `times` are rows, `days` and `laws` state laws.
 #![tactic(auto)]

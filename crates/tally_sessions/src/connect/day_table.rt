@@ -12,7 +12,7 @@ use crate::connect::span::{Span, day_of};
 use crate::sums::Session;
 use tally_clock::Clock;
 
-/// The cells of a user in a table that begins with a day: one in each so many.
+/// The cells of a user in a table that begins with a day: one of each `width`, at the user's rank.
 #[derive(Clone, Copy)]
 pub(crate) struct Column {
     pub(crate) first: i32,

@@ -12,6 +12,7 @@ use crate::connect::span::day_of;
 use crate::entries::Entries;
 use crate::sessions::{ENTRY_LIMIT, HOST_LIMIT, Sessions};
 use crate::track::Track;
+use crate::track::ending::{Ending, TrackedStay};
 use std::alloc::Global;
 use tally_clock::Clock;
 use tally_records::Memory;
@@ -20,9 +21,12 @@ use tally_records::Memory;
 const DAYS_OF_A_LONG_STAY: usize = 14;
 
 /// How many cells a table may have for each stay, and how many more.
-const CELLS_FOR_A_STAY: usize = 4;
+const CELLS_FOR_A_STAY: usize = 2;
 
 const CELLS_FOR_NO_STAY: usize = 4096;
+
+/// How many cells there have to be for each user of a host.
+const CELLS_FOR_A_USER: usize = 4;
 
 /// The first day that a time can have.
 const FIRST_DAY: i32 = -24_858;
@@ -54,6 +58,15 @@ fn days_over(begin: i32, end_time: i32) -> usize {
     (seconds.max(0) / 86_400) as usize + 2
 }
 
+/// The end of a stay that has ended after few days.
+fn short_ending(stay: &TrackedStay) -> Option<Ending> {
+    let ending = stay.ended.get()?;
+    if days_over(ending.begin, ending.end_time) > DAYS_OF_A_LONG_STAY {
+        return None;
+    }
+    Some(ending)
+}
+
 /// Whether a stay begins before a row of the clock and ends after it.
 fn has_whole_row(clock: &Clock, begin: i32, end_time: i32) -> bool {
     clock.count_at(begin).saturating_add(1) < clock.count_at(end_time)
@@ -81,7 +94,7 @@ fn end_day(time: i32) -> i32
 }
 
 impl Extent {
-    /// That of no stays.
+    /// The times of no stays.
     fn none() -> Extent {
         Extent {
             begin: i32::MAX,
@@ -92,7 +105,7 @@ impl Extent {
         }
     }
 
-    /// That with a stay more.
+    /// These times with one more stay.
     fn with(self, clock: &Clock, begin: i32, end_time: i32) -> Extent {
         let days = days_over(begin, end_time);
         let is_long = days > DAYS_OF_A_LONG_STAY;
@@ -106,19 +119,20 @@ impl Extent {
     }
 
     /// How many cells are worth it for these stays.
-    fn most_cells(&self) -> usize {
-        self.stays
-            .saturating_mul(CELLS_FOR_A_STAY)
-            .saturating_add(CELLS_FOR_NO_STAY)
+    fn most_cells(&self) -> usize
+        ensures { result ≤ 2_101_248 }
+    {
+        self.stays.min(ENTRY_LIMIT) * CELLS_FOR_A_STAY + CELLS_FOR_NO_STAY
     }
 
     /// The days of a table, with two more at both ends for local time. There is none where the stays
-    /// have too many days, or one has a row of the clock whole.
-    pub(crate) fn table_days(&self) -> Option<TableDays>
+    /// have too many days, or one has a row of the clock whole, or the hosts together have too many users.
+    pub(crate) fn table_days(&self, host_users: usize) -> Option<TableDays>
         ensures first_in { IfSome result (λ table. days.IsDay table.first) }
         ensures few { IfSome result (λ table. table.count ≤ 2 ^ 17) }
     {
-        if self.has_whole_row || self.days > self.most_cells() {
+        let most = self.most_cells();
+        if self.has_whole_row || self.days > most || host_users > most / CELLS_FOR_A_USER {
             return None;
         }
         let first = first_day(self.begin);
@@ -133,6 +147,7 @@ impl Extent {
         ensures count { IfSome result (λ cells. cells ≡ days * users) }
         ensures some { IfSome result (λ _. 0 < users) }
         ensures few { IfSome result (λ _. users ≤ ENTRY_LIMIT) }
+        ensures small { IfSome result (λ cells. cells ≤ 2_101_248) }
     {
         if users == 0 || users > ENTRY_LIMIT {
             return None;
@@ -157,7 +172,8 @@ impl Track {
 }
 
 impl Sessions {
-    /// Times with those of a host's stays. Only for one that nothing has ended the entry is read.
+    /// Times with those of a host's stays. The entry is read for a long one, since a boot's is no session, and for
+    /// one that nothing has ended.
     fn with_stays(
         &self,
         entries: Entries<'_>,
@@ -172,7 +188,7 @@ impl Sessions {
         let track = &self.tracks[host as usize];
         let mut extent = extent;
         for i in 0..track.stays.len() {
-            if let Some(ending) = track.stays[i].ended.get() {
+            if let Some(ending) = short_ending(&track.stays[i]) {
                 extent = extent.with(clock, ending.begin, ending.end_time);
             } else if let Some(session) = track.session_at(host, entries, i, until) {
                 extent = extent.with(clock, session.begin, session.end_time);
@@ -200,11 +216,20 @@ impl Sessions {
         most
     }
 
+    /// How many users the hosts have together, one of several hosts as often.
+    pub(crate) fn host_users(&self) -> usize {
+        let mut count = 0usize;
+        for track in &self.tracks {
+            count = count.saturating_add(track.sums.users.len());
+        }
+        count
+    }
+
     /// The users of all hosts, each once, in order of name bytes.
     pub(crate) fn users_in_order(&self, alloc: Global) -> Result<Vec<NameKey>, Memory>
         ensures { IfOk result (λ users. IsStrictlySortedBy (slice_cmp nat_cmp) users.items) }
     {
-        let mut users = Vec::new(alloc);
+        let mut users = Vec::with_capacity(alloc, self.host_users())?;
         for track in &self.tracks {
             track.push_users(&mut users)?;
         }

@@ -72,7 +72,7 @@ impl Sessions {
         ensures days { IfOk result (λ found. IfSome found (λ rows. All (λ row. days.IsDay row.day) rows.items)) }
     {
         let extent = self.extent(clock, until);
-        let Some(table) = extent.table_days() else {
+        let Some(table) = extent.table_days(self.host_users()) else {
             return Ok(None);
         };
         if extent.cells(table.count, self.most_users()).is_none() {
