@@ -1,5 +1,5 @@
 -- Worked records and batches, computed by the definitions.
-use Rattle.std.proofs.Common.{◌≡◌, ℕ, List, [], ◌∷◌, ◌++◌, map, replicate, Ok, Err, Some, None, pos, negsuc, refl}
+use Rattle.std.proofs.Common.{◌≡◌, ℕ, List, [], ◌∷◌, ◌++◌, map, replicate, Ok, Err, Some, pos, negsuc, refl}
 use Rattle.std.specs.Ordering.{nat_cmp}
 use Rattle.std.specs.Prelude.{codes}
 use Rattle.tally_records.specs.declared.batch.Kind.TheVariants.{Login, Proc}

@@ -3,6 +3,7 @@ pub mod Decoding
 pub mod Elapsed
 pub mod Event
 pub mod LoginRecord
+pub mod NumberedProc
 pub mod PackedProc
 pub mod ProcRecord
 pub mod Records

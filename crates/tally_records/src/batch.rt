@@ -30,7 +30,7 @@ pub enum Kind {
 #[derive(Drop)]
 enum Items {
     Logins(Arc<Logins, Global>),
-    Procs(Vec<PackedProc>),
+    Procs(Arc<Vec<PackedProc>, Global>),
 }
 
 /// At most 1,024 records of one kind.
@@ -90,8 +90,8 @@ fn pack_procs(blocks: &[[u8; PROC_SIZE]], records: &mut Vec<PackedProc>) -> Resu
 }
 
 impl Batch {
-    ghost use Rattle.tally_records.specs.declared.batch.Kind.TheVariants.{Proc};
-    ghost use Rattle.tally_records.specs.Records.{Records, Logins as as_logins, IsAnswer, logins_of, procs_of, IsLogins, IsProcs, record_count, procs_in, login_at, proc_at, kind_of};
+    ghost use Rattle.tally_records.specs.declared.batch.Kind.TheVariants.{Login, Proc};
+    ghost use Rattle.tally_records.specs.Records.{Records, Logins as as_logins, Procs as as_procs, IsAnswer, logins_of, procs_of, IsLogins, IsProcs, record_count, procs_in, login_at, proc_at, kind_of};
 
     /// The login records of these bytes, `LOGIN_SIZE` bytes each. An empty slice is an empty batch.
     pub fn logins(alloc: Global, bytes: &[u8]) -> Result<Batch, BatchFault>
@@ -121,9 +121,12 @@ impl Batch {
         };
         let (blocks, _) = bytes.as_chunks::<PROC_SIZE>();
         pack_procs(blocks, &mut records)?;
-        Ok(Batch {
-            items: Items::Procs(records),
-        })
+        match Arc::new(alloc, records) {
+            Ok(records) => Ok(Batch {
+                items: Items::Procs(records),
+            }),
+            Err(_) => Err(BatchFault::Memory),
+        }
     }
 
     /// What kind of records it holds.
@@ -165,6 +168,16 @@ impl Batch {
         match &self.items {
             Items::Logins(records) => Ok(Some(Arc::try_clone(records)?)),
             Items::Procs(_) => Ok(None),
+        }
+    }
+
+    /// Its process records, where it is a batch of these, shared with it. It errs where memory runs out.
+    pub fn share_procs(&self) -> Result<Option<Arc<Vec<PackedProc>, Global>>, Memory>
+        ensures { IfOk result (λ shared. MatchOption shared (kind_of self.now ≡ Login) (λ records. self.now ≡ as_procs (unpacked (arc_value records).items))) }
+    {
+        match &self.items {
+            Items::Logins(_) => Ok(None),
+            Items::Procs(records) => Ok(Some(Arc::try_clone(records)?)),
         }
     }
 

@@ -3,8 +3,9 @@
 //! `login` has the login record and its events: `logins` keeps many without the zeros after their
 //! texts, as a `head` and its `words` each, `decode` reads them, `events` and `key` look at the words
 //! alone. `process` has the process record: `packed` reads it, with the `name` of its command, and keeps
-//! its numbers as they are in a file, `compressed` and `elapsed` work them out. A `batch` is of one kind,
-//! a `field` a text, a `list` is shared by its copies, and `guesses` and `hints` are of places in tables.
+//! its numbers as they are in a file, `numbered` does so with a number for the name, and `compressed` and
+//! `elapsed` work them out. A `batch` is of one kind, a `field` a text, a `list` is shared by its copies,
+//! and `guesses` and `hints` are of places in tables.
 #![tactic(auto)]
 
 mod batch;
@@ -29,6 +30,7 @@ pub use crate::login::key::Key;
 pub use crate::login::logins::Logins;
 pub use crate::login::{Event, LOGIN_SIZE, LoginRecord, read_login};
 pub use crate::process::compressed::comp;
+pub use crate::process::numbered::NumberedProc;
 pub use crate::process::packed::PackedProc;
 pub use crate::process::{PROC_SIZE, ProcRecord, read_proc};
 pub use crate::telling::event;

@@ -4,6 +4,7 @@ ghost use Rattle.tally_records.specs.ProcRecord.{IsBounded, proc_result};
 pub(crate) mod compressed;
 mod elapsed;
 mod name;
+pub(crate) mod numbered;
 pub(crate) mod packed;
 
 use crate::fault::RecordFault;

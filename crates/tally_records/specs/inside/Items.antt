@@ -11,12 +11,12 @@ use Rattle.tally_records.specs.Records.{Records, Logins, Procs, procs_in}
 -- the records of either list
 abbrev pub records_of : Items → Records
 records_of (kept.Logins records) = Logins (arc_value records)
-records_of (kept.Procs v) = Procs (unpacked v.items)
+records_of (kept.Procs v) = Procs (unpacked (arc_value v).items)
 
 -- how many there are
 abbrev pub count_of : Items → ℕ
 count_of (kept.Logins records) = length (arc_value records)
-count_of (kept.Procs v) = vec_len v
+count_of (kept.Procs v) = vec_len (arc_value v)
 
 -- what every batch keeps
 pub record IsSound (items : Items) : Type 0 where

@@ -23,17 +23,17 @@ pub enum Version {
 /// float. They are worked out where the record is asked for.
 #[derive(Clone, Copy, Debug, PartialEq, Eq)]
 pub struct PackedProc {
-    uid: u32,
-    begin: u32,
+    pub(crate) uid: u32,
+    pub(crate) begin: u32,
     /// `ac_etime`: a `comp_t` in version 2, and in version 3 the word of a float.
-    elapsed: u32,
-    user_ticks: u16,
-    system_ticks: u16,
-    mem: u16,
-    io: u16,
-    version: Version,
-    flag: u8,
-    comm: Comm,
+    pub(crate) elapsed: u32,
+    pub(crate) user_ticks: u16,
+    pub(crate) system_ticks: u16,
+    pub(crate) mem: u16,
+    pub(crate) io: u16,
+    pub(crate) version: Version,
+    pub(crate) flag: u8,
+    pub(crate) comm: Comm,
 }
 
 impl PackedProc {
