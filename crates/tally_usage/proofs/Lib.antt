@@ -1,7 +1,9 @@
 pub mod BatchLemmas
+pub mod BlockLemmas
 pub mod CommandLemmas
 pub mod CommandSteps
 pub mod GroupLemmas
+pub mod NumberLemmas
 pub mod PermutationLemmas
 pub mod SummaryLemmas
 pub mod TotalsLemmas

@@ -1,56 +1,40 @@
 -- What keeps a table of groups right: a record that is counted in its group, or as the first of its group.
-use Rattle.std.proofs.Common.{◌≡◌, ℕ, ◌+◌, ◌<◌, ◌≤◌, ◌^◌, Bool, true, false, cond, List, [], ◌∷◌, ◌++◌, length, take, get_or, slice_get, position, All, Option, None, Some, IfSome, unwrap_or, refl, sym, ap, subst, ◌∙◌, arith, length-take-le}
+use Rattle.std.proofs.Common.{◌≡◌, ℕ, ◌+◌, ◌-◌, ◌<◌, ◌≤◌, ◌^◌, Bool, true, false, cond, List, [], ◌∷◌, ◌++◌, length, take, get_or, slice_get, position, All, Option, None, Some, IfSome, unwrap_or, refl, sym, ap, subst, ◌∙◌, arith, length-append, length-take-le}
 use Rattle.std.specs.Cmp.{IsEquivalence}
-use Rattle.std.specs.Map.{lookup}
+use Rattle.std.specs.Map.{keys_of, lookup}
 use Rattle.std.specs.Option.{option_map}
 use Rattle.std.proofs.lemmas.List.Quantifiers.{position-Some}
 use Rattle.std.proofs.lemmas.Map.Views.{lookup-from_Contains}
 use Rattle.std.proofs.lemmas.Option.{get_or_from_slice_get, slice_get-get_or, slice_get-map, slice_get_within}
-use Rattle.indexmap.specs.IndexMap.{IndexMap, IsUnique, keys, set_value_at}
-use Rattle.indexmap.proofs.CallerLemmas.{updates-with_value_at}
-use Rattle.std.proofs.lemmas.List.{take_more, take-map, map-append, length-map}
+use Rattle.indexmap.specs.IndexMap.{IndexMap, IsUnique, get, index_map_len, insert_entry, keys, set_value_at}
+use Rattle.indexmap.proofs.CallerLemmas.{insert_entry-new, updates-with_value_at}
+use Rattle.std.specs.Prelude.{OnOk, Ok, Result}
+use Rattle.std.proofs.lemmas.List.{take_more, map-append, length-map}
+use Rattle.std.proofs.Math.Seq.{get_or-append_seam}
 use Rattle.std.proofs.lemmas.List.Elements.{filter-append, All-take}
 use Rattle.tally_records.specs.declared.process.ProcRecord.{ProcRecord}
 use Rattle.tally_records.specs.ProcRecord.{IsBounded}
-use Rattle.tally_records.specs.PackedProc.{record_of}
-use Rattle.tally_usage.specs.declared.entry.KeptProc.{KeptProc}
-use Rattle.tally_usage.specs.declared.entry.ProcEntry.{ProcEntry}
-use Rattle.tally_usage.specs.Entries.{entries_kept, entry_of}
-use Rattle.tally_usage.specs.inside.Entries.{records_kept}
 use Rattle.tally_usage.specs.declared.usage.Usage.{Usage}
 use Rattle.tally_usage.specs.inside.Usage.{Fits}
 use Rattle.tally_usage.specs.Usage.{no_usage, plus, usage_of}
-use Rattle.tally_usage.specs.Totals.{HasMore, HasTotals, records_of, records_with, usage_at}
+use Rattle.tally_usage.specs.Totals.{HasMore, HasTotals, records_with, usage_at}
 use Rattle.tally_usage.proofs.UsageLemmas.{usage_of-append, usage_of-none, usage_of-Fits, filter-Fits}
 
--- one entry more
-pub records_kept_more : (ks : List KeptProc) (i : ℕ) (d : KeptProc) → i < length ks → records_kept (take (i + 1) ks) ≡ records_kept (take i ks) ++ record_of (get_or ks i d).item ∷ []
-records_kept_more ks i d within =
-    let last = get_or ks i d in
-    ap records_kept (take_more ks i d within) ∙ ap records_of (map-append entry_of (take i ks) (last ∷ []))
-    ∙ map-append (λ (e : ProcEntry). e.item) (entries_kept (take i ks)) (entry_of last ∷ [])
+-- the records up to one of them are few and bounded
+front-bounded : (rs : List ProcRecord) (i : ℕ) (d : ProcRecord) → All IsBounded rs → i < length rs → All IsBounded (take i rs ++ get_or rs i d ∷ [])
+front-bounded rs i d bounded within = subst (All IsBounded) (take_more rs i d within) (All-take IsBounded (i + 1) rs bounded)
 
-pub take-records_kept : (n : ℕ) (ks : List KeptProc) → take n (records_kept ks) ≡ records_kept (take n ks)
-take-records_kept n ks = take-map (λ (e : ProcEntry). e.item) n (entries_kept ks) ∙ ap records_of (take-map entry_of n ks)
+front-few : (rs : List ProcRecord) (i : ℕ) (d : ProcRecord) → length rs ≤ 2 ^ 20 → i < length rs → length (take i rs ++ get_or rs i d ∷ []) ≤ 2 ^ 20
+front-few rs i d few within = omega (arith, ap length (take_more rs i d within), length-take-le (i + 1) rs)
 
-pub length-records_kept : (ks : List KeptProc) → length (records_kept ks) ≡ length ks
-length-records_kept ks = length-map (entries_kept ks) (λ (e : ProcEntry). e.item) ∙ length-map ks entry_of
+-- a record, added to the total of those before it
+pub total-counted : (rs : List ProcRecord) (i : ℕ) (d : ProcRecord) (t v : Usage) → t ≡ usage_of (take i rs) → i < length rs → v ≡ usage_of (get_or rs i d ∷ []) → plus t v ≡ usage_of (take (i + 1) rs)
+total-counted rs i d t v is_total within is_one =
+    (λ j. plus (is_total j) (is_one j)) ∙ sym (usage_of-append (take i rs) _) ∙ ap usage_of (sym (take_more rs i d within))
 
--- the records up to entry i are few and bounded
-front-bounded : (ks : List KeptProc) (i : ℕ) (d : KeptProc) → All IsBounded (records_kept ks) → i < length ks → All IsBounded (records_kept (take i ks) ++ record_of (get_or ks i d).item ∷ [])
-front-bounded ks i d bounded within = subst (All IsBounded) (take-records_kept (i + 1) ks ∙ records_kept_more ks i d within) (All-take IsBounded (i + 1) (records_kept ks) bounded)
-
-front-few : (ks : List KeptProc) (i : ℕ) (d : KeptProc) → length ks ≤ 2 ^ 20 → i < length ks → length (records_kept (take i ks) ++ record_of (get_or ks i d).item ∷ []) ≤ 2 ^ 20
-front-few ks i d few within = omega (arith, ap length (records_kept_more ks i d within), length-records_kept (take (i + 1) ks), length-take-le (i + 1) ks)
-
--- entry i, added to the total of those before it
-pub total-counted : (ks : List KeptProc) (i : ℕ) (d : KeptProc) (t v : Usage) → t ≡ usage_of (records_kept (take i ks)) → i < length ks → v ≡ usage_of (record_of (get_or ks i d).item ∷ []) → plus t v ≡ usage_of (records_kept (take (i + 1) ks))
-total-counted ks i d t v is_total within is_one =
-    (λ j. plus (is_total j) (is_one j)) ∙ sym (usage_of-append (records_kept (take i ks)) _) ∙ ap usage_of (sym (records_kept_more ks i d within))
-
-pub total-Fits : (ks : List KeptProc) (i : ℕ) (d : KeptProc) (t v : Usage) → t ≡ usage_of (records_kept (take i ks)) → All IsBounded (records_kept ks) → length ks ≤ 2 ^ 20 → i < length ks → v ≡ usage_of (record_of (get_or ks i d).item ∷ []) → Fits (plus t v)
-total-Fits ks i d t v is_total bounded few within is_one =
-    subst Fits (sym (total-counted ks i d t v is_total within is_one ∙ ap usage_of (records_kept_more ks i d within))) (usage_of-Fits _ (front-bounded ks i d bounded within) (front-few ks i d few within))
+pub total-Fits : (rs : List ProcRecord) (i : ℕ) (d : ProcRecord) (t v : Usage) → t ≡ usage_of (take i rs) → All IsBounded rs → length rs ≤ 2 ^ 20 → i < length rs → v ≡ usage_of (get_or rs i d ∷ []) → Fits (plus t v)
+total-Fits rs i d t v is_total bounded few within is_one =
+    subst Fits (sym (total-counted rs i d t v is_total within is_one ∙ ap usage_of (take_more rs i d within))) (usage_of-Fits _ (front-bounded rs i d bounded within) (front-few rs i d few within))
 
 pub plus-none : (u : Usage) → plus u no_usage ≡ u
 plus-none u = λ i. record {
@@ -88,23 +72,22 @@ module _ {K : Type 0} {eq : K → K → Bool} (laws : IsEquivalence eq) (exact :
           ap (λ o. unwrap_or o no_usage) (more.at q ∙ ap (λ b. cond b (Some (plus (usage_at eq old (key_of r)) (usage_of (r ∷ [])))) (lookup (eq q) old)) e)
           ∙ has.at q ∙ sym (usage-push_other rs r q (laws.symm q (key_of r) ∙ e))
 
-  -- the usage of entry i, added to what its group has, fits
-  pub entry-Fits : (totals : List (K × Usage)) (ks : List KeptProc) (i : ℕ) (d : KeptProc) (k : K) (v : Usage) → HasTotals eq key_of totals (records_kept (take i ks)) → All IsBounded (records_kept ks) → length ks ≤ 2 ^ 20
-      → i < length ks → k ≡ key_of (record_of (get_or ks i d).item) → v ≡ usage_of (record_of (get_or ks i d).item ∷ []) → Fits (plus (usage_at eq totals k) v)
-  entry-Fits totals ks i d k v has bounded few within is_key is_one =
-      let r = record_of (get_or ks i d).item in
-      let rs = records_kept (take i ks) in
-      let sum : usage_of (records_with eq key_of (key_of r) (rs ++ r ∷ [])) ≡ plus (usage_at eq totals k) v =
-      usage-push_own rs r (key_of r) (laws.refl (key_of r)) ∙ (λ j. plus (sym (has.at (key_of r)) j) (usage_of (r ∷ []))) ∙ (λ j. plus (usage_at eq totals (sym is_key j)) (sym is_one j)) in
-      subst Fits sum (filter-Fits (λ x. eq (key_of r) (key_of x)) (rs ++ r ∷ []) (front-bounded ks i d bounded within) (front-few ks i d few within))
+  -- the usage of a record, added to what its group has, fits
+  pub record-Fits : (totals : List (K × Usage)) (rs : List ProcRecord) (i : ℕ) (d : ProcRecord) (k : K) (v : Usage) → HasTotals eq key_of totals (take i rs) → All IsBounded rs → length rs ≤ 2 ^ 20
+      → i < length rs → k ≡ key_of (get_or rs i d) → v ≡ usage_of (get_or rs i d ∷ []) → Fits (plus (usage_at eq totals k) v)
+  record-Fits totals rs i d k v has bounded few within is_key is_one =
+      let r = get_or rs i d in
+      let sum : usage_of (records_with eq key_of (key_of r) (take i rs ++ r ∷ [])) ≡ plus (usage_at eq totals k) v =
+      usage-push_own (take i rs) r (key_of r) (laws.refl (key_of r)) ∙ (λ j. plus (sym (has.at (key_of r)) j) (usage_of (r ∷ []))) ∙ (λ j. plus (usage_at eq totals (sym is_key j)) (sym is_one j)) in
+      subst Fits sum (filter-Fits (λ x. eq (key_of r) (key_of x)) (take i rs ++ r ∷ []) (front-bounded rs i d bounded within) (front-few rs i d few within))
 
-  -- entry i is counted: its usage is added to what its group has, if anything
-  pub entry-counted : (old new : List (K × Usage)) (ks : List KeptProc) (i : ℕ) (d : KeptProc) (k : K) (v : Usage) → HasTotals eq key_of old (records_kept (take i ks))
-      → i < length ks → k ≡ key_of (record_of (get_or ks i d).item) → v ≡ usage_of (record_of (get_or ks i d).item ∷ []) → HasMore eq old new k v → HasTotals eq key_of new (records_kept (take (i + 1) ks))
-  entry-counted old new ks i d k v has within is_key is_one more =
-      let r = record_of (get_or ks i d).item in
-      subst (HasTotals eq key_of new) (sym (records_kept_more ks i d within))
-      (HasTotals-count old new (records_kept (take i ks)) r has (subst (λ w. HasMore eq old new (key_of r) w) is_one (subst (λ j. HasMore eq old new j v) is_key more)))
+  -- a record is counted: its usage is added to what its group has, if anything
+  pub record-counted : (old new : List (K × Usage)) (rs : List ProcRecord) (i : ℕ) (d : ProcRecord) (k : K) (v : Usage) → HasTotals eq key_of old (take i rs)
+      → i < length rs → k ≡ key_of (get_or rs i d) → v ≡ usage_of (get_or rs i d ∷ []) → HasMore eq old new k v → HasTotals eq key_of new (take (i + 1) rs)
+  record-counted old new rs i d k v has within is_key is_one more =
+      let r = get_or rs i d in
+      subst (HasTotals eq key_of new) (sym (take_more rs i d within))
+      (HasTotals-count old new (take i rs) r has (subst (λ w. HasMore eq old new (key_of r) w) is_one (subst (λ j. HasMore eq old new j v) is_key more)))
 
 -- where a key is, as its place among the keys says
 pub found_key : {K : Type 0} {eq : K → K → Bool} → ((x y : K) → eq x y ≡ true → x ≡ y) → (ks : List K) (k : K) (o : Option ℕ) → o ≡ position (eq k) ks → IfSome o (λ i. slice_get ks i ≡ Some k)
@@ -132,3 +115,17 @@ module _ {K S : Type 0} {eq : K → K → Bool} (laws : IsEquivalence eq) (m : I
     at = λ q. (updates-with_value_at m i w laws unique k u entry_is).0 q
         ∙ ap (λ v. cond (eq k q) (Some v) (lookup (eq q) m.entries)) (is_sum ∙ ap (λ v. plus v more) (sym (ap (λ o. unwrap_or o no_usage) lookup_at)));
   }
+
+-- a key that is inserted comes after the others
+module _ {K S : Type 0} (eq : K → K → Bool) (m n : IndexMap K Usage S) (key : K) (absent : get eq m key ≡ None) where
+  pub keys-added : {E : Type 0} {old : Option Usage} {r : Result (Option Usage) E} (more : Usage) → r ≡ Ok old → OnOk r (n.entries ≡ insert_entry eq m.entries key more) → keys n ≡ keys m ++ key ∷ []
+  keys-added more is inserted =
+      let added = subst (λ r. OnOk r (n.entries ≡ insert_entry eq m.entries key more)) is inserted ∙ insert_entry-new eq m key more absent in
+      ap keys_of added ∙ map-append (λ (e : K × Usage). e.0) m.entries ((key, more) ∷ [])
+
+-- where the last of the keys stands
+pub last_key : {K S : Type 0} (m : IndexMap K Usage S) (before : List K) (key : K) (n : ℕ) → keys m ≡ before ++ key ∷ [] → n ≡ index_map_len m → slice_get (keys m) (n - 1) ≡ Some key
+last_key m before key n is count =
+    let place : n - 1 ≡ length before = omega (arith, count, ap length is, length-append before (key ∷ []), length-map m.entries (λ e. e.0)) in
+    ap (λ ks. slice_get ks (n - 1)) is ∙ ap (slice_get (before ++ key ∷ [])) place
+    ∙ slice_get-get_or (before ++ key ∷ []) (length before) key (omega (arith, length-append before (key ∷ []))) ∙ ap Some (get_or-append_seam before key [] key)

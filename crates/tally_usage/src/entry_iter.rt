@@ -3,12 +3,13 @@ ghost use Rattle.std.specs.Prelude.{◌≡◌};
 ghost use Rattle.std.specs.Iterator.{YieldsFirst, item_count};
 ghost use Rattle.tally_usage.specs.Entries.{entries_in, entries_left};
 
-use crate::entry::{KeptProc, ProcEntries, ProcEntry};
+use crate::entry::{ProcEntries, ProcEntry};
 
 /// Goes over lent entries in stored order.
 #[derive(Drop)]
 pub struct ProcEntryIter<'a> {
-    kept: &'a [KeptProc],
+    entries: ProcEntries<'a>,
+    next: usize,
 }
 
 impl<'a> Iterator for ProcEntryIter<'a> {
@@ -19,9 +20,16 @@ impl<'a> Iterator for ProcEntryIter<'a> {
     ghost remaining = { item_count entries_left };
 
     fn next(&mut self) -> Option<ProcEntry> {
-        let (first, rest) = self.kept.split_first()?;
-        self.kept = rest;
-        Some(first.entry())
+        if self.next >= self.entries.len() {
+            return None;
+        }
+        match self.entries.get(self.next) {
+            Some(entry) => {
+                self.next += 1;
+                Some(entry)
+            }
+            None => None,
+        }
     }
 }
 
@@ -30,6 +38,9 @@ impl<'a> ProcEntries<'a> {
     pub fn iter(self) -> ProcEntryIter<'a>
         ensures { entries_left result ≡ entries_in self.entry }
     {
-        ProcEntryIter { kept: self.kept }
+        ProcEntryIter {
+            entries: self,
+            next: 0,
+        }
     }
 }

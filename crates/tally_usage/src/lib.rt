@@ -5,6 +5,7 @@ mod command;
 mod entry;
 mod entry_iter;
 mod group;
+mod kept_list;
 mod laws;
 mod order;
 mod summary;

@@ -1,36 +1,42 @@
 //! The sums of each command and of each user over the stored process records.
-ghost use Rattle.std.specs.Prelude.{◌≡◌, ◌+◌, ◌≤◌, [], ◌++◌, None, Some, IfOk, OnOk, OnErr, if◌then◌else◌, length, reverse, vec_len, vec_capacity};
+ghost use Rattle.std.specs.Prelude.{◌≡◌, ◌+◌, ◌≤◌, [], ◌++◌, None, Some, IfOk, OnOk, OnErr, if◌then◌else◌, length, reverse};
 ghost use Rattle.tally_records.specs.Records.{IsProcs, procs_in, record_count};
 ghost use Rattle.tally_usage.specs.Command.{command_rows};
 ghost use Rattle.tally_usage.specs.Entries.{entries_in};
-ghost use Rattle.tally_usage.specs.inside.Entries.{kept_of};
 ghost use Rattle.tally_usage.specs.Summary.{entries_of};
 ghost use Rattle.tally_usage.specs.Totals.{records_of};
 ghost use Rattle.tally_usage.specs.Usage.{usage_of};
 ghost use Rattle.tally_usage.specs.User.{user_rows};
 
-use crate::command::{self, Command, CommandRow};
-use crate::entry::{ENTRY_LIMIT, KeptProc, ProcEntries, ProcList};
+use crate::command::{self, CommandRow};
+use crate::entry::{ENTRY_LIMIT, ProcEntries, ProcList};
+use crate::kept_list::KeptList;
 use crate::order::Order;
-use crate::table::count_entries;
+use crate::table::{Commands, count_records};
 use crate::usage::Usage;
 use crate::user::{self, UidRow};
 use indexmap::IndexMap;
 use std::alloc::Global;
 use std::hash::RandomState;
 use std::marker::Model;
+use std::sync::Arc;
 use tally_records::{Batch, Guesses, Hints, List, Memory, PackedProc};
+
+/// A batch that `prepare` has made ready for `add`: its host, and its records, which the batch shares.
+#[derive(Drop)]
+pub(crate) struct Waiting {
+    pub(crate) host: u32,
+    pub(crate) records: Arc<Vec<PackedProc>, Global>,
+}
 
 /// The stored process records, with the sums of each command, of each user and of all.
 #[derive(Drop)]
 pub struct Summary {
-    /// The stored entries, and after them those that `prepare` has placed for `add`.
-    kept: Vec<KeptProc>,
-    /// How many entries are stored.
-    stored: usize,
-    /// The host that the summary is ready for.
-    ready: Option<u32>,
-    commands: IndexMap<Command, Usage, RandomState>,
+    /// The stored entries.
+    kept: KeptList,
+    /// What the summary is ready for.
+    waiting: Option<Waiting>,
+    commands: Commands,
     users: IndexMap<u32, Usage, RandomState>,
     total: Usage,
     command_guesses: Hints,
@@ -56,9 +62,8 @@ impl Summary {
         ensures ready { result.ready ≡ None }
     {
         Summary {
-            kept: Vec::new(alloc),
-            stored: 0,
-            ready: None,
+            kept: KeptList::new(alloc),
+            waiting: None,
             commands: IndexMap::with_hasher(alloc, keys),
             users: IndexMap::with_hasher(alloc, keys),
             total: Usage::none(),
@@ -77,16 +82,16 @@ impl Summary {
             (self.new.ready ≡ Some (record { host = host; records = procs_in batch.now })) }
         ensures refused { OnErr result (self.new.ready ≡ None) }
     {
-        self.kept.truncate(self.stored);
-        self.ready = None;
+        self.waiting = None;
         let count = batch.len();
         self.kept.reserve(count)?;
         self.commands.reserve(count)?;
         self.users.reserve(count)?;
         self.command_guesses.make_room()?;
         self.user_guesses.make_room()?;
-        place_records(&mut self.kept, host, batch.packed_procs());
-        self.ready = Some(host);
+        if let Some(records) = batch.share_procs()? {
+            self.waiting = Some(Waiting { host, records });
+        }
         Ok(())
     }
 
@@ -97,25 +102,24 @@ impl Summary {
         ensures entries { self.new.entries ≡ self.old.entries ++ entries_of host (procs_in batch.now) }
         ensures ready { self.new.ready ≡ None }
     {
-        let entries = self.kept.as_slice();
-        count_entries(
+        count_records(
+            &mut self.kept,
             &mut self.commands,
             &mut self.users,
             &mut self.total,
             &mut self.command_guesses,
             &mut self.user_guesses,
-            entries,
-            self.stored,
+            host,
+            batch.packed_procs(),
         );
-        self.stored = self.kept.len();
-        self.ready = None;
+        self.waiting = None;
     }
 
     /// The stored entries, in the order in which they were added.
     pub fn entries(&self) -> ProcEntries<'_>
         ensures value { entries_in result ≡ self.now.entries }
     {
-        ProcEntries::of(&self.kept.as_slice()[..self.stored])
+        ProcEntries::of(&self.kept, &self.commands)
     }
 
     /// The stored entries, by value.
@@ -123,17 +127,15 @@ impl Summary {
         ensures value { result ≡ self.entries }
     {
         let Summary {
-            mut kept,
-            stored,
-            ready: _,
-            commands: _,
+            kept,
+            waiting: _,
+            commands,
             users: _,
             total: _,
             command_guesses: _,
             user_guesses: _,
         } = self;
-        kept.truncate(stored);
-        ProcList::of(kept)
+        ProcList::of(kept, commands)
     }
 
     /// The rows by command, as sa(8) sums them: the greatest number first, or last where `reverse`.
@@ -185,14 +187,4 @@ fn turned<T: Copy>(alloc: Global, mut rows: Vec<T>, is_opposite: bool) -> Result
         rows.reverse();
     }
     List::from_vec(alloc, rows)
-}
-
-/// Places the records after the entries, in the room that there is.
-fn place_records(kept: &mut Vec<KeptProc>, host: u32, records: &[PackedProc])
-    requires { vec_len kept.old + length records.now ≤ vec_capacity kept.old }
-    ensures { kept.new.items ≡ kept.old.items ++ kept_of host records.now }
-{
-    for item in records {
-        kept.push_reserved(KeptProc { item: *item, host });
-    }
 }

@@ -12,13 +12,13 @@ use Rattle.tally_usage.specs.inside.Entries.{records_kept}
 use Rattle.tally_usage.specs.inside.Sound.{stored_of}
 use Rattle.tally_usage.specs.Totals.{records_of}
 use Rattle.tally_usage.proofs.CommandLemmas.{command_cmp_total, command_rows-turned, others-Fits, rows_in_order}
-use Rattle.tally_usage.proofs.SummaryLemmas.{stored-bounded, stored-few}
+use Rattle.tally_usage.proofs.SummaryLemmas.{stored-few}
 use Rattle.tally_usage.proofs.summary.Summary.by_command.Goals as goal
 
 pub push_rows-requires : goal.push_rows-requires
 push_rows-requires c =
     others-Fits c.args.all c.self.inside.commands.entries (records_kept (stored_of c.self.inside)) c.self.invariant.commands c.len.ensures.unique
-    (stored-bounded c.self.inside c.self.invariant) (stored-few c.self.inside c.self.invariant)
+    c.self.invariant.bounded (stored-few c.self.inside c.self.invariant)
 
 pub returns : goal.returns
 returns c =
