@@ -1,5 +1,6 @@
 pub mod Command
 pub mod Entries
+pub mod Kept
 pub mod Laws
 pub mod Order
 pub mod Summary

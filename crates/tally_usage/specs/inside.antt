@@ -1,7 +1,6 @@
 -- What no public contract cites.
 pub mod Blocks
 pub mod Entries
-pub mod Kept
 pub mod Keys
 pub mod Rows
 pub mod Sound

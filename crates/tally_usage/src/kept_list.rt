@@ -15,15 +15,16 @@ pub(crate) struct KeptList {
     alloc: Global,
     /// The blocks that are full.
     full: Vec<Vec<CompactProc>>,
-    /// The entries after these.
+    /// The entries after these, a block or less.
     last: Vec<CompactProc>,
-    /// Room for those after a block.
+    /// An empty block for the entries after those.
     next: Option<Vec<CompactProc>>,
+    /// How many entries there are.
     count: usize,
 }
 
 impl Model for KeptList {
-    ghost use Rattle.tally_usage.specs.inside.Kept.{Kept};
+    ghost use Rattle.tally_usage.specs.Kept.{Kept};
 
     ghost Value = { Kept };
 
@@ -73,14 +74,18 @@ impl KeptList {
         entry_at(self.last.as_slice(), index - self.full.len() * BLOCK)
     }
 
-    /// Makes room for as many entries more, no more than a block.
+    /// Makes room for as many entries more, no more than a block. The first block grows by doubling up to its half.
     pub(crate) fn reserve(&mut self, count: usize) -> Result<(), AllocError>
         requires { count ≤ 4096 }
         ensures entries { self.new.entries ≡ self.old.entries }
         ensures room { OnOk result (count ≤ self.new.spare) }
     {
         let left = BLOCK - self.last.len();
-        self.last.reserve(count.min(left))?;
+        if left < BLOCK / 2 + count {
+            self.last.reserve_exact(left)?;
+        } else {
+            self.last.reserve(count)?;
+        }
         if left < count && self.next.is_none() {
             self.full.reserve(1)?;
             self.next = Some(Vec::with_capacity(self.alloc, BLOCK)?);

@@ -22,7 +22,8 @@ use std::marker::Model;
 use std::sync::Arc;
 use tally_records::{Batch, Guesses, Hints, List, Memory, PackedProc};
 
-/// A batch that `prepare` has made ready for `add`: its host, and its records, which the batch shares.
+/// What `prepare` has made the summary ready for: a host, and the records of a batch, shared with it. `add` reads them from
+/// the batch; they stand here to say what it is ready for.
 #[derive(Drop)]
 pub(crate) struct Waiting {
     pub(crate) host: u32,

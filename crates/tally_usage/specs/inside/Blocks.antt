@@ -4,7 +4,7 @@ use Rattle.std.specs.Prelude.{◌≡◌, ◌≤◌, ◌<◌, ◌-◌, ◌+◌, �
 use Rattle.std.specs.Global.{Vec}
 use Rattle.tally_usage.specs.declared.entry.CompactProc.{CompactProc}
 use Rattle.tally_usage.specs.declared.kept_list.KeptList.TheInside.{Inside}
-use Rattle.tally_usage.specs.inside.Kept.{Kept}
+use Rattle.tally_usage.specs.Kept.{Kept}
 
 -- the entries of full blocks
 abbrev pub in_blocks : List (Vec CompactProc) → List CompactProc
@@ -14,6 +14,7 @@ in_blocks full = flat_map (λ v. v.items) full
 abbrev pub next_room : Inside → ℕ
 next_room k = if is_some k.next then 4096 else 0
 
+-- room for entries in the last block and, where that can be filled, after it
 abbrev pub room_of : Inside → ℕ
 room_of k = if nat_lt (vec_capacity k.last) 4096 then vec_capacity k.last - length k.last.items else 4096 - length k.last.items + next_room k
 

@@ -1,5 +1,5 @@
 use Rattle.std.proofs.Common.{◌∙◌, ◌-◌, ◌*◌, ◌%◌, ap, arith, slice_get, sym}
-use Rattle.tally_usage.specs.inside.Kept.{Kept}
+use Rattle.tally_usage.specs.Kept.{Kept}
 use Rattle.tally_usage.proofs.BlockLemmas.{after_blocks, in_block}
 use Rattle.tally_usage.proofs.kept_list.KeptList.get.Goals as goal
 
