@@ -1,5 +1,5 @@
 //! Keys of tables with a sum for each user, and sums that may go below 0.
-ghost use Rattle.std.specs.Prelude.{◌≡◌, ◌≤◌, ◌+◌, ◌^◌, ℕ, ℤ, pos, neg_ℤ, ◌+ℤ◌, ◌≤ℤ◌, false, OnOk, sum_by, if◌then◌else◌};
+ghost use Rattle.std.specs.Prelude.{◌≡◌, ◌≤◌, ◌+◌, ◌^◌, ℕ, ℤ, pos, neg_ℤ, ◌+ℤ◌, ◌≤ℤ◌, false, OnOk, sum_by, unwrap_or, if◌then◌else◌};
 ghost use Rattle.std.specs.BTreeMap.{get};
 ghost use Rattle.std.specs.Ordering.{is_eq};
 ghost use Rattle.tally_sessions.specs.inside.Sums.{change_of};
@@ -22,6 +22,17 @@ pub(crate) struct RowUser {
     pub(crate) row: usize,
 }
 
+/// A key's sum after a change, where one without a sum had 0.
+fn sum_after(so_far: Option<i64>, more: i64) -> i64
+    requires low { neg_ℤ (pos (2 ^ 61)) ≤ℤ unwrap_or so_far (pos 0) }
+    requires high { unwrap_or so_far (pos 0) ≤ℤ pos (2 ^ 61) }
+    requires more_low { neg_ℤ (pos (2 ^ 61)) ≤ℤ more }
+    requires more_high { more ≤ℤ pos (2 ^ 61) }
+    ensures { result ≡ unwrap_or so_far (pos 0) +ℤ more }
+{
+    so_far.unwrap_or(0) + more
+}
+
 /// Adds to the sum of a key.
 pub(crate) fn add_change<K: Ord + Copy + Drop>(
     changes: &mut BTreeMap<K, i64>,
@@ -40,11 +51,11 @@ pub(crate) fn add_change<K: Ord + Copy + Drop>(
 {
     match changes.get_mut(&at) {
         Some(sum) => {
-            *sum += more;
+            *sum = sum_after(Some(*sum), more);
             Ok(())
         }
         None => {
-            changes.insert(at, more)?;
+            changes.insert(at, sum_after(None, more))?;
             Ok(())
         }
     }
