@@ -1,5 +1,5 @@
 //! Connect time by user and by day, as ac(1) gives it.
-ghost use Rattle.std.specs.Prelude.{◌≡◌, ℕ, List as Items, All, IfOk, filter, map};
+ghost use Rattle.std.specs.Prelude.{◌≡◌, ℕ, List as Items, All, IfOk, filter, map, nat_lt};
 ghost use Rattle.std.specs.BTreeMap.{IsOrdered};
 ghost use Rattle.std.specs.Cmp.Lexicographic.{slice_cmp};
 ghost use Rattle.std.specs.Ordering.{int_cmp, nat_cmp};
@@ -29,6 +29,13 @@ use std::collections::BTreeMap;
 use tally_clock::Clock;
 use tally_records::{List, Memory};
 
+/// Whether a sum of seconds has a row.
+fn has_row(seconds: u64) -> bool
+    ensures { result ≡ nat_lt 0 seconds }
+{
+    seconds > 0
+}
+
 /// The rows of the users whose sum is above 0.
 fn user_rows(alloc: Global, sums: &BTreeMap<NameKey, u64>) -> Result<Vec<UserTime>, AllocError>
     ensures rows { IfOk result (λ rows. rows.items ≡ map user_time_of (filter above_zero sums.now.entries)) }
@@ -36,7 +43,7 @@ fn user_rows(alloc: Global, sums: &BTreeMap<NameKey, u64>) -> Result<Vec<UserTim
 {
     let mut rows = Vec::new(alloc);
     for (user, seconds) in sums {
-        if *seconds > 0 {
+        if has_row(*seconds) {
             rows.push(UserTime {
                 user: user.name(),
                 seconds: *seconds,
@@ -52,7 +59,7 @@ fn day_rows(alloc: Global, sums: &BTreeMap<i32, u64>) -> Result<Vec<DayTime>, Al
     ensures ordered { IsOrdered int_cmp sums.now }
 {
     sums.iter()
-        .filter(|(_day, seconds)| **seconds > 0)
+        .filter(|(_day, seconds)| has_row(**seconds))
         .map(|(day, seconds)| DayTime {
             day: *day,
             seconds: *seconds,

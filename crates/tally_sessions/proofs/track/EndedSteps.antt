@@ -15,7 +15,7 @@ use Rattle.tally_sessions.specs.declared.track.ended.EndedSums.{EndedSums}
 use Rattle.tally_sessions.specs.declared.track.ending.Ending.{Ending}
 use Rattle.tally_sessions.specs.declared.track.ending.TrackedStay.{TrackedStay}
 use Rattle.tally_sessions.specs.inside.Entries.{entry_at}
-use Rattle.tally_sessions.specs.inside.Track.{length_of, no_stay, stay_at, start_of, counts, ended_from, ended_length, ended_sum, covers, is_login_event, sum_of, started, HasSums, HasUser, LengthFits}
+use Rattle.tally_sessions.specs.inside.Track.{length_of, no_stay, stay_at, start_of, counts, ended_length, ended_sum, covers, is_login_event, sum_of, started, HasSums, HasUser, LengthFits}
 use Rattle.tally_sessions.specs.inside.Numbers.{StandsAt}
 use Rattle.tally_sessions.specs.Stays.{starts_stay}
 use Rattle.tally_sessions.proofs.track.Places.{each-push}

@@ -1,8 +1,8 @@
-use Rattle.std.proofs.Common.{◌≡◌, ◌∙◌, ◌+◌, ◌-ℤ◌, ℤ, set, cond, ℕ, List, get_or, length, sym, ap, arith, subst, rules, is_some}
+use Rattle.std.proofs.Common.{◌≡◌, ◌∙◌, ◌+◌, ◌-ℤ◌, set, cond, ℕ, List, get_or, sym, ap, arith, subst, rules, is_some}
 use Rattle.std.proofs.lemmas.Int.{ints, to_z-of_z}
 use Rattle.std.proofs.lemmas.List.{get_or_default}
-use Rattle.std.specs.Int.{w32, w64}
-use Rattle.std.specs.Prelude.{Option, None, FitsSigned}
+use Rattle.std.specs.Int.{w32}
+use Rattle.std.specs.Prelude.{Option, FitsSigned}
 use Rattle.tally_records.specs.declared.login.LoginRecord.{LoginRecord}
 use Rattle.tally_records.specs.Event.{event_of}
 use Rattle.tally_sessions.specs.declared.track.ending.Ending.{Ending}
