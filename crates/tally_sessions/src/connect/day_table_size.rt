@@ -20,10 +20,14 @@ use tally_records::Memory;
 /// A stay on more days than this may have a row of a clock whole, if the rows are no shorter than is usual.
 const DAYS_OF_A_LONG_STAY: usize = 14;
 
-/// How many cells a table may have for each stay, and how many more.
+/// How many cells a table may have for each stay.
 const CELLS_FOR_A_STAY: usize = 2;
 
-const CELLS_FOR_NO_STAY: usize = 4096;
+/// How many more it may have: so many for each of a few stays, so that a few on days far apart have none.
+const FREE_CELLS_FOR_A_STAY: usize = 64;
+
+/// How many more at most.
+const MOST_FREE_CELLS: usize = 4096;
 
 /// How many cells there have to be for each user of a host.
 const CELLS_FOR_A_USER: usize = 4;
@@ -122,7 +126,9 @@ impl Extent {
     fn most_cells(&self) -> usize
         ensures { result ≤ 2_101_248 }
     {
-        self.stays.min(ENTRY_LIMIT) * CELLS_FOR_A_STAY + CELLS_FOR_NO_STAY
+        let stays = self.stays.min(ENTRY_LIMIT);
+        let free = (stays * FREE_CELLS_FOR_A_STAY).min(MOST_FREE_CELLS);
+        stays * CELLS_FOR_A_STAY + free
     }
 
     /// The days of a table, with two more at both ends for local time. There is none where the stays
