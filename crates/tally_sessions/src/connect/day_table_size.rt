@@ -207,7 +207,7 @@ impl Sessions {
     pub(crate) fn extent(&self, clock: &Clock, until: Option<i32>) -> Extent {
         let entries = self.entries();
         let mut extent = Extent::none();
-        for host in 0..HOST_LIMIT {
+        for host in 0..self.hosts {
             extent = self.with_stays(entries, host, clock, until, extent);
         }
         extent
@@ -216,7 +216,7 @@ impl Sessions {
     /// The most users that a host has.
     pub(crate) fn most_users(&self) -> usize {
         let mut most = 0;
-        for track in &self.tracks {
+        for track in self.tracks.iter().take(self.hosts as usize) {
             most = track.sums.users.len().max(most);
         }
         most
@@ -225,7 +225,7 @@ impl Sessions {
     /// How many users the hosts have together, one of several hosts as often.
     pub(crate) fn host_users(&self) -> usize {
         let mut count = 0usize;
-        for track in &self.tracks {
+        for track in self.tracks.iter().take(self.hosts as usize) {
             count = count.saturating_add(track.sums.users.len());
         }
         count
@@ -236,7 +236,7 @@ impl Sessions {
         ensures { IfOk result (λ users. IsStrictlySortedBy (slice_cmp nat_cmp) users.items) }
     {
         let mut users = Vec::with_capacity(alloc, self.host_users())?;
-        for track in &self.tracks {
+        for track in self.tracks.iter().take(self.hosts as usize) {
             track.push_users(&mut users)?;
         }
         users.sort_unstable();
