@@ -1,5 +1,7 @@
 """What the scripts of this folder share: the rows and their files."""
 import codecs
+import importlib.machinery
+import importlib.util
 import os
 
 HERE = os.path.dirname(os.path.abspath(__file__))
@@ -42,3 +44,11 @@ def needs(row):
 def folder(row):
     """The folder in which the program runs."""
     return os.path.join(PLACES[row], 'files')
+
+
+def load(name):
+    """The script of that name in this folder, as a module."""
+    loader = importlib.machinery.SourceFileLoader(name, os.path.join(HERE, name))
+    module = importlib.util.module_from_spec(importlib.util.spec_from_loader(name, loader))
+    loader.exec_module(module)
+    return module

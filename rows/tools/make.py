@@ -272,6 +272,17 @@ row('session-over-midnight-one-hour-east', 'ac,ac -d,offset', 'Days are those of
 row('session-over-midnight-by-day-and-user', 'ac,ac -d,ac -p', 'By day and user.', ['ac', '-d', '-p', 'f'],
     lines('1970-01-01 ann                          0.50', '1970-01-02 ann                          0.50',
           'total                        1.00'), files={'f': MIDNIGHT})
+row('users-on-days-far-apart', 'ac,ac -d,ac -p', 'Three users, each over three midnights, thousands of days apart.',
+    ['ac', '-d', '-p', 'f'],
+    lines('1970-01-01 ann                          1.00', '1970-01-02 ann                         24.00',
+          '1970-01-03 ann                         24.00', '1970-01-04 ann                          2.00',
+          '1975-06-24 bob                          1.00', '1975-06-25 bob                         24.00',
+          '1975-06-26 bob                         24.00', '1975-06-27 bob                          2.00',
+          '2024-10-04 cid                          1.00', '2024-10-05 cid                         24.00',
+          '2024-10-06 cid                         24.00', '2024-10-07 cid                          2.00',
+          'total                      153.00'),
+    files={'f': b''.join(U(7, 'tty1', user, '-', 86400 * day + 82800) + U(8, 'tty1', '-', '-', 86400 * (day + 3) + 7200)
+                         for user, day in (('ann', 0), ('bob', 2000), ('cid', 20000)))})
 row('days-before-1970', 'ac,ac -d', 'A session from one hour before 1970 to one hour after.', ['ac', '-d', 'f'],
     lines('1969-12-31 total                        1.00', '1970-01-01 total                        1.00',
           'total                        2.00'),
@@ -708,6 +719,7 @@ show, `examples/`. No two have one name.
     tools/refusals TALLY_BINARY NAME..        these rows, with each allocation, read, write and call for random bytes refused in turn
     tools/fuzz TALLY_BINARY                   random files and words, beside the slow definitions of slow.py
     tools/sizes TALLY_BINARY                  every report over files of many sizes, with ample memory
+    tools/thresholds TALLY_BINARY             users on days, over files at and over each size up to which a table is made
     tools/readers TALLY_BINARY                tables, as other programs read them
     tools/schedules TALLY_BINARY              many files with many numbers of threads
     tools/surroundings TALLY_BINARY           runs on a terminal, with odd inputs, and with little of what the system gives

@@ -1,6 +1,7 @@
 /* Loaded before the C library, makes calls of a kind fail, by the environment: REFUSE=KIND:N:TIMES.
    memory       the Nth growth (malloc and realloc) is refused
    memory-from  every growth from the Nth on is refused
+   size         none is refused; the file REFUSED is made where a growth has N bytes
    read, write  the Nth read or write fails by EIO; read-again and read-invalid by EAGAIN and EINVAL
    read-end     the Nth read gives no byte, as at the end
    read-signal, write-signal   the Nth read or write answers EINTR, and so do those after it, TIMES in all
@@ -68,6 +69,8 @@ static int no_memory(size_t size) {
     if (all_refused)
         return 1;
     ++memory;
+    if (is("size") && size == (size_t)at)
+        mark("REFUSED");
     if (!is("memory-from") || memory < at)
         return refused("memory", memory);
     mark("REFUSED");

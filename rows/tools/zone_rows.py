@@ -91,6 +91,13 @@ def add_rows(row, lines, session):
             '2026-03-29 bob                          1.00', '2026-03-30 ann                         14.00',
             'total                       49.00'),
         files={'f': session('ann', 'tty1', 1774699200, 48 * HOUR) + session('bob', 'tty2', 1774746000, HOUR)})
+    row('zone-summer-of-two-days', 'ac,ac -d,ac -p,zone', 'Six days with the 4th and the 5th of January an hour ahead: days of 23 and of 25 hours.',
+        ['ac', '-d', '-p', '--zone', 'AAA0BBB,J4/0,J6/0', 'f'], lines(
+            '1970-01-01 ann                          1.00', '1970-01-02 bob                         24.00',
+            '1970-01-03 bob                         24.00', '1970-01-04 bob                         23.00',
+            '1970-01-05 bob                         25.00', '1970-01-06 bob                         24.00',
+            '1970-01-07 bob                         24.00', 'total                      145.00'),
+        files={'f': session('ann', 'tty1', 0, HOUR) + session('bob', 'tty2', 24 * HOUR, 144 * HOUR)})
     add_fault_rows(row, lines)
 
 

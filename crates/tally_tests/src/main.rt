@@ -5,13 +5,16 @@
 
 mod book;
 mod bytes;
+mod days;
 mod desk;
+mod entries;
 mod feeds;
 mod held;
 mod printing;
 mod quiet;
 mod reports;
 mod runs;
+mod sections;
 mod session_answers;
 mod sessions;
 mod stopped;
@@ -34,9 +37,11 @@ fn scripts<R: Print + AllocGlobal + RandomSource + Threads + Wait + Sync>(
     let keys = RandomState::new(rt).map_err(|_| Stopped::Refused("random bytes"))?;
     sessions::script(rt, keys)?;
     summary::script(rt, keys)?;
+    entries::script(rt, keys)?;
     book::script(rt, keys)?;
     reports::script(rt, keys)?;
     reports::nights(rt, keys)?;
+    sections::script(rt, keys)?;
     desk::script(rt, keys)?;
     feeds::script(rt, keys)?;
     quiet::script(rt, keys)?;

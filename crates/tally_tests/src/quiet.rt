@@ -6,9 +6,10 @@ use crate::stopped::Stopped;
 use crate::window::{grant_growths, refuse_growths};
 use std::alloc::{AllocError, Global};
 use std::hash::RandomState;
+use std::sync::Arc;
 use tally_desk::{Bytes, Input};
 use tally_print::{Kept, Output};
-use tally_records::{List, comp};
+use tally_records::{Batch, List, Logins, Memory, PackedProc, comp};
 
 /// The bytes of three records, made again where memory was refused.
 fn bytes(alloc: Global) -> Result<Vec<u8>, AllocError> {
@@ -45,6 +46,67 @@ fn print_batches<R: Print + AllocGlobal>(rt: &R) -> Result<(), Stopped> {
     Ok(())
 }
 
+/// The process records of a batch, shared again where memory was refused.
+fn shared_procs(batch: &Batch) -> Result<Option<Arc<Vec<PackedProc>, Global>>, Memory> {
+    match batch.share_procs() {
+        Err(_) => batch.share_procs(),
+        shared => shared,
+    }
+}
+
+/// The login records of a batch, shared again where memory was refused.
+fn shared_logins(batch: &Batch) -> Result<Option<Arc<Logins, Global>>, Memory> {
+    match batch.share_logins() {
+        Err(_) => batch.share_logins(),
+        shared => shared,
+    }
+}
+
+/// Whether the texts of each record, written over those of the one before, are those that it has.
+fn are_texts(logins: &Logins) -> bool {
+    let (mut line, mut user, mut remote) = ([1; 32], [1; 32], [1; 256]);
+    for index in 0..logins.len() {
+        logins.put_texts(index, &mut line, &mut user, &mut remote);
+        let Some(login) = logins.get(index) else {
+            return false;
+        };
+        if login.line != line || login.user != user || login.remote != remote {
+            return false;
+        }
+    }
+    true
+}
+
+/// Prints how many login records a batch shares, and whether their texts are the same one by one.
+fn print_shared_logins<R: Print + AllocGlobal>(rt: &R, batch: &Batch) -> Result<(), Stopped> {
+    let Some(logins) = shared_logins(batch)? else {
+        return Err(Stopped::Changed("a batch"));
+    };
+    refuse_growths(rt.alloc());
+    let (count, are_texts) = (logins.len(), are_texts(&logins));
+    grant_growths(rt.alloc());
+    println!(rt; "shared: {count} {are_texts}")?;
+    Ok(())
+}
+
+/// Prints how many process records a batch shares, and whether they are the same.
+fn print_shared_procs<R: Print + AllocGlobal>(rt: &R, batch: &Batch) -> Result<(), Stopped> {
+    let Some(procs) = shared_procs(batch)? else {
+        return Err(Stopped::Changed("a batch"));
+    };
+    refuse_growths(rt.alloc());
+    let are_same = procs.as_slice() == batch.packed_procs();
+    grant_growths(rt.alloc());
+    println!(rt; "shared: {} {are_same}", procs.len())?;
+    Ok(())
+}
+
+/// Prints what batches share.
+fn print_shared<R: Print + AllocGlobal>(rt: &R) -> Result<(), Stopped> {
+    print_shared_logins(rt, &hour(rt.alloc())?)?;
+    print_shared_procs(rt, &makes(rt.alloc())?)
+}
+
 /// Prints what an input and an output over memory answer.
 fn print_bytes<R: Print + AllocGlobal>(rt: &R) -> Result<(), Stopped> {
     let bytes = bytes(rt.alloc())?;
@@ -76,6 +138,7 @@ fn print_numbers<R: Print + AllocGlobal>(rt: &R, keys: RandomState) -> Result<()
 pub(crate) fn script<R: Print + AllocGlobal>(rt: &R, keys: RandomState) -> Result<(), Stopped> {
     print_list(rt)?;
     print_batches(rt)?;
+    print_shared(rt)?;
     print_bytes(rt)?;
     print_numbers(rt, keys)
 }

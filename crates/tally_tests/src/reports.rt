@@ -81,7 +81,7 @@ fn post_both(alloc: Global, book: &mut Book, first: Batch, second: Batch) -> Res
 }
 
 /// Posts running times and a night.
-fn post_nights(alloc: Global, book: &mut Book) -> Result<(), Stopped>
+pub(crate) fn post_nights(alloc: Global, book: &mut Book) -> Result<(), Stopped>
     requires { book.old.callers ≡ 2 }
     ensures { book.new.callers ≡ 2 }
 {

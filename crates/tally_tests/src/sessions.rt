@@ -3,6 +3,7 @@ ghost use Rattle.std.specs.Prelude.{◌≡◌, ◌<◌, ◌≤◌, ◌+◌, IfOk
 ghost use Rattle.tally_records.specs.Records.{IsLogins, logins_in, record_count};
 
 use crate::bytes::{login_record, logins, put, session};
+use crate::days;
 use crate::session_answers::{Answers, Seen, answers_of, are_same, seen_of};
 use crate::stopped::Stopped;
 use crate::window::{grant_growths, refuse_growths};
@@ -115,7 +116,7 @@ fn print_days<R: Print>(rt: &R, times: &[DayTime]) -> Result<(), Stopped> {
     Ok(())
 }
 
-fn print_both<R: Print>(rt: &R, times: &[DayUserTime]) -> Result<(), Stopped> {
+pub(crate) fn print_both<R: Print>(rt: &R, times: &[DayUserTime]) -> Result<(), Stopped> {
     for time in times {
         println!(rt;
             "day {} user {} {}",
@@ -160,5 +161,6 @@ fn print_answers<R: Print + AllocGlobal>(rt: &R, sessions: &Sessions) -> Result<
 pub(crate) fn script<R: Print + AllocGlobal>(rt: &R, keys: RandomState) -> Result<(), Stopped> {
     let mut sessions = new_sessions(rt.alloc(), keys)?;
     print_seen(rt, add_both(rt.alloc(), &mut sessions)?)?;
-    print_answers(rt, &sessions)
+    print_answers(rt, &sessions)?;
+    days::print_days(rt, &sessions)
 }

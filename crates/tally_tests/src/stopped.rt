@@ -2,6 +2,7 @@ use std::alloc::AllocError;
 use std::io;
 use tally_book::{AskFault, PostFault};
 use tally_cli::LineFault;
+use tally_clock::RuleFault;
 use tally_desk::{FeedFault, OpenFault};
 use tally_print::PrintFault;
 use tally_records::{BatchFault, Memory};
@@ -81,6 +82,15 @@ impl From<FeedFault> for Stopped {
         match fault {
             FeedFault::Memory => Stopped::Memory,
             _ => Stopped::Refused("feed"),
+        }
+    }
+}
+
+impl From<RuleFault> for Stopped {
+    fn from(fault: RuleFault) -> Stopped {
+        match fault {
+            RuleFault::Memory => Stopped::Memory,
+            _ => Stopped::Refused("rule"),
         }
     }
 }

@@ -1,0 +1,68 @@
+//! Users on days that are summed without a table: with days too far apart for one, with a session that has a row
+//! of the clock whole, which a table meets only when it is filled, and with a longer one, for which none is made.
+use crate::sessions::print_both;
+use crate::stopped::Stopped;
+use std::alloc::Global;
+use tally_clock::{Clock, RuleFault};
+use tally_records::{List, Memory};
+use tally_sessions::{DayUserTime, Sessions};
+
+/// Each year an hour ahead from the beginning of the 4th of January to the end of the 5th.
+const TWO_DAYS: &[u8] = b"AAA0BBB,J4/0,J6/0";
+
+/// Ten, twenty and three thousand days after the beginning of 1970.
+const TEN_DAYS: i32 = 864_000;
+
+const TWENTY_DAYS: i32 = 1_728_000;
+
+const MANY_DAYS: i32 = 259_200_000;
+
+/// The clock of the rule, made again where memory was refused.
+fn two_days(alloc: Global) -> Result<Clock, Stopped> {
+    let made = match Clock::of_rule(alloc, TWO_DAYS) {
+        Err(RuleFault::Memory) => Clock::of_rule(alloc, TWO_DAYS),
+        made => made,
+    };
+    Ok(made?)
+}
+
+/// The rows up to a moment, asked for again where memory was refused.
+fn rows_until(
+    alloc: Global,
+    sessions: &Sessions,
+    clock: &Clock,
+    until: i32,
+) -> Result<List<DayUserTime>, Memory> {
+    match sessions.connect_by_day_user(alloc, clock, 0, Some(until)) {
+        Err(_) => sessions.connect_by_day_user(alloc, clock, 0, Some(until)),
+        answered => answered,
+    }
+}
+
+/// Prints how many rows there are, the seconds of all, and the last.
+fn print_sum<R: Print>(rt: &R, rows: &[DayUserTime]) -> Result<(), Stopped> {
+    let mut seconds = 0u64;
+    for row in rows {
+        seconds = seconds.saturating_add(row.seconds);
+    }
+    println!(rt; "days: {} rows, {seconds} seconds", rows.len())?;
+    if let Some(last) = rows.last() {
+        print_both(rt, &[*last])?;
+    }
+    Ok(())
+}
+
+/// Prints the rows of sessions of which one has not ended, up to these days.
+pub(crate) fn print_days<R: Print + AllocGlobal>(
+    rt: &R,
+    sessions: &Sessions,
+) -> Result<(), Stopped> {
+    let alloc = rt.alloc();
+    let far = rows_until(alloc, sessions, &Clock::utc(alloc), MANY_DAYS)?;
+    print_sum(rt, far.as_slice())?;
+    let clock = two_days(alloc)?;
+    let late = rows_until(alloc, sessions, &clock, TEN_DAYS)?;
+    print_both(rt, late.as_slice())?;
+    let long = rows_until(alloc, sessions, &clock, TWENTY_DAYS)?;
+    print_sum(rt, long.as_slice())
+}

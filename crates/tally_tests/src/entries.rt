@@ -1,0 +1,116 @@
+//! Five whole batches of process records, which are more than a summary keeps in one block.
+ghost use Rattle.std.specs.Prelude.{IfOk};
+ghost use Rattle.tally_records.specs.Records.{IsProcs};
+
+use crate::bytes::{make_record, procs};
+use crate::stopped::Stopped;
+use crate::window::{grant_growths, refuse_growths};
+use std::alloc::{AllocError, Global};
+use std::hash::RandomState;
+use tally_records::{BATCH_LIMIT, Batch, read_proc};
+use tally_usage::{ENTRY_LIMIT, ProcEntries, ProcEntry, Summary};
+
+/// How many batches there are, by three hosts in turn.
+const BATCHES: usize = 5;
+
+/// The record of a number: a call of one of three commands, with as many ticks elapsed.
+fn record(number: usize) -> [u8; 64] {
+    let [low, high, ..] = number.to_le_bytes();
+    let mut bytes = make_record(low % 2, &[1, 0, 0, 0, low, high, 0, 0, 0, 0]);
+    bytes[36] = b'a' + low % 3;
+    bytes
+}
+
+fn host_of(number: usize) -> u32 {
+    (number / BATCH_LIMIT % 3) as u32
+}
+
+/// The entry that the record of a place is to be.
+fn made(place: usize) -> Option<ProcEntry> {
+    let item = read_proc(&record(place)).ok()?;
+    Some(ProcEntry {
+        host: host_of(place),
+        item,
+    })
+}
+
+/// The bytes of a batch whose first record has a number.
+fn batch_bytes(alloc: Global, first: usize) -> Result<Vec<u8>, AllocError> {
+    let mut bytes = Vec::with_capacity(alloc, 65_536)?;
+    for at in 0..BATCH_LIMIT {
+        bytes.extend_from_slice(&record(first.saturating_add(at)))?;
+    }
+    Ok(bytes)
+}
+
+/// The batch, made again where memory was refused.
+fn batch(alloc: Global, first: usize) -> Result<Batch, Stopped>
+    ensures { IfOk result IsProcs }
+{
+    let bytes = match batch_bytes(alloc, first) {
+        Err(_) => batch_bytes(alloc, first),
+        made => made,
+    };
+    Ok(procs(alloc, bytes?.as_slice())?)
+}
+
+/// Whether the entries are the first of those that are made, at each place and in order.
+fn are_made(entries: ProcEntries<'_>, count: usize) -> bool {
+    entries.len() == count
+        && (0..count).all(|place| entries.get(place) == made(place))
+        && entries.get(count).is_none()
+        && entries
+            .iter()
+            .enumerate()
+            .all(|(place, entry)| Some(entry) == made(place))
+}
+
+/// Adds a batch, made ready again where memory was refused, which left the entries as they were; to add it takes none.
+fn add(alloc: Global, summary: &mut Summary, host: u32, batch: &Batch) -> Result<(), Stopped>
+    requires { IsProcs batch.now }
+{
+    let count = summary.entries().len();
+    if count + batch.len() > ENTRY_LIMIT {
+        return Err(Stopped::Refused("batch"));
+    }
+    if summary.prepare(host, batch).is_err() {
+        if !are_made(summary.entries(), count) {
+            return Err(Stopped::Changed("kept entries"));
+        }
+        summary.prepare(host, batch)?;
+    }
+    refuse_growths(alloc);
+    summary.add(host, batch);
+    grant_growths(alloc);
+    Ok(())
+}
+
+/// Prints whether the entries are those that are made, lent and handed out.
+fn print_entries<R: Print + AllocGlobal>(rt: &R, summary: Summary) -> Result<(), Stopped> {
+    let alloc = rt.alloc();
+    let count = BATCHES * BATCH_LIMIT;
+    refuse_growths(alloc);
+    let are_lent = are_made(summary.entries(), count);
+    let entries = summary.into_entries();
+    let are_given = are_made(entries.as_entries(), count);
+    let last = entries.get(count - 1) == made(count - 1);
+    grant_growths(alloc);
+    println!(rt; "entries: {} {are_lent} {are_given} {last}", entries.len())?;
+    Ok(())
+}
+
+/// Adds all batches.
+fn add_all(alloc: Global, summary: &mut Summary) -> Result<(), Stopped> {
+    for number in 0..BATCHES {
+        let first = number * BATCH_LIMIT;
+        add(alloc, summary, host_of(first), &batch(alloc, first)?)?;
+    }
+    Ok(())
+}
+
+/// Prints what a summary keeps of all batches.
+pub(crate) fn script<R: Print + AllocGlobal>(rt: &R, keys: RandomState) -> Result<(), Stopped> {
+    let mut summary = Summary::new(rt.alloc(), keys);
+    add_all(rt.alloc(), &mut summary)?;
+    print_entries(rt, summary)
+}

@@ -1,0 +1,171 @@
+//! The sessions that a book of running times and a night hands out: their stays one by one, and printed as sections.
+ghost use Rattle.std.specs.Prelude.{◌≡◌, ◌<◌, All, IfOk};
+ghost use Rattle.tally_book.specs.Answers.{HasDays};
+ghost use Rattle.tally_print.specs.Section.{NamesHostBelow, answer_in};
+
+use crate::book::new_book;
+use crate::reports::post_nights;
+use crate::stopped::Stopped;
+use crate::watched::Watched;
+use crate::window::{grant_growths, refuse_growths};
+use std::alloc::Global;
+use std::hash::RandomState;
+use std::io::{self, Write};
+use std::thread::Threads;
+use tally_book::{Answer, Book};
+use tally_clock::Clock;
+use tally_print::{PrintFault, Section, Table, print_all_sections, print_section_table};
+use tally_records::{List, Memory};
+use tally_sessions::{Sessions, Stay};
+
+/// A book of both, of which nothing has been asked.
+fn book(alloc: Global, keys: RandomState) -> Result<Book, Stopped>
+    ensures { IfOk result (λ b. b.callers ≡ 2) }
+{
+    let mut book = new_book(alloc, keys)?;
+    post_nights(alloc, &mut book)?;
+    Ok(book)
+}
+
+/// Its sessions, of a book that is made again where memory was refused.
+fn sessions<R: AllocGlobal + Threads + Sync>(rt: &R, keys: RandomState) -> Result<Sessions, Stopped>
+    ensures { IfOk result (λ s. s.hosts ≡ 2) }
+{
+    if let Ok(sessions) = book(rt.alloc(), keys)?.into_sessions(rt, rt.alloc(), 2) {
+        return Ok(sessions);
+    }
+    Ok(book(rt.alloc(), keys)?.into_sessions(rt, rt.alloc(), 2)?)
+}
+
+/// The stays of a host, asked for again where memory was refused.
+fn stays(alloc: Global, sessions: &Sessions, host: u32) -> Result<List<Stay>, Memory>
+    requires { host < sessions.now.hosts }
+{
+    match sessions.stays(alloc, host, None, None) {
+        Err(_) => sessions.stays(alloc, host, None, None),
+        answered => answered,
+    }
+}
+
+/// Whether the stays one by one are these, also where one is written over another.
+fn are_stays(sessions: &Sessions, host: u32, stays: &[Stay]) -> bool
+    requires { host < sessions.now.hosts }
+{
+    let count = sessions.stay_count(host);
+    let Some(mut written) = stays.first().copied() else {
+        return count == 0;
+    };
+    for place in 0..count {
+        let latest = sessions.latest_stay(host, place, None);
+        sessions.put_latest_stay(host, place, None, &mut written);
+        if written != latest || stays.get(place) != Some(&latest) {
+            return false;
+        }
+    }
+    count == stays.len()
+}
+
+/// Prints how many stays a host has, which takes no memory to see, as little as each of them.
+fn print_count<R: Print + AllocGlobal>(
+    rt: &R,
+    sessions: &Sessions,
+    host: u32,
+) -> Result<(), Stopped>
+    requires { host < sessions.now.hosts }
+{
+    let stays = stays(rt.alloc(), sessions, host)?;
+    refuse_growths(rt.alloc());
+    let are_same = are_stays(sessions, host, stays.as_slice());
+    grant_growths(rt.alloc());
+    println!(rt; "stays: {} {are_same}", stays.len())?;
+    Ok(())
+}
+
+/// Prints the sections as lines or as one table.
+fn print(
+    alloc: Global,
+    sessions: &Sessions,
+    sections: &[Section],
+    is_table: bool,
+    out: &mut Watched,
+) -> Result<(), PrintFault>
+    requires failures { out.old.kept.failures ≡ 0 }
+    requires hosts { All (NamesHostBelow sessions.now.hosts) sections.now }
+    requires days { All (λ s. HasDays (answer_in sessions.now.entries s)) sections.now }
+{
+    let clock = Clock::utc(alloc);
+    if is_table {
+        print_section_table(alloc, &clock, sessions, Table::Stays, sections, 0, out)
+    } else {
+        print_all_sections(alloc, &clock, sessions, sections, 0, out, None)
+    }
+}
+
+/// Their text, printed again where memory was refused: to the printer or to its output, which the fault tells
+/// apart. What was written then is a first part of the text. Refused twice, either fault is want of memory.
+fn text(
+    alloc: Global,
+    sessions: &Sessions,
+    sections: &[Section],
+    is_table: bool,
+) -> Result<Watched, Stopped>
+    requires hosts { All (NamesHostBelow sessions.now.hosts) sections.now }
+    requires days { All (λ s. HasDays (answer_in sessions.now.entries s)) sections.now }
+{
+    let mut first = Watched::new(alloc);
+    let Err(fault) = print(alloc, sessions, sections, is_table, &mut first) else {
+        return Ok(first);
+    };
+    let mut second = Watched::new(alloc);
+    if print(alloc, sessions, sections, is_table, &mut second).is_err() {
+        return Err(Stopped::Memory);
+    }
+    if (fault == PrintFault::Write) != first.failed {
+        return Err(Stopped::Changed("a fault of the output"));
+    }
+    if !second.kept.bytes().starts_with(first.kept.bytes()) {
+        return Err(Stopped::Changed("a text"));
+    }
+    Ok(second)
+}
+
+/// Prints the stays of both hosts, of one only the latest, and a total.
+fn print_sections<R: Print + AllocGlobal>(
+    rt: &R,
+    sessions: &Sessions,
+    is_table: bool,
+) -> Result<(), Stopped>
+    requires { sessions.now.hosts ≡ 2 }
+{
+    let sections = [
+        Section::Stays {
+            host: 1,
+            limit: None,
+            until: None,
+        },
+        Section::Stays {
+            host: 0,
+            limit: Some(2),
+            until: None,
+        },
+        Section::Answered(Answer::Connect {
+            rows: List::new(rt.alloc()),
+            total: 3600,
+        }),
+    ];
+    let printed = text(rt.alloc(), sessions, &sections, is_table)?;
+    io::writer(rt).write_all(printed.kept.bytes())?;
+    Ok(())
+}
+
+/// Prints what the sessions have, as sections too.
+pub(crate) fn script<R: Print + AllocGlobal + Threads + Sync>(
+    rt: &R,
+    keys: RandomState,
+) -> Result<(), Stopped> {
+    let sessions = sessions(rt, keys)?;
+    print_count(rt, &sessions, 0)?;
+    print_count(rt, &sessions, 1)?;
+    print_sections(rt, &sessions, false)?;
+    print_sections(rt, &sessions, true)
+}
