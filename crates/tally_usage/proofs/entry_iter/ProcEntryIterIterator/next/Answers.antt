@@ -1,4 +1,4 @@
-use Rattle.std.proofs.Common.{◌≡◌, ◌+◌, ℕ, List, ◌∷◌, drop, map, ◌∙◌, ap, sym}
+use Rattle.std.proofs.Common.{◌≡◌, ◌+◌, List, ◌∷◌, drop, ◌∙◌, ap, sym}
 use Rattle.std.proofs.lemmas.List.{drop-map}
 use Rattle.tally_usage.specs.declared.entry.ProcEntry.{ProcEntry}
 use Rattle.tally_usage.specs.declared.entry_iter.ProcEntryIter.{ProcEntryIter}
