@@ -7,6 +7,7 @@ use std::alloc::Global;
 use std::hash::RandomState;
 use std::process::Abort;
 use std::test::Fail;
+use std::thread::Threads;
 use tally_book::{Answer, Book};
 use tally_clock::Clock;
 use tally_print::{
@@ -32,9 +33,10 @@ fn record(kind: u8, line: &[u8], user: &[u8], time: i32) -> [u8; 384] {
     bytes
 }
 
-/// A book of two hosts: of one a running time with a login in it, of the other two logins, of which one has not ended.
-fn book(alloc: Global, keys: RandomState) -> Result<Book, Fail>
-    ensures { IfOk result (λ b. b.callers ≡ 2) }
+/// Posts for one host a running time with a login in it, for the other two logins, of which one has not ended.
+fn post_both(alloc: Global, book: &mut Book) -> Result<(), Fail>
+    requires { book.old.callers ≡ 2 }
+    ensures { book.new.callers ≡ 2 }
 {
     let boot = [
         record(2, b"~", b"reboot", 100),
@@ -46,10 +48,18 @@ fn book(alloc: Global, keys: RandomState) -> Result<Book, Fail>
         record(7, b"tty2", b"bob", 0),
         record(8, b"tty1", b"", 90_000),
     ];
-    let mut book = Book::new(alloc, keys, 2)?;
     book.post(0, &Batch::logins(alloc, boot.as_flattened())?)?;
     book.post(1, &Batch::logins(alloc, logins.as_flattened())?)?;
-    Ok(book)
+    Ok(())
+}
+
+/// The sessions of both.
+fn sessions<R: AllocGlobal + Threads + Sync>(rt: &R, keys: RandomState) -> Result<Sessions, Fail>
+    ensures { IfOk result (λ s. s.hosts ≡ 2) }
+{
+    let mut book = Book::new(rt.alloc(), keys, 2)?;
+    post_both(rt.alloc(), &mut book)?;
+    Ok(book.into_sessions(rt, rt.alloc(), 2)?)
 }
 
 /// Asserts that a section of stays is printed as the list of these.
@@ -138,10 +148,16 @@ fn expect_sections(
     Ok(())
 }
 
+/// The same, with sessions that have not ended up to the last record and up to a moment after it.
+fn expect_both(rt: &impl Abort, alloc: Global, sessions: &Sessions) -> Result<(), Fail>
+    requires { sessions.now.hosts ≡ 2 }
+{
+    expect_sections(rt, alloc, sessions, None, 0)?;
+    expect_sections(rt, alloc, sessions, Some(200_000), -330)
+}
+
 #[test]
 fn sections_of_stays_are_printed_as_lists_of_them(rt: HostRuntime) -> Result<(), Fail> {
-    let book = book(rt.alloc(), RandomState::new(&rt)?)?;
-    let sessions = book.into_sessions(&rt, rt.alloc(), 2)?;
-    expect_sections(&rt, rt.alloc(), &sessions, None, 0)?;
-    expect_sections(&rt, rt.alloc(), &sessions, Some(200_000), -330)
+    let sessions = sessions(&rt, RandomState::new(&rt)?)?;
+    expect_both(&rt, rt.alloc(), &sessions)
 }
