@@ -69,10 +69,6 @@ fn push_time(line: &mut Vec<u8>, time: i32) -> Result<(), AllocError>
 fn push_file(line: &mut Vec<u8>, host: u32) -> Result<(), AllocError>
     ensures { OnOk result (line.new.items ≡ line.old.items ++ decimal (host + 1)) }
 {
-    if host < 9 {
-        line.push(b'1' + host as u8)?;
-        return Ok(());
-    }
     push_number(line, u64::from(host) + 1)
 }
 

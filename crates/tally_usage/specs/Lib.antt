@@ -2,6 +2,7 @@ pub mod Command
 pub mod Entries
 pub mod Kept
 pub mod Laws
+pub mod Lent
 pub mod Order
 pub mod Summary
 pub mod Totals

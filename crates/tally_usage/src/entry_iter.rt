@@ -1,7 +1,6 @@
 //! Going over stored process records.
 ghost use Rattle.std.specs.Prelude.{◌≡◌};
-ghost use Rattle.std.specs.Iterator.{YieldsFirst, item_count};
-ghost use Rattle.tally_usage.specs.Entries.{entries_in, entries_left};
+ghost use Rattle.tally_usage.specs.Lent.{Left, Left-prop};
 
 use crate::entry::{ProcEntries, ProcEntry};
 
@@ -10,9 +9,13 @@ use crate::entry::{ProcEntries, ProcEntry};
 pub struct ProcEntryIter<'a> {
     entries: ProcEntries<'a>,
     next: usize,
+    ghost kept: { Left entries.kept.now next } by { Left-prop entries.kept.now next },
 }
 
 impl<'a> Iterator for ProcEntryIter<'a> {
+    ghost use Rattle.std.specs.Iterator.{YieldsFirst, item_count};
+    ghost use Rattle.tally_usage.specs.Entries.{entries_left};
+
     type Item = ProcEntry;
 
     ghost next_gives = { YieldsFirst entries_left };
@@ -34,6 +37,8 @@ impl<'a> Iterator for ProcEntryIter<'a> {
 }
 
 impl<'a> ProcEntries<'a> {
+    ghost use Rattle.tally_usage.specs.Entries.{entries_in, entries_left};
+
     /// Goes over the entries, whose numbers are worked out one by one.
     pub fn iter(self) -> ProcEntryIter<'a>
         ensures { entries_left result ≡ entries_in self.entry }

@@ -8,9 +8,13 @@ ghost use Rattle.tally_sessions.specs.Days.{IsOffset, local};
 ghost use Rattle.tally_cli.specs.Output.{form_text, table_of};
 
 use std::alloc::Global;
+use tally_book::Answer;
 use tally_clock::Clock;
 use tally_line::{Form, Job, Report};
-use tally_print::{Output, PrintFault, Section, Table, print_all_sections, print_section_table};
+use tally_print::{
+    Output, PrintFault, Section, Table, print_all_sections, print_section_table, print_sections,
+    print_table,
+};
 use tally_sessions::Sessions;
 
 /// The table that a report is as CSV.
@@ -23,6 +27,27 @@ fn table_of(report: Report) -> Option<Table>
         Report::Commands { .. } => Some(Table::Commands),
         Report::Users { .. } => Some(Table::Users),
         Report::All => None,
+    }
+}
+
+/// Prints the answers to a job's questions in its form, in the time of a clock.
+pub(crate) fn print_answers<O: Output>(
+    alloc: Global,
+    clock: &Clock,
+    job: &Job,
+    answers: &[Answer],
+    out: &mut O,
+) -> Result<(), PrintFault>
+    requires writable { IsWritable (O.state out.old) }
+    requires offset { IsOffset job.now.offset }
+    requires days { All HasDays answers.now }
+    ensures writes { Prints (O.state out.old) (O.state out.new) result (failed_calls result)
+        (form_text job.now.form job.now.report (local clock.now job.now.offset) job.now.until answers.now) }
+{
+    match (job.form, table_of(job.report)) {
+        (Form::Text, _) => { print_sections(alloc, clock, answers, job.offset, out, job.until) },
+        (Form::Csv, Some(table)) => { print_table(alloc, clock, table, answers, job.offset, out) },
+        (Form::Csv, None) => Ok(()),
     }
 }
 

@@ -11,16 +11,67 @@ ghost use Rattle.tally_sessions.specs.Days.{IsOffset, local};
 ghost use Rattle.tally_print.specs.Section.{NamesHostBelow, answer_in};
 
 use crate::fault::RunFault;
-use crate::running::forms::print_report;
-use crate::running::sections::{questions_of, sections_for};
+use crate::running::forms::{print_answers, print_report};
+use crate::running::sections::{answers_to, questions_of, sections_for};
 use std::alloc::Global;
 use std::thread::Threads;
-use tally_book::Book;
+use tally_book::{Answer, Book};
 use tally_clock::Clock;
-use tally_line::Job;
+use tally_line::{Job, Report};
 use tally_print::{Output, PrintFault, Section};
 use tally_records::{Kind, Memory};
 use tally_sessions::{HOST_LIMIT, Sessions};
+
+/// Whether a report of files of these kinds has stays.
+fn has_stays(report: Report, kinds: &[Kind]) -> bool {
+    match report {
+        Report::Last { .. } => true,
+        Report::All => kinds.contains(&Kind::Login),
+        Report::Connect { .. } | Report::Commands { .. } | Report::Users { .. } => false,
+    }
+}
+
+/// The answers that the job's report prints, of a book of which each file is a host.
+fn answers_in<R: Threads + Sync>(
+    rt: &R,
+    alloc: Global,
+    job: &Job,
+    kinds: &[Kind],
+    book: &mut Book,
+) -> Result<Vec<Answer>, Memory>
+    requires runnable { IsRunnable job.now }
+    requires hosts { length kinds.now ≤ book.old.callers }
+    requires few { book.old.callers ≤ HOST_LIMIT }
+    requires some { 0 < book.old.callers }
+    requires calls { length book.old.calls ≤ 4224 }
+    ensures value { IfOk result (λ answers. answers.items ≡ map (λ q. answer_of book.old.clock q book.old.logins book.old.procs)
+        (questions_of job.now.report job.now.offset kinds.now job.now.until)) }
+    ensures days { IfOk result (λ answers. All HasDays answers.items) }
+{
+    book.count_sessions(rt, alloc, job.feeders)?;
+    let questions = questions_of(alloc, job, kinds)?;
+    answers_to(alloc, book, questions.as_slice())
+}
+
+/// The same, and lets the book go.
+fn answers_of<R: Threads + Sync>(
+    rt: &R,
+    alloc: Global,
+    job: &Job,
+    kinds: &[Kind],
+    mut book: Book,
+) -> Result<Vec<Answer>, Memory>
+    requires runnable { IsRunnable job.now }
+    requires hosts { length kinds.now ≤ book.callers }
+    requires few { book.callers ≤ HOST_LIMIT }
+    requires some { 0 < book.callers }
+    requires calls { length book.calls ≤ 4224 }
+    ensures value { IfOk result (λ answers. answers.items ≡ map (λ q. answer_of book.clock q book.logins book.procs)
+        (questions_of job.now.report job.now.offset kinds.now job.now.until)) }
+    ensures days { IfOk result (λ answers. All HasDays answers.items) }
+{
+    answers_in(rt, alloc, job, kinds, &mut book)
+}
 
 /// The sections of the job's report, of a book of which each file is a host.
 fn sections_in<R: Threads + Sync>(
@@ -89,7 +140,8 @@ fn print_and_drop<O: Output>(
     print_report(alloc, clock, job, &sessions, sections.as_slice(), out)
 }
 
-/// Prints the job's report of the book, of which each file is a host, in the time of the book's clock.
+/// Prints the job's report of the book, of which each file is a host, in the time of the book's clock. Where it has no stays,
+/// the book has been let go before anything is printed.
 pub(crate) fn report<R: Threads + Sync, O: Output>(
     rt: &R,
     alloc: Global,
@@ -110,8 +162,13 @@ pub(crate) fn report<R: Threads + Sync, O: Output>(
         (report_text clock.now job.now kinds.now book.logins book.procs) }
     ensures cause { IfErr result IsPrintFault }
 {
-    let (sections, sessions) = sections_of(rt, alloc, job, kinds, book)?;
-    print_and_drop(alloc, clock, job, sessions, sections, out)?;
+    if has_stays(job.report, kinds) {
+        let (sections, sessions) = sections_of(rt, alloc, job, kinds, book)?;
+        print_and_drop(alloc, clock, job, sessions, sections, out)?;
+    } else {
+        let answers = answers_of(rt, alloc, job, kinds, book)?;
+        print_answers(alloc, clock, job, answers.as_slice(), out)?;
+    }
     Ok(())
 }
 

@@ -136,6 +136,28 @@ fn answer_to(alloc: Global, book: &mut Book, question: &Question) -> Result<Answ
     }
 }
 
+/// The answers to the questions, of a book that can take as many calls more.
+pub(crate) fn answers_to(
+    alloc: Global,
+    book: &mut Book,
+    questions: &[Question],
+) -> Result<Vec<Answer>, Memory>
+    requires caller { 0 < book.old.callers }
+    requires askable { All IsAskable questions.now }
+    requires hosts { All (NamesHostBelow book.old.callers) questions.now }
+    requires room { length book.old.calls + length questions.now ≤ CALL_LIMIT }
+    ensures value { IfOk result (λ answers. answers.items
+        ≡ map (λ q. answer_of book.old.clock q book.old.logins book.old.procs) questions.now) }
+    ensures days { IfOk result (λ answers. All HasDays answers.items) }
+{
+    let mut answers = Vec::with_capacity(alloc, questions.len())?;
+    for index in 0..questions.len() {
+        let answer = answer_to(alloc, book, &questions[index])?;
+        answers.push_reserved(answer);
+    }
+    Ok(answers)
+}
+
 /// The section for one question, of a book that can take the call: stays are looked up only when they are printed.
 fn section_for(alloc: Global, book: &mut Book, question: &Question) -> Result<Section, Memory>
     requires caller { 0 < book.old.callers }

@@ -20,10 +20,14 @@ use tally_records::Memory;
 /// A stay on more days than this may have a row of a clock whole, if the rows are no shorter than is usual.
 const DAYS_OF_A_LONG_STAY: usize = 14;
 
-/// How many cells a table may have for each stay, and how many more.
+/// How many cells a table may have for each stay.
 const CELLS_FOR_A_STAY: usize = 2;
 
-const CELLS_FOR_NO_STAY: usize = 4096;
+/// How many more it may have: so many for each of a few stays, so that a few on days far apart have none.
+const FREE_CELLS_FOR_A_STAY: usize = 64;
+
+/// How many more at most.
+const MOST_FREE_CELLS: usize = 4096;
 
 /// How many cells there have to be for each user of a host.
 const CELLS_FOR_A_USER: usize = 4;
@@ -122,7 +126,9 @@ impl Extent {
     fn most_cells(&self) -> usize
         ensures { result ≤ 2_101_248 }
     {
-        self.stays.min(ENTRY_LIMIT) * CELLS_FOR_A_STAY + CELLS_FOR_NO_STAY
+        let stays = self.stays.min(ENTRY_LIMIT);
+        let free = (stays * FREE_CELLS_FOR_A_STAY).min(MOST_FREE_CELLS);
+        stays * CELLS_FOR_A_STAY + free
     }
 
     /// The days of a table, with two more at both ends for local time. There is none where the stays
@@ -201,7 +207,7 @@ impl Sessions {
     pub(crate) fn extent(&self, clock: &Clock, until: Option<i32>) -> Extent {
         let entries = self.entries();
         let mut extent = Extent::none();
-        for host in 0..HOST_LIMIT {
+        for host in 0..self.hosts {
             extent = self.with_stays(entries, host, clock, until, extent);
         }
         extent
@@ -210,7 +216,7 @@ impl Sessions {
     /// The most users that a host has.
     pub(crate) fn most_users(&self) -> usize {
         let mut most = 0;
-        for track in &self.tracks {
+        for track in self.tracks.iter().take(self.hosts as usize) {
             most = track.sums.users.len().max(most);
         }
         most
@@ -219,7 +225,7 @@ impl Sessions {
     /// How many users the hosts have together, one of several hosts as often.
     pub(crate) fn host_users(&self) -> usize {
         let mut count = 0usize;
-        for track in &self.tracks {
+        for track in self.tracks.iter().take(self.hosts as usize) {
             count = count.saturating_add(track.sums.users.len());
         }
         count
@@ -230,7 +236,7 @@ impl Sessions {
         ensures { IfOk result (λ users. IsStrictlySortedBy (slice_cmp nat_cmp) users.items) }
     {
         let mut users = Vec::with_capacity(alloc, self.host_users())?;
-        for track in &self.tracks {
+        for track in self.tracks.iter().take(self.hosts as usize) {
             track.push_users(&mut users)?;
         }
         users.sort_unstable();
