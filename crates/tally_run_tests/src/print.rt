@@ -12,6 +12,7 @@ use tally_usage::{CommandRow, Usage};
 mod connect;
 mod last;
 mod outputs;
+mod sections;
 mod tables;
 mod usage;
 

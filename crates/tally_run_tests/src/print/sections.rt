@@ -1,0 +1,163 @@
+//! Sections of stays, beside the printers of the answers that they stand for.
+ghost use Rattle.std.specs.Prelude.{◌≡◌, ◌<◌, IfOk};
+ghost use Rattle.tally_sessions.specs.Days.{IsOffset};
+
+use super::is_printed;
+use std::alloc::Global;
+use std::hash::RandomState;
+use std::process::Abort;
+use std::test::Fail;
+use std::thread::Threads;
+use tally_book::{Answer, Book};
+use tally_clock::Clock;
+use tally_print::{
+    Kept, Section, Table, print_all_sections, print_last, print_section_table, print_table,
+};
+use tally_records::Batch;
+use tally_sessions::Sessions;
+
+/// Writes a text into the bytes of a record at a place.
+fn put(bytes: &mut [u8; 384], at: usize, text: &[u8]) {
+    for (to, from) in bytes.iter_mut().skip(at).zip(text) {
+        *to = *from;
+    }
+}
+
+/// The login record of these fields.
+fn record(kind: u8, line: &[u8], user: &[u8], time: i32) -> [u8; 384] {
+    let mut bytes = [0; 384];
+    bytes[0] = kind;
+    put(&mut bytes, 8, line);
+    put(&mut bytes, 44, user);
+    put(&mut bytes, 340, &time.to_le_bytes());
+    bytes
+}
+
+/// Posts for one host a running time with a login in it, for the other two logins, of which one has not ended.
+fn post_both(alloc: Global, book: &mut Book) -> Result<(), Fail>
+    requires { book.old.callers ≡ 2 }
+    ensures { book.new.callers ≡ 2 }
+{
+    let boot = [
+        record(2, b"~", b"reboot", 100),
+        record(7, b"tty1", b"ann", 200),
+        record(1, b"~", b"shutdown", 1000),
+    ];
+    let logins = [
+        record(7, b"tty1", b"a,\"b", -200),
+        record(7, b"tty2", b"bob", 0),
+        record(8, b"tty1", b"", 90_000),
+    ];
+    book.post(0, &Batch::logins(alloc, boot.as_flattened())?)?;
+    book.post(1, &Batch::logins(alloc, logins.as_flattened())?)?;
+    Ok(())
+}
+
+/// The sessions of both.
+fn sessions<R: AllocGlobal + Threads + Sync>(rt: &R, keys: RandomState) -> Result<Sessions, Fail>
+    ensures { IfOk result (λ s. s.hosts ≡ 2) }
+{
+    let mut book = Book::new(rt.alloc(), keys, 2)?;
+    post_both(rt.alloc(), &mut book)?;
+    Ok(book.into_sessions(rt, rt.alloc(), 2)?)
+}
+
+/// Asserts that a section of stays is printed as the list of these.
+fn expect_lines(
+    rt: &impl Abort,
+    alloc: Global,
+    sessions: &Sessions,
+    host: u32,
+    limit: Option<u32>,
+    until: Option<i32>,
+    offset: i32,
+) -> Result<(), Fail>
+    requires host { host < sessions.now.hosts }
+    requires offset { IsOffset offset }
+{
+    let utc = Clock::utc(alloc);
+    let rows = sessions.stays(alloc, host, limit, until)?;
+    let first = sessions.first(host);
+    let mut wanted = Kept::new(alloc);
+    print_last(
+        alloc,
+        &utc,
+        rows.as_slice(),
+        first,
+        offset,
+        &mut wanted,
+        until,
+    )?;
+    let section = Section::Stays { host, limit, until };
+    let mut out = Kept::new(alloc);
+    let printed = print_all_sections(alloc, &utc, sessions, &[section], offset, &mut out, until);
+    is_printed(rt, printed, &out, wanted.bytes());
+    Ok(())
+}
+
+/// Asserts that it is the same table.
+fn expect_table(
+    rt: &impl Abort,
+    alloc: Global,
+    sessions: &Sessions,
+    host: u32,
+    limit: Option<u32>,
+    until: Option<i32>,
+    offset: i32,
+) -> Result<(), Fail>
+    requires host { host < sessions.now.hosts }
+    requires offset { IsOffset offset }
+{
+    let utc = Clock::utc(alloc);
+    let rows = sessions.stays(alloc, host, limit, until)?;
+    let answer = Answer::Last { rows, first: None };
+    let mut wanted = Kept::new(alloc);
+    print_table(alloc, &utc, Table::Stays, &[answer], offset, &mut wanted)?;
+    let section = Section::Stays { host, limit, until };
+    let mut out = Kept::new(alloc);
+    let printed = print_section_table(
+        alloc,
+        &utc,
+        sessions,
+        Table::Stays,
+        &[section],
+        offset,
+        &mut out,
+    );
+    is_printed(rt, printed, &out, wanted.bytes());
+    Ok(())
+}
+
+/// Asserts that the stays of both hosts are printed so, up to each limit.
+fn expect_sections(
+    rt: &impl Abort,
+    alloc: Global,
+    sessions: &Sessions,
+    until: Option<i32>,
+    offset: i32,
+) -> Result<(), Fail>
+    requires hosts { sessions.now.hosts ≡ 2 }
+    requires offset { IsOffset offset }
+{
+    for host in 0..2 {
+        for limit in [None, Some(1), Some(2)] {
+            expect_lines(rt, alloc, sessions, host, limit, until, offset)?;
+            expect_table(rt, alloc, sessions, host, limit, until, offset)?;
+        }
+    }
+    Ok(())
+}
+
+/// The same, with sessions that have not ended up to the last record and up to a moment after it.
+fn expect_both(rt: &impl Abort, alloc: Global, sessions: &Sessions) -> Result<(), Fail>
+    requires { sessions.now.hosts ≡ 2 }
+{
+    expect_sections(rt, alloc, sessions, None, 0)?;
+    expect_sections(rt, alloc, sessions, Some(200_000), -330)
+}
+
+#[test]
+fn sections_of_stays_are_printed_as_lists_of_them(rt: HostRuntime) -> Result<(), Fail> {
+    let sessions = sessions(&rt, RandomState::new(&rt)?)?;
+    expect_both(&rt, rt.alloc(), &sessions)
+}
