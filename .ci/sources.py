@@ -28,7 +28,7 @@ class Function:
                 break
         ends = (indent + '}', indent + '{}')
         has_body = not lines[end].endswith(';')
-        self.last = next((k for k in range(end, len(lines)) if lines[k] in ends or lines[k].endswith(' {}')), end) if has_body else end
+        self.last = next((k for k in range(end, len(lines)) if lines[k] in ends or k == end and lines[k].endswith(' {}')), end) if has_body else end
 
     def title(self):
         return f'{self.type}::{self.name}' if self.type else self.name
