@@ -1,4 +1,4 @@
-//! Tests of records, sessions, usage sums and the book: worked examples, slow programs beside the quick ones, and limits.
+//! Tests of records, sessions and the book: worked examples, a slow program beside the quick one, and limits.
 #![tactic(auto)]
 
 #[cfg(test)]
@@ -7,5 +7,3 @@ mod book;
 mod records;
 #[cfg(test)]
 mod sessions;
-#[cfg(test)]
-mod usage;
