@@ -1,9 +1,7 @@
-//! Tests of records, sessions and the book: worked examples, a slow program beside the quick one, and limits.
+//! Tests of records and the book: worked examples, each public function once, and limits.
 #![tactic(auto)]
 
 #[cfg(test)]
 mod book;
 #[cfg(test)]
 mod records;
-#[cfg(test)]
-mod sessions;
