@@ -1,12 +1,8 @@
 //! The rows by command, worked by hand.
-use super::{
-    BELL, EXECUTED, FORKED, MAKE, OTHER, commands_of, makes, proc_record, row, summary_of,
-};
-use std::alloc::Global;
+use super::{BELL, EXECUTED, FORKED, MAKE, OTHER, Wanted, expect, makes, proc_record, row};
 use std::hash::RandomState;
-use std::process::Abort;
 use std::test::Fail;
-use tally_usage::{CommandRow, Order, Summary, Usage};
+use tally_usage::{CommandRow, Order, Usage};
 
 /// The rows of the three runs of make, where a command of one run is joined to the others.
 fn joined() -> [CommandRow; 2] {
@@ -16,70 +12,47 @@ fn joined() -> [CommandRow; 2] {
     ]
 }
 
-/// Asserts that these are the rows by command.
-fn expect_commands(
-    rt: &impl Abort,
-    alloc: Global,
-    summary: &Summary,
-    order: Order,
-    flags: [bool; 2],
-    rows: &[CommandRow],
-) -> Result<(), Fail> {
-    let found = commands_of(alloc, summary, order, flags)?;
-    assert!(rt; found.as_slice() == rows);
-    Ok(())
-}
-
 #[test]
 fn a_command_of_one_run_is_joined_to_the_others(rt: HostRuntime) -> Result<(), Fail> {
-    let summary = summary_of(&rt, rt.alloc(), RandomState::new(&rt)?, &makes())?;
-    expect_commands(
-        &rt,
-        rt.alloc(),
-        &summary,
-        Order::Cpu,
-        [false, false],
-        &joined(),
-    )
+    let keys = RandomState::new(&rt)?;
+    let rows = joined();
+    let wanted = Wanted::Commands(Order::Cpu, [false, false], &rows);
+    expect(&rt, rt.alloc(), keys, &makes(), wanted)
 }
 
 #[test]
 fn the_command_of_most_calls_comes_first(rt: HostRuntime) -> Result<(), Fail> {
+    let keys = RandomState::new(&rt)?;
     let [executed, forked] = joined();
     let rows = [forked, executed];
-    let summary = summary_of(&rt, rt.alloc(), RandomState::new(&rt)?, &makes())?;
-    expect_commands(
-        &rt,
-        rt.alloc(),
-        &summary,
-        Order::Calls,
-        [false, false],
-        &rows,
-    )
+    let wanted = Wanted::Commands(Order::Calls, [false, false], &rows);
+    expect(&rt, rt.alloc(), keys, &makes(), wanted)
 }
 
 #[test]
 fn a_reversed_answer_is_the_reversed_list(rt: HostRuntime) -> Result<(), Fail> {
+    let keys = RandomState::new(&rt)?;
     let [executed, forked] = joined();
     let rows = [forked, executed];
-    let summary = summary_of(&rt, rt.alloc(), RandomState::new(&rt)?, &makes())?;
-    expect_commands(&rt, rt.alloc(), &summary, Order::Cpu, [false, true], &rows)
+    let wanted = Wanted::Commands(Order::Cpu, [false, true], &rows);
+    expect(&rt, rt.alloc(), keys, &makes(), wanted)
 }
 
 #[test]
 fn all_commands_keep_their_names(rt: HostRuntime) -> Result<(), Fail> {
+    let keys = RandomState::new(&rt)?;
     let rows = [
         row(MAKE, false, false, EXECUTED),
         row(MAKE, true, false, FORKED),
     ];
-    let summary = summary_of(&rt, rt.alloc(), RandomState::new(&rt)?, &makes())?;
-    expect_commands(&rt, rt.alloc(), &summary, Order::Cpu, [true, false], &rows)
+    let wanted = Wanted::Commands(Order::Cpu, [true, false], &rows);
+    expect(&rt, rt.alloc(), keys, &makes(), wanted)
 }
 
 #[test]
 fn commands_that_do_not_print_are_joined(rt: HostRuntime) -> Result<(), Fail> {
+    let keys = RandomState::new(&rt)?;
     let bell = proc_record(0, 0, [0, 0, 1, 7, 2], BELL);
-    let summary = summary_of(&rt, rt.alloc(), RandomState::new(&rt)?, &[bell, bell])?;
     let usage = Usage {
         count: 2,
         real: 2,
@@ -88,5 +61,6 @@ fn commands_that_do_not_print_are_joined(rt: HostRuntime) -> Result<(), Fail> {
         mem_cpu: 0,
     };
     let rows = [row(OTHER, false, true, usage)];
-    expect_commands(&rt, rt.alloc(), &summary, Order::Cpu, [false, false], &rows)
+    let wanted = Wanted::Commands(Order::Cpu, [false, false], &rows);
+    expect(&rt, rt.alloc(), keys, &[bell, bell], wanted)
 }
