@@ -1,10 +1,11 @@
 //! Lists that follow no rule, compared with the scan.
-ghost use Rattle.std.specs.Prelude.{◌≡◌, ◌<◌, IfOk};
+ghost use Rattle.std.specs.Prelude.{◌≡◌, ◌<◌, OnOk};
 
 use crate::sessions::scripts::post_below;
 use crate::sessions::{login_record, scan};
 use std::alloc::Global;
 use std::hash::RandomState;
+use std::process::Abort;
 use std::test::Fail;
 use tally_sessions::{Entry, Sessions};
 
@@ -58,46 +59,87 @@ impl Numbers {
     }
 }
 
-/// The sessions of up to 60 records.
-fn drawn(alloc: Global, keys: RandomState, numbers: &mut Numbers) -> Result<Sessions, Fail>
-    ensures { IfOk result (λ s. s.hosts ≡ 3) }
+/// Posts up to 60 records.
+fn post_drawn(alloc: Global, sessions: &mut Sessions, numbers: &mut Numbers) -> Result<(), Fail>
+    requires { sessions.old.hosts ≡ 3 }
+    ensures { OnOk result (sessions.new.hosts ≡ 3) }
 {
-    let mut sessions = Sessions::new(alloc, keys, 3)?;
     let mut now = 0i32;
     for _record in 0..numbers.below(61) {
         now = numbers.time_after(now);
         let host = numbers.below(3);
-        post_below(alloc, &mut sessions, &(host, numbers.record(now)))?;
+        post_below(alloc, sessions, &(host, numbers.record(now)))?;
     }
-    Ok(sessions)
+    Ok(())
 }
 
-/// Whether the stays of each host, and the total, are those of the scan.
-fn agrees(alloc: Global, sessions: &Sessions, until: Option<i32>) -> Result<bool, Fail>
+/// Whether the stays of a host are those of the scan.
+fn agrees_at(
+    alloc: Global,
+    sessions: &Sessions,
+    entries: &[Entry],
+    host: u32,
+    until: Option<i32>,
+) -> Result<bool, Fail>
+    requires { host < sessions.now.hosts }
+{
+    let found = sessions.stays(alloc, host, None, until)?;
+    let wanted = scan::stays(alloc, entries, host, until)?;
+    Ok(found.as_slice() == wanted.as_slice())
+}
+
+/// Asserts that the stays of each host, and the total, are those of the scan over these entries.
+fn expect_scanned(
+    rt: &impl Abort,
+    alloc: Global,
+    sessions: &Sessions,
+    entries: &[Entry],
+    list: u32,
+) -> Result<(), Fail>
+    requires { sessions.now.hosts ≡ 3 }
+{
+    for until in [None, Some(i32::MIN), Some(1500)] {
+        for host in 0..3 {
+            let agrees = agrees_at(alloc, sessions, entries, host, until)?;
+            assert!(rt; agrees, "list {list}, host {host} until {until:?}");
+        }
+        let total = sessions.total(until) == scan::total(entries, until);
+        assert!(rt; total, "total of list {list} until {until:?}");
+    }
+    Ok(())
+}
+
+/// The same of their own entries.
+fn expect_agreement(
+    rt: &impl Abort,
+    alloc: Global,
+    sessions: &Sessions,
+    list: u32,
+) -> Result<(), Fail>
     requires { sessions.now.hosts ≡ 3 }
 {
     let entries: Vec<Entry> = sessions.entries().iter().collect(alloc)?;
-    for host in 0..3 {
-        let found = sessions.stays(alloc, host, None, until)?;
-        let wanted = scan::stays(alloc, &entries, host, until)?;
-        if found.as_slice() != wanted.as_slice() {
-            return Ok(false);
-        }
-    }
-    Ok(sessions.total(until) == scan::total(&entries, until))
+    expect_scanned(rt, alloc, sessions, &entries, list)
+}
+
+/// The same of the sessions of the next list.
+fn draw(
+    rt: &impl Abort,
+    alloc: Global,
+    keys: RandomState,
+    numbers: &mut Numbers,
+    list: u32,
+) -> Result<(), Fail> {
+    let mut sessions = Sessions::new(alloc, keys, 3)?;
+    post_drawn(alloc, &mut sessions, numbers)?;
+    expect_agreement(rt, alloc, &sessions, list)
 }
 
 #[test]
 fn sessions_are_those_of_a_scan_of_the_whole_list(rt: HostRuntime) -> Result<(), Fail> {
     let mut numbers = Numbers { state: 1 };
     for list in 0..300 {
-        let sessions = drawn(rt.alloc(), RandomState::new(&rt)?, &mut numbers)?;
-        for until in [None, Some(i32::MIN), Some(1500)] {
-            assert!(rt;
-                agrees(rt.alloc(), &sessions, until)?,
-                "list {list} until {until:?}"
-            );
-        }
+        draw(&rt, rt.alloc(), RandomState::new(&rt)?, &mut numbers, list)?;
     }
     Ok(())
 }

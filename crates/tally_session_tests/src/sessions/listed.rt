@@ -16,23 +16,39 @@ fn listed(alloc: Global, keys: RandomState, script: &str) -> Result<EntryList, F
     Ok(played(alloc, keys, script)?.into_entries())
 }
 
+/// How many stays a host has.
+fn count(alloc: Global, sessions: &Sessions, host: u32) -> Result<u64, Fail>
+    requires { host < sessions.now.hosts }
+{
+    Ok(sessions.stays(alloc, host, None, None)?.len() as u64)
+}
+
 /// How many stays each of three hosts has, and the seconds of all.
 fn numbers(alloc: Global, sessions: &Sessions) -> Result<[u64; 4], Fail>
     requires { sessions.now.hosts ≡ 3 }
 {
-    let first = sessions.stays(alloc, 0, None, None)?.len() as u64;
-    let second = sessions.stays(alloc, 1, None, None)?.len() as u64;
-    let third = sessions.stays(alloc, 2, None, None)?.len() as u64;
-    Ok([first, second, third, sessions.total(None)])
+    Ok([
+        count(alloc, sessions, 0)?,
+        count(alloc, sessions, 1)?,
+        count(alloc, sessions, 2)?,
+        sessions.total(None),
+    ])
+}
+
+/// The same of sessions that a list has made.
+fn numbers_of(alloc: Global, made: Result<Sessions, EntryList>) -> Result<[u64; 4], Fail>
+    requires { IfOk made (λ s. s.hosts ≡ 3) }
+{
+    match made {
+        Ok(sessions) => numbers(alloc, &sessions),
+        Err(_) => Err(Fail::new("out of memory")),
+    }
 }
 
 /// The numbers of the sessions of a list.
 fn counted(alloc: Global, keys: RandomState, script: &str) -> Result<[u64; 4], Fail> {
     let list = listed(alloc, keys, script)?;
-    match Sessions::of_entries(alloc, keys, 3, list) {
-        Ok(sessions) => numbers(alloc, &sessions),
-        Err(_) => Err(Fail::new("out of memory")),
-    }
+    numbers_of(alloc, Sessions::of_entries(alloc, keys, 3, list))
 }
 
 /// The same where four threads are allowed. So few entries are counted by one.
@@ -43,10 +59,7 @@ fn counted_by<R: Threads + Sync>(
     script: &str,
 ) -> Result<[u64; 4], Fail> {
     let list = listed(alloc, keys, script)?;
-    match Sessions::of_entries_by(rt, alloc, keys, 3, list, 4) {
-        Ok(sessions) => numbers(alloc, &sessions),
-        Err(_) => Err(Fail::new("out of memory")),
-    }
+    numbers_of(alloc, Sessions::of_entries_by(rt, alloc, keys, 3, list, 4))
 }
 
 /// Ann is logged in on the first host for 60 seconds, bob on the second for 90, the third starts.

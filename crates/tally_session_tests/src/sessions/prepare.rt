@@ -1,5 +1,5 @@
 //! What a refused `prepare` leaves, and what `add` changes.
-ghost use Rattle.std.specs.Prelude.{IfOk};
+ghost use Rattle.std.specs.Prelude.{◌<◌, IfOk};
 ghost use Rattle.tally_records.specs.Records.{IsLogins};
 
 use crate::sessions::name;
@@ -35,26 +35,45 @@ fn three_users(alloc: Global) -> Result<Batch, Fail>
 }
 
 /// The answers after a `prepare`, which may be refused once, and after its `add`.
-fn answers_around_add(alloc: Global, keys: RandomState) -> Result<([u64; 4], [u64; 4]), Fail> {
-    let mut sessions = played(alloc, keys, "0 in tty1 ann 0")?;
-    let batch = three_users(alloc)?;
+fn answers_around_add(
+    alloc: Global,
+    sessions: &mut Sessions,
+    batch: &Batch,
+) -> Result<([u64; 4], [u64; 4]), Fail>
+    requires host { 0 < sessions.old.hosts }
+    requires logins { IsLogins batch.now }
+{
     if batch.len() + sessions.entries().len() > 1000 {
         return Err(Fail::new("too many"));
     }
-    if sessions.prepare(0, &batch).is_err() {
-        if answers(alloc, &sessions)? != [1, 0, 0, 0] {
+    if sessions.prepare(0, batch).is_err() {
+        if answers(alloc, sessions)? != [1, 0, 0, 0] {
             return Err(Fail::new("a refused prepare changed an answer"));
         }
-        sessions.prepare(0, &batch)?;
+        sessions.prepare(0, batch)?;
     }
-    let before = answers(alloc, &sessions)?;
-    sessions.add(0, &batch);
-    Ok((before, answers(alloc, &sessions)?))
+    let before = answers(alloc, sessions)?;
+    sessions.add(0, batch);
+    Ok((before, answers(alloc, sessions)?))
+}
+
+/// The same of ann's open session.
+fn answers_of_ann(
+    alloc: Global,
+    keys: RandomState,
+    batch: &Batch,
+) -> Result<([u64; 4], [u64; 4]), Fail>
+    requires { IsLogins batch.now }
+{
+    let mut sessions = played(alloc, keys, "0 in tty1 ann 0")?;
+    answers_around_add(alloc, &mut sessions, batch)
 }
 
 #[test]
 fn prepare_changes_no_answer_and_add_does(rt: HostRuntime) -> Result<(), Fail> {
-    let around = answers_around_add(rt.alloc(), RandomState::new(&rt)?)?;
+    let keys = RandomState::new(&rt)?;
+    let batch = three_users(rt.alloc())?;
+    let around = answers_of_ann(rt.alloc(), keys, &batch)?;
     assert_eq!(rt; around, ([1, 0, 0, 0], [5, 110, 60, 3]));
     Ok(())
 }

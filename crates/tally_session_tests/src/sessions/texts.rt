@@ -1,112 +1,168 @@
-//! The answers of sessions as texts.
+//! The answers of sessions as texts, and what they must be.
 ghost use Rattle.std.specs.Prelude.{◌≡◌};
 
+use crate::sessions::name;
+use crate::sessions::scripts::played;
 use std::alloc::Global;
 use std::fmt::Write;
+use std::hash::RandomState;
+use std::process::Abort;
 use std::test::Fail;
 use tally_clock::Clock;
 use tally_records::Name;
-use tally_sessions::Sessions;
+use tally_sessions::{DayTime, DayUserTime, Sessions, Stay, UserTime};
 
-/// The text of a name.
-fn text_of(alloc: Global, name: &Name) -> Result<String, Fail> {
-    let mut text = String::new(alloc);
+/// Appends the text of a name.
+fn push_name(text: &mut String, name: &Name) -> Result<(), Fail> {
     for byte in name {
         if *byte != 0 {
             text.push(char::from(*byte))?;
         }
     }
-    Ok(text)
+    Ok(())
 }
 
-/// User, end, begin, end time and length of each stay of host 0, the latest first.
-pub(crate) fn stays_of(
-    alloc: Global,
-    sessions: &Sessions,
-    limit: Option<u32>,
-    until: Option<i32>,
-) -> Result<String, Fail>
-    requires { sessions.now.hosts ≡ 3 }
-{
-    let mut text = String::new(alloc);
-    for stay in sessions.stays(alloc, 0, limit, until)?.as_slice() {
-        let user = text_of(alloc, &stay.user)?;
+/// Appends user, end, begin, end time and length of each stay.
+fn push_stays(text: &mut String, rows: &[Stay]) -> Result<(), Fail> {
+    for stay in rows {
+        push_name(text, &stay.user)?;
         write!(
             text,
-            "{user} {:?} {} {} {};",
+            " {:?} {} {} {};",
             stay.end, stay.begin, stay.end_time, stay.length
         )?;
     }
-    Ok(text)
+    Ok(())
 }
 
-/// User and seconds of each row by user.
-pub(crate) fn users_of(
-    alloc: Global,
-    sessions: &Sessions,
-    until: Option<i32>,
-) -> Result<String, Fail> {
-    let mut text = String::new(alloc);
-    for row in sessions.connect_by_user(alloc, until)?.as_slice() {
-        write!(text, "{} {};", text_of(alloc, &row.user)?, row.seconds)?;
-    }
-    Ok(text)
+/// Appends seconds.
+fn push_seconds(text: &mut String, seconds: u64) -> Result<(), Fail> {
+    write!(text, "{seconds};")?;
+    Ok(())
 }
 
-/// Day and seconds of each row by day, of a clock with an offset in minutes.
-pub(crate) fn days_on(
-    alloc: Global,
-    sessions: &Sessions,
-    clock: &Clock,
-    offset: i32,
-    until: Option<i32>,
-) -> Result<String, Fail> {
-    if offset < -1439 || offset > 1439 {
-        return Err(Fail::new("no offset"));
+/// Appends user and seconds of each row.
+fn push_users(text: &mut String, rows: &[UserTime]) -> Result<(), Fail> {
+    for row in rows {
+        push_name(text, &row.user)?;
+        write!(text, " {};", row.seconds)?;
     }
-    let mut text = String::new(alloc);
-    for row in sessions
-        .connect_by_day(alloc, clock, offset, until)?
-        .as_slice()
-    {
+    Ok(())
+}
+
+/// Appends day and seconds of each row.
+fn push_days(text: &mut String, rows: &[DayTime]) -> Result<(), Fail> {
+    for row in rows {
         write!(text, "{} {};", row.day, row.seconds)?;
     }
-    Ok(text)
+    Ok(())
 }
 
-/// The same at an offset from UTC.
-pub(crate) fn days_of(
-    alloc: Global,
-    sessions: &Sessions,
-    offset: i32,
-    until: Option<i32>,
-) -> Result<String, Fail> {
-    days_on(alloc, sessions, &Clock::utc(alloc), offset, until)
-}
-
-/// Day, user and seconds of each row by day and user, of a clock.
-pub(crate) fn day_users_on(
-    alloc: Global,
-    sessions: &Sessions,
-    clock: &Clock,
-    until: Option<i32>,
-) -> Result<String, Fail> {
-    let mut text = String::new(alloc);
-    for row in sessions
-        .connect_by_day_user(alloc, clock, 0, until)?
-        .as_slice()
-    {
-        let user = text_of(alloc, &row.user)?;
-        write!(text, "{} {user} {};", row.day, row.seconds)?;
+/// Appends day, user and seconds of each row.
+fn push_day_users(text: &mut String, rows: &[DayUserTime]) -> Result<(), Fail> {
+    for row in rows {
+        write!(text, "{} ", row.day)?;
+        push_name(text, &row.user)?;
+        write!(text, " {};", row.seconds)?;
     }
-    Ok(text)
+    Ok(())
 }
 
-/// The same of UTC.
-pub(crate) fn day_users_of(
+/// What sessions are asked for.
+#[derive(Clone, Copy)]
+pub(crate) enum Asked<'a> {
+    /// User, end, begin, end time and length of so many stays of host 0, the latest first.
+    Stays(Option<u32>),
+    /// Seconds of all sessions.
+    Total,
+    /// Seconds of a user's sessions.
+    User(&'a str),
+    /// User and seconds of each row by user.
+    Users,
+    /// Day and seconds of each row by day, of a clock with an offset in minutes.
+    Days(&'a Clock, i32),
+    /// Day, user and seconds of each row by day and user, of a clock.
+    DayUsers(&'a Clock),
+}
+
+/// Appends the answer.
+fn push_answer(
+    alloc: Global,
+    text: &mut String,
+    sessions: &Sessions,
+    asked: Asked,
+    until: Option<i32>,
+) -> Result<(), Fail>
+    requires { sessions.now.hosts ≡ 3 }
+{
+    match asked {
+        Asked::Stays(limit) => {
+            let rows = sessions.stays(alloc, 0, limit, until)?;
+            push_stays(text, rows.as_slice())
+        }
+        Asked::Total => push_seconds(text, sessions.total(until)),
+        Asked::User(user) => push_seconds(text, sessions.connect(&name(user), until)),
+        Asked::Users => {
+            let rows = sessions.connect_by_user(alloc, until)?;
+            push_users(text, rows.as_slice())
+        }
+        Asked::Days(_, offset) if offset < -1439 || offset > 1439 => Err(Fail::new("no offset")),
+        Asked::Days(clock, offset) => {
+            let rows = sessions.connect_by_day(alloc, clock, offset, until)?;
+            push_days(text, rows.as_slice())
+        }
+        Asked::DayUsers(clock) => {
+            let rows = sessions.connect_by_day_user(alloc, clock, 0, until)?;
+            push_day_users(text, rows.as_slice())
+        }
+    }
+}
+
+/// Asserts that a text is the one that is told.
+fn expect_text(rt: &impl Abort, text: &str, told: &str, script: &str, until: Option<i32>) {
+    assert_eq!(rt; text, told, "{script} until {until:?}");
+}
+
+/// Asserts what the sessions of a script answer, up to a moment.
+fn expect_answer(
+    rt: &impl Abort,
     alloc: Global,
     sessions: &Sessions,
+    script: &str,
+    asked: Asked,
     until: Option<i32>,
-) -> Result<String, Fail> {
-    day_users_on(alloc, sessions, &Clock::utc(alloc), until)
+    told: &str,
+) -> Result<(), Fail>
+    requires { sessions.now.hosts ≡ 3 }
+{
+    let mut text = String::new(alloc);
+    push_answer(alloc, &mut text, sessions, asked, until)?;
+    expect_text(rt, text.as_str(), told, script, until);
+    Ok(())
+}
+
+/// Plays a script, and asserts what its sessions answer, up to a moment.
+pub(crate) fn expect_until(
+    rt: &impl Abort,
+    alloc: Global,
+    keys: RandomState,
+    script: &str,
+    asked: Asked,
+    until: Option<i32>,
+    told: &str,
+) -> Result<(), Fail> {
+    let sessions = played(alloc, keys, script)?;
+    expect_answer(rt, alloc, &sessions, script, asked, until, told)
+}
+
+/// The same up to the last record.
+pub(crate) fn expect(
+    rt: &impl Abort,
+    alloc: Global,
+    keys: RandomState,
+    script: &str,
+    asked: Asked,
+    told: &str,
+) -> Result<(), Fail> {
+    expect_until(rt, alloc, keys, script, asked, None, told)
 }
