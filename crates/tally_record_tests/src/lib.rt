@@ -4,4 +4,6 @@
 #[cfg(test)]
 mod book;
 #[cfg(test)]
+mod equal;
+#[cfg(test)]
 mod records;
