@@ -2,6 +2,7 @@
 use std::alloc::Global;
 use std::hash::RandomState;
 use std::process::Abort;
+use std::random::RandomSource;
 use std::test::Fail;
 use tally_records::{Batch, BatchFault, Comm, Kind, List, Memory, PROC_SIZE};
 use tally_usage::{CommandRow, ENTRY_LIMIT, Order, ProcList, Summary, UidRow, Usage};
@@ -126,37 +127,46 @@ enum Wanted<'a> {
     Users(&'a Usage, &'a [UidRow]),
 }
 
-/// Asserts that the summary answers so.
-fn expect_answer(
+/// Asserts that these rows were found.
+fn expect_rows<T: Copy + Drop + PartialEq>(
     rt: &impl Abort,
-    alloc: Global,
-    summary: &Summary,
-    wanted: Wanted,
+    found: Result<List<T>, Memory>,
+    rows: &[T],
 ) -> Result<(), Fail> {
-    match wanted {
-        Wanted::Commands(order, flags, rows) => {
-            let found = commands_of(alloc, summary, order, flags)?;
-            assert!(rt; found.as_slice() == rows);
-        }
-        Wanted::Users(total, rows) => {
-            let found = users_of(alloc, summary, Order::Cpu, false)?;
-            assert!(rt; summary.total() == *total && found.as_slice() == rows);
-        }
-    }
+    let found = found?;
+    assert!(rt; found.as_slice() == rows);
     Ok(())
 }
 
-/// Asserts that the summary of these records, posted by host 1, answers so.
-fn expect(
+/// Posts the records by host 1, and asserts that the summary answers so.
+fn expect_after(
     rt: &impl Abort,
     alloc: Global,
-    keys: RandomState,
+    summary: &mut Summary,
     records: &[[u8; PROC_SIZE]],
     wanted: Wanted,
 ) -> Result<(), Fail> {
-    let mut summary = Summary::new(alloc, keys);
-    post(rt, alloc, &mut summary, 1, records)?;
-    expect_answer(rt, alloc, &summary, wanted)
+    post(rt, alloc, summary, 1, records)?;
+    match wanted {
+        Wanted::Commands(order, flags, rows) => {
+            expect_rows(rt, commands_of(alloc, summary, order, flags), rows)
+        }
+        Wanted::Users(total, rows) => {
+            assert!(rt; summary.total() == *total);
+            expect_rows(rt, users_of(alloc, summary, Order::Cpu, false), rows)
+        }
+    }
+}
+
+/// The same of a new summary.
+fn expect<R: Abort + RandomSource>(
+    rt: &R,
+    alloc: Global,
+    records: &[[u8; PROC_SIZE]],
+    wanted: Wanted,
+) -> Result<(), Fail> {
+    let mut summary = Summary::new(alloc, RandomState::new(rt)?);
+    expect_after(rt, alloc, &mut summary, records, wanted)
 }
 
 const NONE: Usage = Usage {
@@ -193,20 +203,18 @@ const TOTAL: Usage = Usage {
 
 #[test]
 fn a_user_has_the_sum_of_all_commands(rt: HostRuntime) -> Result<(), Fail> {
-    let keys = RandomState::new(&rt)?;
     let rows = [UidRow {
         uid: 100,
         usage: TOTAL,
     }];
-    expect(&rt, rt.alloc(), keys, &makes(), Wanted::Users(&TOTAL, &rows))
+    expect(&rt, rt.alloc(), &makes(), Wanted::Users(&TOTAL, &rows))
 }
 
 #[test]
 fn no_records_have_no_rows(rt: HostRuntime) -> Result<(), Fail> {
-    let keys = RandomState::new(&rt)?;
     let commands = Wanted::Commands(Order::Cpu, [false, false], &[]);
-    expect(&rt, rt.alloc(), keys, &[], commands)?;
-    expect(&rt, rt.alloc(), keys, &[], Wanted::Users(&NONE, &[]))
+    expect(&rt, rt.alloc(), &[], commands)?;
+    expect(&rt, rt.alloc(), &[], Wanted::Users(&NONE, &[]))
 }
 
 /// Posts the three runs of make as host 1, as the last host, and as host 1 again.
@@ -219,7 +227,12 @@ fn post_thrice(rt: &impl Abort, alloc: Global, summary: &mut Summary) -> Result<
 }
 
 /// Asserts that the entries are those of the three posts, in order.
-fn expect_three_posts(rt: &impl Abort, entries: &ProcList) -> Result<(), Fail> {
+fn expect_three_posts(
+    rt: &impl Abort,
+    posted: Result<(), Fail>,
+    entries: &ProcList,
+) -> Result<(), Fail> {
+    posted?;
     assert!(rt; entries.len() == 9);
     for i in 0..entries.len() {
         let entry = entries.get(i).ok_or("an entry at each place")?;
@@ -233,6 +246,6 @@ fn expect_three_posts(rt: &impl Abort, entries: &ProcList) -> Result<(), Fail> {
 #[test]
 fn entries_are_the_batches_in_order(rt: HostRuntime) -> Result<(), Fail> {
     let mut summary = Summary::new(rt.alloc(), RandomState::new(&rt)?);
-    post_thrice(&rt, rt.alloc(), &mut summary)?;
-    expect_three_posts(&rt, &summary.into_entries())
+    let posted = post_thrice(&rt, rt.alloc(), &mut summary);
+    expect_three_posts(&rt, posted, &summary.into_entries())
 }

@@ -1,11 +1,14 @@
 //! The rows by plain filters over the list of entries, compared with those of a summary.
-use super::{BELL, MAKE, NONE, OTHER, commands_of, post, proc_record, row, users_of};
+use super::{
+    BELL, MAKE, NONE, OTHER, commands_of, expect_rows, post, proc_record, row, users_of,
+};
 use std::alloc::{AllocError, Global};
 use std::cmp::Ordering;
 use std::hash::RandomState;
 use std::process::Abort;
+use std::random::RandomSource;
 use std::test::Fail;
-use tally_records::{Comm, List, PROC_SIZE, ProcRecord};
+use tally_records::{Comm, PROC_SIZE, ProcRecord};
 use tally_usage::{CommandRow, Order, ProcEntry, Summary, UidRow, Usage};
 
 /// Adds a record. The sums of these lists are small, so nothing saturates.
@@ -116,18 +119,6 @@ fn user_rows(alloc: Global, entries: &[ProcEntry], order: Order) -> Result<Vec<U
     Ok(rows)
 }
 
-/// Asserts that these rows were found, and the same in reverse.
-fn expect_rows<T: Copy + Drop + PartialEq>(
-    rt: &impl Abort,
-    mut rows: Vec<T>,
-    found: &List<T>,
-    reversed: &List<T>,
-) {
-    assert!(rt; found.as_slice() == rows.as_slice());
-    rows.reverse();
-    assert!(rt; reversed.as_slice() == rows.as_slice());
-}
-
 /// Asserts that the rows by command are those of the filters, and the same in reverse.
 fn expect_commands(
     rt: &impl Abort,
@@ -137,11 +128,12 @@ fn expect_commands(
     order: Order,
     all: bool,
 ) -> Result<(), Fail> {
-    let rows = command_rows(alloc, entries, order, all)?;
-    let found = commands_of(alloc, summary, order, [all, false])?;
-    let reversed = commands_of(alloc, summary, order, [all, true])?;
-    expect_rows(rt, rows, &found, &reversed);
-    Ok(())
+    let mut rows = command_rows(alloc, entries, order, all)?;
+    let found = commands_of(alloc, summary, order, [all, false]);
+    expect_rows(rt, found, rows.as_slice())?;
+    rows.reverse();
+    let reversed = commands_of(alloc, summary, order, [all, true]);
+    expect_rows(rt, reversed, rows.as_slice())
 }
 
 /// The same of the rows by user.
@@ -152,11 +144,10 @@ fn expect_users(
     entries: &[ProcEntry],
     order: Order,
 ) -> Result<(), Fail> {
-    let rows = user_rows(alloc, entries, order)?;
-    let found = users_of(alloc, summary, order, false)?;
-    let reversed = users_of(alloc, summary, order, true)?;
-    expect_rows(rt, rows, &found, &reversed);
-    Ok(())
+    let mut rows = user_rows(alloc, entries, order)?;
+    expect_rows(rt, users_of(alloc, summary, order, false), rows.as_slice())?;
+    rows.reverse();
+    expect_rows(rt, users_of(alloc, summary, order, true), rows.as_slice())
 }
 
 /// Asserts that the summary of these entries answers as the filters do, in each order and with each flag.
@@ -222,15 +213,15 @@ fn post_each(rt: &impl Abort, alloc: Global, summary: &mut Summary, seed: u32) -
 }
 
 /// The same to a new summary.
-fn compare(rt: &impl Abort, alloc: Global, keys: RandomState, seed: u32) -> Result<(), Fail> {
-    let mut summary = Summary::new(alloc, keys);
+fn compare<R: Abort + RandomSource>(rt: &R, alloc: Global, seed: u32) -> Result<(), Fail> {
+    let mut summary = Summary::new(alloc, RandomState::new(rt)?);
     post_each(rt, alloc, &mut summary, seed)
 }
 
 #[test]
 fn answers_are_those_of_plain_filters(rt: HostRuntime) -> Result<(), Fail> {
     for seed in 0..12 {
-        compare(&rt, rt.alloc(), RandomState::new(&rt)?, seed)?;
+        compare(&rt, rt.alloc(), seed)?;
     }
     Ok(())
 }
