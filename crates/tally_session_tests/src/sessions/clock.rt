@@ -1,6 +1,5 @@
 //! What clock changes do to stays.
 use crate::sessions::texts::{Asked, expect};
-use std::hash::RandomState;
 use std::test::Fail;
 
 #[test]
@@ -27,8 +26,7 @@ fn clock_pair_moves_the_start(rt: HostRuntime) -> Result<(), Fail> {
             "ann Logout 1000 6000 5000;",
         ),
     ] {
-        let keys = RandomState::new(&rt)?;
-        expect(&rt, rt.alloc(), keys, script, Asked::Stays(None), told)?;
+        expect(&rt, rt.alloc(), script, Asked::Stays(None), told)?;
     }
     Ok(())
 }
@@ -49,8 +47,7 @@ fn start_is_clamped_and_a_backward_session_has_no_length(rt: HostRuntime) -> Res
             "ann Logout 0 -1000 0;",
         ),
     ] {
-        let keys = RandomState::new(&rt)?;
-        expect(&rt, rt.alloc(), keys, script, Asked::Stays(None), told)?;
+        expect(&rt, rt.alloc(), script, Asked::Stays(None), told)?;
     }
     Ok(())
 }

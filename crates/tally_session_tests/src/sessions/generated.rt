@@ -6,6 +6,7 @@ use crate::sessions::{login_record, scan};
 use std::alloc::Global;
 use std::hash::RandomState;
 use std::process::Abort;
+use std::random::RandomSource;
 use std::test::Fail;
 use tally_sessions::{Entry, Sessions};
 
@@ -88,7 +89,24 @@ fn agrees_at(
     Ok(found.as_slice() == wanted.as_slice())
 }
 
-/// Asserts that the stays of each host, and the total, are those of the scan over these entries.
+/// Whether the stays of each host, and the total, are those of the scan.
+fn agrees(
+    alloc: Global,
+    sessions: &Sessions,
+    entries: &[Entry],
+    until: Option<i32>,
+) -> Result<bool, Fail>
+    requires { sessions.now.hosts ≡ 3 }
+{
+    for host in 0..3 {
+        if !agrees_at(alloc, sessions, entries, host, until)? {
+            return Ok(false);
+        }
+    }
+    Ok(sessions.total(until) == scan::total(entries, until))
+}
+
+/// Asserts that the sessions of a list agree with the scan over their entries, up to some moments.
 fn expect_scanned(
     rt: &impl Abort,
     alloc: Global,
@@ -99,47 +117,45 @@ fn expect_scanned(
     requires { sessions.now.hosts ≡ 3 }
 {
     for until in [None, Some(i32::MIN), Some(1500)] {
-        for host in 0..3 {
-            let agrees = agrees_at(alloc, sessions, entries, host, until)?;
-            assert!(rt; agrees, "list {list}, host {host} until {until:?}");
-        }
-        let total = sessions.total(until) == scan::total(entries, until);
-        assert!(rt; total, "total of list {list} until {until:?}");
+        assert!(rt;
+            agrees(alloc, sessions, entries, until)?,
+            "list {list} until {until:?}"
+        );
     }
     Ok(())
 }
 
-/// The same of their own entries.
-fn expect_agreement(
+/// Posts the records of the next list, and asserts the same of its sessions.
+fn expect_next(
     rt: &impl Abort,
     alloc: Global,
-    sessions: &Sessions,
+    sessions: &mut Sessions,
+    numbers: &mut Numbers,
     list: u32,
 ) -> Result<(), Fail>
-    requires { sessions.now.hosts ≡ 3 }
+    requires { sessions.old.hosts ≡ 3 }
 {
+    post_drawn(alloc, sessions, numbers)?;
     let entries: Vec<Entry> = sessions.entries().iter().collect(alloc)?;
     expect_scanned(rt, alloc, sessions, &entries, list)
 }
 
-/// The same of the sessions of the next list.
-fn draw(
-    rt: &impl Abort,
+/// The same of new sessions.
+fn draw<R: Abort + RandomSource>(
+    rt: &R,
     alloc: Global,
-    keys: RandomState,
     numbers: &mut Numbers,
     list: u32,
 ) -> Result<(), Fail> {
-    let mut sessions = Sessions::new(alloc, keys, 3)?;
-    post_drawn(alloc, &mut sessions, numbers)?;
-    expect_agreement(rt, alloc, &sessions, list)
+    let mut sessions = Sessions::new(alloc, RandomState::new(rt)?, 3)?;
+    expect_next(rt, alloc, &mut sessions, numbers, list)
 }
 
 #[test]
 fn sessions_are_those_of_a_scan_of_the_whole_list(rt: HostRuntime) -> Result<(), Fail> {
     let mut numbers = Numbers { state: 1 };
     for list in 0..300 {
-        draw(&rt, rt.alloc(), RandomState::new(&rt)?, &mut numbers, list)?;
+        draw(&rt, rt.alloc(), &mut numbers, list)?;
     }
     Ok(())
 }

@@ -4,6 +4,7 @@ ghost use Rattle.std.specs.Prelude.{◌≡◌, ◌≤◌, ◌<◌, All, IfOk, le
 use crate::sessions::scripts::played;
 use std::alloc::Global;
 use std::hash::RandomState;
+use std::process::Abort;
 use std::test::Fail;
 use std::thread::Threads;
 use tally_sessions::{ENTRY_LIMIT, EntryList, Sessions};
@@ -62,6 +63,12 @@ fn counted_by<R: Threads + Sync>(
     numbers_of(alloc, Sessions::of_entries_by(rt, alloc, keys, 3, list, 4))
 }
 
+/// Asserts that each host has a stay, and all 150 seconds.
+fn expect_numbers(rt: &impl Abort, found: Result<[u64; 4], Fail>) -> Result<(), Fail> {
+    assert_eq!(rt; found?, [1, 1, 1, 150]);
+    Ok(())
+}
+
 /// Ann is logged in on the first host for 60 seconds, bob on the second for 90, the third starts.
 const SCRIPT: &str =
     "0 in tty1 ann 0;1 in tty1 bob 10;0 out tty1 - 60;2 boot ~ reboot 70;1 out tty1 - 100";
@@ -69,7 +76,6 @@ const SCRIPT: &str =
 #[test]
 fn sessions_of_a_list_are_those_of_its_hosts(rt: HostRuntime) -> Result<(), Fail> {
     let keys = RandomState::new(&rt)?;
-    assert_eq!(rt; counted(rt.alloc(), keys, SCRIPT)?, [1, 1, 1, 150]);
-    assert_eq!(rt; counted_by(&rt, rt.alloc(), keys, SCRIPT)?, [1, 1, 1, 150]);
-    Ok(())
+    expect_numbers(&rt, counted(rt.alloc(), keys, SCRIPT))?;
+    expect_numbers(&rt, counted_by(&rt, rt.alloc(), keys, SCRIPT))
 }

@@ -6,6 +6,8 @@ use crate::sessions::name;
 use crate::sessions::scripts::{played, record_of};
 use std::alloc::Global;
 use std::hash::RandomState;
+use std::process::Abort;
+use std::random::RandomSource;
 use std::test::Fail;
 use tally_records::Batch;
 use tally_sessions::Sessions;
@@ -34,12 +36,25 @@ fn three_users(alloc: Global) -> Result<Batch, Fail>
     Ok(Batch::logins(alloc, &bytes)?)
 }
 
-/// The answers after a `prepare`, which may be refused once, and after its `add`.
-fn answers_around_add(
+/// Asserts the answers.
+fn expect_answers(
+    rt: &impl Abort,
+    alloc: Global,
+    sessions: &Sessions,
+    wanted: [u64; 4],
+) -> Result<(), Fail> {
+    let found = answers(alloc, sessions)?;
+    assert_eq!(rt; found, wanted);
+    Ok(())
+}
+
+/// Asserts the answers after a `prepare`, which may be refused once, and after its `add`.
+fn expect_around_add(
+    rt: &impl Abort,
     alloc: Global,
     sessions: &mut Sessions,
     batch: &Batch,
-) -> Result<([u64; 4], [u64; 4]), Fail>
+) -> Result<(), Fail>
     requires host { 0 < sessions.old.hosts }
     requires logins { IsLogins batch.now }
 {
@@ -47,33 +62,28 @@ fn answers_around_add(
         return Err(Fail::new("too many"));
     }
     if sessions.prepare(0, batch).is_err() {
-        if answers(alloc, sessions)? != [1, 0, 0, 0] {
-            return Err(Fail::new("a refused prepare changed an answer"));
-        }
+        expect_answers(rt, alloc, sessions, [1, 0, 0, 0])?;
         sessions.prepare(0, batch)?;
     }
-    let before = answers(alloc, sessions)?;
+    expect_answers(rt, alloc, sessions, [1, 0, 0, 0])?;
     sessions.add(0, batch);
-    Ok((before, answers(alloc, sessions)?))
+    expect_answers(rt, alloc, sessions, [5, 110, 60, 3])
 }
 
 /// The same of ann's open session.
-fn answers_of_ann(
+fn expect_around_ann<R: Abort + RandomSource>(
+    rt: &R,
     alloc: Global,
-    keys: RandomState,
     batch: &Batch,
-) -> Result<([u64; 4], [u64; 4]), Fail>
+) -> Result<(), Fail>
     requires { IsLogins batch.now }
 {
-    let mut sessions = played(alloc, keys, "0 in tty1 ann 0")?;
-    answers_around_add(alloc, &mut sessions, batch)
+    let mut sessions = played(alloc, RandomState::new(rt)?, "0 in tty1 ann 0")?;
+    expect_around_add(rt, alloc, &mut sessions, batch)
 }
 
 #[test]
 fn prepare_changes_no_answer_and_add_does(rt: HostRuntime) -> Result<(), Fail> {
-    let keys = RandomState::new(&rt)?;
     let batch = three_users(rt.alloc())?;
-    let around = answers_of_ann(rt.alloc(), keys, &batch)?;
-    assert_eq!(rt; around, ([1, 0, 0, 0], [5, 110, 60, 3]));
-    Ok(())
+    expect_around_ann(&rt, rt.alloc(), &batch)
 }

@@ -34,15 +34,8 @@ fn sums_are_of_all_hosts(rt: HostRuntime) -> Result<(), Fail> {
 fn users_without_connect_time_have_no_row(rt: HostRuntime) -> Result<(), Fail> {
     let script =
         "0 in tty1 carl 2000;1 in tty1 bob 0;0 out tty1 - 1000;0 in tty1 bob 1000;1 out tty1 - 60;0 in tty1 ann 1600;0 out tty1 - 2200";
-    let keys = RandomState::new(&rt)?;
-    expect(
-        &rt,
-        rt.alloc(),
-        keys,
-        script,
-        Asked::Users,
-        "ann 600;bob 660;",
-    )
+    let told = "ann 600;bob 660;";
+    expect(&rt, rt.alloc(), script, Asked::Users, told)
 }
 
 #[test]
@@ -61,15 +54,7 @@ fn midnight_divides_a_session_at_each_offset(rt: HostRuntime) -> Result<(), Fail
             "-1 3600;0 3600;",
         ),
     ] {
-        let keys = RandomState::new(&rt)?;
-        expect(
-            &rt,
-            rt.alloc(),
-            keys,
-            script,
-            Asked::Days(utc, offset),
-            told,
-        )?;
+        expect(&rt, rt.alloc(), script, Asked::Days(utc, offset), told)?;
     }
     Ok(())
 }
@@ -77,8 +62,7 @@ fn midnight_divides_a_session_at_each_offset(rt: HostRuntime) -> Result<(), Fail
 #[test]
 fn users_have_their_own_rows_on_a_day(rt: HostRuntime) -> Result<(), Fail> {
     let script = "0 in tty1 bob 84600;0 in tty2 ann 86400;0 boot ~ reboot 88200";
-    let keys = RandomState::new(&rt)?;
     let utc = &Clock::utc(rt.alloc());
     let told = "0 bob 1800;1 ann 1800;1 bob 1800;";
-    expect(&rt, rt.alloc(), keys, script, Asked::DayUsers(utc), told)
+    expect(&rt, rt.alloc(), script, Asked::DayUsers(utc), told)
 }

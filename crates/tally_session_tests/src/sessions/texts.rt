@@ -7,6 +7,7 @@ use std::alloc::Global;
 use std::fmt::Write;
 use std::hash::RandomState;
 use std::process::Abort;
+use std::random::RandomSource;
 use std::test::Fail;
 use tally_clock::Clock;
 use tally_records::Name;
@@ -85,6 +86,34 @@ pub(crate) enum Asked<'a> {
     DayUsers(&'a Clock),
 }
 
+/// Appends the rows by day.
+fn push_days_of(
+    alloc: Global,
+    text: &mut String,
+    sessions: &Sessions,
+    clock: &Clock,
+    offset: i32,
+    until: Option<i32>,
+) -> Result<(), Fail> {
+    if offset < -1439 || offset > 1439 {
+        return Err(Fail::new("no offset"));
+    }
+    let rows = sessions.connect_by_day(alloc, clock, offset, until)?;
+    push_days(text, rows.as_slice())
+}
+
+/// Appends the rows by day and user.
+fn push_day_users_of(
+    alloc: Global,
+    text: &mut String,
+    sessions: &Sessions,
+    clock: &Clock,
+    until: Option<i32>,
+) -> Result<(), Fail> {
+    let rows = sessions.connect_by_day_user(alloc, clock, 0, until)?;
+    push_day_users(text, rows.as_slice())
+}
+
 /// Appends the answer.
 fn push_answer(
     alloc: Global,
@@ -106,15 +135,8 @@ fn push_answer(
             let rows = sessions.connect_by_user(alloc, until)?;
             push_users(text, rows.as_slice())
         }
-        Asked::Days(_, offset) if offset < -1439 || offset > 1439 => Err(Fail::new("no offset")),
-        Asked::Days(clock, offset) => {
-            let rows = sessions.connect_by_day(alloc, clock, offset, until)?;
-            push_days(text, rows.as_slice())
-        }
-        Asked::DayUsers(clock) => {
-            let rows = sessions.connect_by_day_user(alloc, clock, 0, until)?;
-            push_day_users(text, rows.as_slice())
-        }
+        Asked::Days(clock, offset) => push_days_of(alloc, text, sessions, clock, offset, until),
+        Asked::DayUsers(clock) => push_day_users_of(alloc, text, sessions, clock, until),
     }
 }
 
@@ -142,27 +164,25 @@ fn expect_answer(
 }
 
 /// Plays a script, and asserts what its sessions answer, up to a moment.
-pub(crate) fn expect_until(
-    rt: &impl Abort,
+pub(crate) fn expect_until<R: Abort + RandomSource>(
+    rt: &R,
     alloc: Global,
-    keys: RandomState,
     script: &str,
     asked: Asked,
     until: Option<i32>,
     told: &str,
 ) -> Result<(), Fail> {
-    let sessions = played(alloc, keys, script)?;
+    let sessions = played(alloc, RandomState::new(rt)?, script)?;
     expect_answer(rt, alloc, &sessions, script, asked, until, told)
 }
 
 /// The same up to the last record.
-pub(crate) fn expect(
-    rt: &impl Abort,
+pub(crate) fn expect<R: Abort + RandomSource>(
+    rt: &R,
     alloc: Global,
-    keys: RandomState,
     script: &str,
     asked: Asked,
     told: &str,
 ) -> Result<(), Fail> {
-    expect_until(rt, alloc, keys, script, asked, None, told)
+    expect_until(rt, alloc, script, asked, None, told)
 }

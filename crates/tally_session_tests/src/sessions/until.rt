@@ -1,12 +1,25 @@
 //! Stays that nothing has ended, counted up to a given moment.
 use crate::sessions::texts::{Asked, expect_until};
 use std::alloc::Global;
-use std::hash::RandomState;
 use std::process::Abort;
+use std::random::RandomSource;
 use std::test::Fail;
 use tally_clock::Clock;
 
 const TWO_OPEN: &str = "0 in tty1 a 100;1 in tty1 d 150;0 boot ~ reboot 1000";
+
+/// Asserts the stays and the total of a script up to a moment.
+fn expect_moment<R: Abort + RandomSource>(
+    rt: &R,
+    alloc: Global,
+    script: &str,
+    until: Option<i32>,
+    told: &str,
+    total: &str,
+) -> Result<(), Fail> {
+    expect_until(rt, alloc, script, Asked::Stays(None), until, told)?;
+    expect_until(rt, alloc, script, Asked::Total, until, total)
+}
 
 #[test]
 fn a_moment_counts_for_open_stays_alone(rt: HostRuntime) -> Result<(), Fail> {
@@ -42,10 +55,7 @@ fn a_moment_counts_for_open_stays_alone(rt: HostRuntime) -> Result<(), Fail> {
             "3600;",
         ),
     ] {
-        let keys = RandomState::new(&rt)?;
-        let asked = Asked::Stays(None);
-        expect_until(&rt, rt.alloc(), keys, script, asked, until, told)?;
-        expect_until(&rt, rt.alloc(), keys, script, Asked::Total, until, total)?;
+        expect_moment(&rt, rt.alloc(), script, until, told, total)?;
     }
     Ok(())
 }
@@ -53,49 +63,36 @@ fn a_moment_counts_for_open_stays_alone(rt: HostRuntime) -> Result<(), Fail> {
 const ANN_OPEN: &str = "0 in tty1 ann 84600;0 in tty2 bob 86000;0 out tty2 - 86300";
 
 /// Asserts ann's time, and the rows by user, by day and by both, up to a moment.
-fn expect_sums(
-    rt: &impl Abort,
+fn expect_sums<R: Abort + RandomSource>(
+    rt: &R,
     alloc: Global,
-    keys: RandomState,
     clock: &Clock,
     until: Option<i32>,
     told: [&str; 4],
 ) -> Result<(), Fail> {
     let [ann, users, days, day_users] = told;
-    let asked = Asked::User("ann");
-    expect_until(rt, alloc, keys, ANN_OPEN, asked, until, ann)?;
-    expect_until(rt, alloc, keys, ANN_OPEN, Asked::Users, until, users)?;
-    let asked = Asked::Days(clock, 0);
-    expect_until(rt, alloc, keys, ANN_OPEN, asked, until, days)?;
+    expect_until(rt, alloc, ANN_OPEN, Asked::User("ann"), until, ann)?;
+    expect_until(rt, alloc, ANN_OPEN, Asked::Users, until, users)?;
+    expect_until(rt, alloc, ANN_OPEN, Asked::Days(clock, 0), until, days)?;
     let asked = Asked::DayUsers(clock);
-    expect_until(rt, alloc, keys, ANN_OPEN, asked, until, day_users)
+    expect_until(rt, alloc, ANN_OPEN, asked, until, day_users)
 }
 
 #[test]
 fn every_sum_counts_up_to_the_moment(rt: HostRuntime) -> Result<(), Fail> {
-    let keys = RandomState::new(&rt)?;
     let utc = Clock::utc(rt.alloc());
-    for (until, told) in [
-        (
-            None,
-            [
-                "1700;",
-                "ann 1700;bob 300;",
-                "0 2000;",
-                "0 ann 1700;0 bob 300;",
-            ],
-        ),
-        (
-            Some(88200),
-            [
-                "3600;",
-                "ann 3600;bob 300;",
-                "0 2100;1 1800;",
-                "0 ann 1800;0 bob 300;1 ann 1800;",
-            ],
-        ),
-    ] {
-        expect_sums(&rt, rt.alloc(), keys, &utc, until, told)?;
-    }
-    Ok(())
+    let now = [
+        "1700;",
+        "ann 1700;bob 300;",
+        "0 2000;",
+        "0 ann 1700;0 bob 300;",
+    ];
+    expect_sums(&rt, rt.alloc(), &utc, None, now)?;
+    let then = [
+        "3600;",
+        "ann 3600;bob 300;",
+        "0 2100;1 1800;",
+        "0 ann 1800;0 bob 300;1 ann 1800;",
+    ];
+    expect_sums(&rt, rt.alloc(), &utc, Some(88200), then)
 }

@@ -2,8 +2,8 @@
 use crate::sessions::texts::{Asked, expect};
 use jiff_tz::{TimeZone, posix};
 use std::alloc::Global;
-use std::hash::RandomState;
 use std::process::Abort;
+use std::random::RandomSource;
 use std::test::Fail;
 use tally_clock::Clock;
 
@@ -19,10 +19,9 @@ fn clock_of(alloc: Global, rule: &str) -> Result<Clock, Fail> {
 }
 
 /// Asserts the days of some scripts by Berlin's clock.
-fn expect_days(
-    rt: &impl Abort,
+fn expect_days<R: Abort + RandomSource>(
+    rt: &R,
     alloc: Global,
-    keys: RandomState,
     clock: &Clock,
 ) -> Result<(), Fail> {
     for (script, told) in [
@@ -39,7 +38,7 @@ fn expect_days(
             "20751 3600;",
         ),
     ] {
-        expect(rt, alloc, keys, script, Asked::Days(clock, 0), told)?;
+        expect(rt, alloc, script, Asked::Days(clock, 0), told)?;
     }
     Ok(())
 }
@@ -47,31 +46,28 @@ fn expect_days(
 // The seconds of Europe/Berlin in March and October 2026, counted with Python's zoneinfo.
 #[test]
 fn days_have_23_or_25_hours(rt: HostRuntime) -> Result<(), Fail> {
-    let keys = RandomState::new(&rt)?;
     let clock = clock_of(rt.alloc(), "CET-1CEST,M3.5.0,M10.5.0/3")?;
-    expect_days(&rt, rt.alloc(), keys, &clock)
+    expect_days(&rt, rt.alloc(), &clock)
 }
 
 /// Asserts the rows by day, and by day and user, of two sessions.
-fn expect_rows(
-    rt: &impl Abort,
+fn expect_rows<R: Abort + RandomSource>(
+    rt: &R,
     alloc: Global,
-    keys: RandomState,
     clock: &Clock,
 ) -> Result<(), Fail> {
     let script =
         "0 in tty1 ann 774000;0 in tty2 bob 774000;0 out tty1 - 867600;0 out tty2 - 777601";
     let days = "8 7200;9 86401;10 3600;";
-    expect(rt, alloc, keys, script, Asked::Days(clock, 0), days)?;
+    expect(rt, alloc, script, Asked::Days(clock, 0), days)?;
     let users = "8 ann 3600;8 bob 3600;9 ann 86400;9 bob 1;10 ann 3600;";
-    expect(rt, alloc, keys, script, Asked::DayUsers(clock), users)
+    expect(rt, alloc, script, Asked::DayUsers(clock), users)
 }
 
 // Summer time from the start of January 10th to that of the 11th alone: an hour of the 9th, all of the 10th
 // in two parts, and an hour of the 11th.
 #[test]
 fn sessions_have_whole_rows_of_a_clock(rt: HostRuntime) -> Result<(), Fail> {
-    let keys = RandomState::new(&rt)?;
     let clock = clock_of(rt.alloc(), "AAA0BBB-1,J10/0,J11/0")?;
-    expect_rows(&rt, rt.alloc(), keys, &clock)
+    expect_rows(&rt, rt.alloc(), &clock)
 }
