@@ -8,7 +8,7 @@ use std::process::Abort;
 use std::random::RandomSource;
 use std::test::Fail;
 use tally_book::{AskFault, Book, Counts, PostFault, Question, Receipt, Served};
-use tally_records::{Batch, BatchFault};
+use tally_records::{Batch, BatchFault, Memory};
 
 /// Posts as a caller, of which the book has some.
 fn post(book: &mut Book, caller: u32, batch: &Batch) -> Result<Receipt, PostFault> {
@@ -49,25 +49,42 @@ fn filled(book: &mut Book, batch: &Batch) -> Option<PostFault> {
     None
 }
 
-/// Why a book that is filled with the batch refused it at last, and what an empty batch is answered then.
-fn overfill(
-    book: &mut Book,
-    batch: &Batch,
-    empty: &Batch,
-) -> Result<(Option<PostFault>, Receipt), PostFault> {
+/// What a book answers when it is full.
+#[derive(Drop)]
+struct Limits {
+    /// Why it refused the batch that filled it.
+    refused: Option<PostFault>,
+    /// What an empty batch is answered then.
+    then: Result<Receipt, PostFault>,
+    /// How many calls it holds after that.
+    calls: usize,
+    /// Why it refuses a question after that, if it does.
+    asked: Option<AskFault>,
+}
+
+/// The limits of a book that is filled with the batch.
+fn limits_in(alloc: Global, book: &mut Book, batch: &Batch, empty: &Batch) -> Limits {
     let refused = filled(book, batch);
-    Ok((refused, post(book, 0, empty)?))
+    let then = post(book, 0, empty);
+    let calls = book.calls().len();
+    let asked = ask(alloc, book, 0, TOTAL).err();
+    Limits {
+        refused,
+        then,
+        calls,
+        asked,
+    }
 }
 
 /// The same of a new book.
-fn overfilled(
+fn limits_of(
     alloc: Global,
     keys: RandomState,
     batch: &Batch,
     empty: &Batch,
-) -> Result<(Option<PostFault>, Receipt), PostFault> {
+) -> Result<Limits, Memory> {
     let mut book = Book::new(alloc, keys, 1)?;
-    overfill(&mut book, batch, empty)
+    Ok(limits_in(alloc, &mut book, batch, empty))
 }
 
 /// Asserts why a book refuses the batch at last, and what is stored when an empty batch is posted then.
@@ -79,9 +96,9 @@ fn expect_full<R: Abort + RandomSource>(
     fault: PostFault,
     stored: Counts,
 ) -> Result<(), Fail> {
-    let keys = RandomState::new(rt)?;
-    let (refused, receipt) = overfilled(alloc, keys, batch, &empty?)?;
+    let Limits { refused, then, .. } = limits_of(alloc, RandomState::new(rt)?, batch, &empty?)?;
     expect_equal(rt, &refused, &Some(fault));
+    let receipt = then?;
     expect_equal(rt, &(receipt.call, receipt.after), &(1025, stored));
     Ok(())
 }
@@ -114,27 +131,12 @@ fn a_book_full_of_process_records_takes_an_empty_batch_alone(rt: HostRuntime) ->
     expect_full(&rt, rt.alloc(), &batch, empty, fault, stored)
 }
 
-/// Asserts that a book holds so many calls, and refuses a post and a question then.
-fn expect_history(rt: &impl Abort, alloc: Global, book: &mut Book, empty: &Batch) {
-    expect_equal(rt, &filled(book, empty), &Some(PostFault::CallsFull));
-    expect_equal(rt, &book.calls().len(), &65_536);
-    let refused = ask(alloc, book, 0, TOTAL).err();
-    expect_equal(rt, &refused, &Some(AskFault::CallsFull));
-}
-
-/// The same of a new book.
-fn expect_new_history<R: Abort + RandomSource>(
-    rt: &R,
-    alloc: Global,
-    empty: &Batch,
-) -> Result<(), Fail> {
-    let mut book = Book::new(alloc, RandomState::new(rt)?, 1)?;
-    expect_history(rt, alloc, &mut book, empty);
-    Ok(())
-}
-
 #[test]
 fn a_history_holds_65536_calls(rt: HostRuntime) -> Result<(), Fail> {
     let empty = Batch::procs(rt.alloc(), &[])?;
-    expect_new_history(&rt, rt.alloc(), &empty)
+    let full = limits_of(rt.alloc(), RandomState::new(&rt)?, &empty, &empty)?;
+    expect_equal(&rt, &full.refused, &Some(PostFault::CallsFull));
+    expect_equal(&rt, &full.calls, &65_536);
+    expect_equal(&rt, &full.asked, &Some(AskFault::CallsFull));
+    Ok(())
 }

@@ -95,11 +95,7 @@ fn a_process_record_is_read_by_its_offsets(rt: HostRuntime) -> Result<(), Fail> 
     expect_equal(&rt, &ticks, &(120, 60, 600));
     expect_equal(&rt, &(found.mem, found.io, found.uid), &(500, 1000, 1000));
     expect_equal(&rt, &found.comm, &*b"make\0\0\0\0\0\0\0\0\0\0\0\0\0");
-    assert_eq!(rt;
-        read_proc(&version_3_record(0x4416_0000))?,
-        found,
-        "version 3"
-    );
+    expect_equal(&rt, &read_proc(&version_3_record(0x4416_0000))?, &found);
     Ok(())
 }
 

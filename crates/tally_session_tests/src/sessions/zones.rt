@@ -19,11 +19,7 @@ fn clock_of(alloc: Global, rule: &str) -> Result<Clock, Fail> {
 }
 
 /// Asserts the days of some scripts by Berlin's clock.
-fn expect_days<R: Abort + RandomSource>(
-    rt: &R,
-    alloc: Global,
-    clock: &Clock,
-) -> Result<(), Fail> {
+fn expect_days<R: Abort + RandomSource>(rt: &R, alloc: Global, clock: &Clock) -> Result<(), Fail> {
     for (script, told) in [
         (
             "0 in tty1 ann 1774699200;0 out tty1 - 1774872000",
@@ -51,11 +47,7 @@ fn days_have_23_or_25_hours(rt: HostRuntime) -> Result<(), Fail> {
 }
 
 /// Asserts the rows by day, and by day and user, of two sessions.
-fn expect_rows<R: Abort + RandomSource>(
-    rt: &R,
-    alloc: Global,
-    clock: &Clock,
-) -> Result<(), Fail> {
+fn expect_rows<R: Abort + RandomSource>(rt: &R, alloc: Global, clock: &Clock) -> Result<(), Fail> {
     let script =
         "0 in tty1 ann 774000;0 in tty2 bob 774000;0 out tty1 - 867600;0 out tty2 - 777601";
     let days = "8 7200;9 86401;10 3600;";

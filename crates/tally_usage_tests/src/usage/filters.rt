@@ -1,7 +1,5 @@
 //! The rows by plain filters over the list of entries, compared with those of a summary.
-use super::{
-    BELL, MAKE, NONE, OTHER, commands_of, expect_rows, post, proc_record, row, users_of,
-};
+use super::{BELL, MAKE, NONE, OTHER, commands_of, expect_rows, post, proc_record, row, users_of};
 use std::alloc::{AllocError, Global};
 use std::cmp::Ordering;
 use std::hash::RandomState;
