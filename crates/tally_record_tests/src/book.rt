@@ -1,11 +1,14 @@
 //! The limits of a book.
 ghost use Rattle.tally_book.specs.Answers.{IsAskable};
 
-use std::alloc::Global;
+use crate::equal::expect_equal;
+use std::alloc::{AllocError, Global};
 use std::hash::RandomState;
+use std::process::Abort;
+use std::random::RandomSource;
 use std::test::Fail;
 use tally_book::{AskFault, Book, Counts, PostFault, Question, Receipt, Served};
-use tally_records::Batch;
+use tally_records::{Batch, BatchFault, Memory};
 
 /// Posts as a caller, of which the book has some.
 fn post(book: &mut Book, caller: u32, batch: &Batch) -> Result<Receipt, PostFault> {
@@ -46,47 +49,94 @@ fn filled(book: &mut Book, batch: &Batch) -> Option<PostFault> {
     None
 }
 
-/// Fills a book with the batch; why it was refused at last, and what an empty batch is answered then.
-fn overfilled(
+/// What a book answers when it is full.
+#[derive(Drop)]
+struct Limits {
+    /// Why it refused the batch that filled it.
+    refused: Option<PostFault>,
+    /// What an empty batch is answered then.
+    then: Result<Receipt, PostFault>,
+    /// How many calls it holds after that.
+    calls: usize,
+    /// Why it refuses a question after that, if it does.
+    asked: Option<AskFault>,
+}
+
+/// The limits of a book that is filled with the batch.
+fn limits_in(alloc: Global, book: &mut Book, batch: &Batch, empty: &Batch) -> Limits {
+    let refused = filled(book, batch);
+    let then = post(book, 0, empty);
+    let calls = book.calls().len();
+    let asked = ask(alloc, book, 0, TOTAL).err();
+    Limits {
+        refused,
+        then,
+        calls,
+        asked,
+    }
+}
+
+/// The same of a new book.
+fn limits_of(
     alloc: Global,
     keys: RandomState,
     batch: &Batch,
     empty: &Batch,
-) -> Result<(Option<PostFault>, Receipt), Fail> {
+) -> Result<Limits, Memory> {
     let mut book = Book::new(alloc, keys, 1)?;
-    let refused = filled(&mut book, batch);
-    Ok((refused, post(&mut book, 0, empty)?))
+    Ok(limits_in(alloc, &mut book, batch, empty))
+}
+
+/// Asserts why a book refuses the batch at last, and what is stored when an empty batch is posted then.
+fn expect_full<R: Abort + RandomSource>(
+    rt: &R,
+    alloc: Global,
+    batch: &Batch,
+    empty: Result<Batch, BatchFault>,
+    fault: PostFault,
+    stored: Counts,
+) -> Result<(), Fail> {
+    let Limits { refused, then, .. } = limits_of(alloc, RandomState::new(rt)?, batch, &empty?)?;
+    expect_equal(rt, &refused, &Some(fault));
+    let receipt = then?;
+    expect_equal(rt, &(receipt.call, receipt.after), &(1025, stored));
+    Ok(())
+}
+
+/// The batch of these bytes, which are login records.
+fn logins_of(alloc: Global, bytes: Result<Vec<u8>, AllocError>) -> Result<Batch, Fail> {
+    Ok(Batch::logins(alloc, bytes?.as_slice())?)
 }
 
 #[test]
 fn a_book_full_of_login_records_takes_an_empty_batch_alone(rt: HostRuntime) -> Result<(), Fail> {
-    let zeros = vec![in rt.alloc(); 0u8; 393_216]?;
-    let batch = Batch::logins(rt.alloc(), zeros.as_slice())?;
-    let empty = Batch::logins(rt.alloc(), &[])?;
-    let (refused, receipt) = overfilled(rt.alloc(), RandomState::new(&rt)?, &batch, &empty)?;
-    assert_eq!(rt; refused, Some(PostFault::LoginsFull { stored: 1_048_576 }));
-    assert_eq!(rt; (receipt.call, receipt.after), (1025, counts(1_048_576, 0)));
-    Ok(())
+    let batch = logins_of(rt.alloc(), vec![in rt.alloc(); 0u8; 393_216])?;
+    let empty = Batch::logins(rt.alloc(), &[]);
+    let fault = PostFault::LoginsFull { stored: 1_048_576 };
+    let stored = counts(1_048_576, 0);
+    expect_full(&rt, rt.alloc(), &batch, empty, fault, stored)
+}
+
+/// The batch of these bytes, which are process records.
+fn procs_of(alloc: Global, bytes: Result<Vec<u8>, AllocError>) -> Result<Batch, Fail> {
+    Ok(Batch::procs(alloc, bytes?.as_slice())?)
 }
 
 #[test]
 fn a_book_full_of_process_records_takes_an_empty_batch_alone(rt: HostRuntime) -> Result<(), Fail> {
-    let twos = vec![in rt.alloc(); 2u8; 65_536]?;
-    let batch = Batch::procs(rt.alloc(), twos.as_slice())?;
-    let empty = Batch::procs(rt.alloc(), &[])?;
-    let (refused, receipt) = overfilled(rt.alloc(), RandomState::new(&rt)?, &batch, &empty)?;
-    assert_eq!(rt; refused, Some(PostFault::ProcsFull { stored: 1_048_576 }));
-    assert_eq!(rt; (receipt.call, receipt.after), (1025, counts(0, 1_048_576)));
-    Ok(())
+    let batch = procs_of(rt.alloc(), vec![in rt.alloc(); 2u8; 65_536])?;
+    let empty = Batch::procs(rt.alloc(), &[]);
+    let fault = PostFault::ProcsFull { stored: 1_048_576 };
+    let stored = counts(0, 1_048_576);
+    expect_full(&rt, rt.alloc(), &batch, empty, fault, stored)
 }
 
 #[test]
 fn a_history_holds_65536_calls(rt: HostRuntime) -> Result<(), Fail> {
-    let mut book = Book::new(rt.alloc(), RandomState::new(&rt)?, 1)?;
     let empty = Batch::procs(rt.alloc(), &[])?;
-    assert_eq!(rt; filled(&mut book, &empty), Some(PostFault::CallsFull));
-    assert_eq!(rt; book.calls().len(), 65_536);
-    let refused = ask(rt.alloc(), &mut book, 0, TOTAL);
-    assert_eq!(rt; refused.err(), Some(AskFault::CallsFull));
+    let full = limits_of(rt.alloc(), RandomState::new(&rt)?, &empty, &empty)?;
+    expect_equal(&rt, &full.refused, &Some(PostFault::CallsFull));
+    expect_equal(&rt, &full.calls, &65_536);
+    expect_equal(&rt, &full.asked, &Some(AskFault::CallsFull));
     Ok(())
 }

@@ -1,11 +1,9 @@
-//! Tests of records, sessions, usage sums and the book: worked examples, slow programs beside the quick ones, and limits.
+//! Tests of records and the book: worked examples, each public function once, and limits.
 #![tactic(auto)]
 
 #[cfg(test)]
 mod book;
 #[cfg(test)]
+mod equal;
+#[cfg(test)]
 mod records;
-#[cfg(test)]
-mod sessions;
-#[cfg(test)]
-mod usage;

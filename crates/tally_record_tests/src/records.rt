@@ -1,9 +1,11 @@
 //! Worked records, and each public function once.
+use crate::equal::expect_equal;
 use std::alloc::Global;
+use std::process::Abort;
 use std::test::Fail;
 use tally_records::{
-    Batch, BatchFault, Event, Key, Kind, List, LoginRecord, Logins, RecordFault, comp, event,
-    read_login, read_proc,
+    Batch, BatchFault, Event, Key, Kind, List, LoginRecord, Logins, Memory, RecordFault, comp,
+    event, read_login, read_proc,
 };
 
 fn put(bytes: &mut [u8], at: usize, text: &[u8]) {
@@ -62,17 +64,17 @@ fn a_login_record_is_read_by_its_offsets(rt: HostRuntime) -> Result<(), Fail> {
     };
     put(&mut wanted.line, 0, b"tty1");
     put(&mut wanted.user, 0, b"ann");
-    assert_eq!(rt; found, wanted);
-    assert_eq!(rt; event(&found), Event::Login);
+    expect_equal(&rt, &found, &wanted);
+    expect_equal(&rt, &event(&found), &Event::Login);
     Ok(())
 }
 
 #[test]
 fn a_type_outside_zero_to_nine_is_refused(rt: HostRuntime) {
     let mut bytes = login_record(10, [b"", b"", b""], 0);
-    assert_eq!(rt; read_login(&bytes), Err(RecordFault::LoginType(10)));
+    expect_equal(&rt, &read_login(&bytes), &Err(RecordFault::LoginType(10)));
     put(&mut bytes, 0, &[255, 255]);
-    assert_eq!(rt; read_login(&bytes), Err(RecordFault::LoginType(-1)));
+    expect_equal(&rt, &read_login(&bytes), &Err(RecordFault::LoginType(-1)));
 }
 
 /// The record of `proc_record(2)` as version 3 has it, with this `ac_etime`.
@@ -90,14 +92,10 @@ fn version_3_record(elapsed: u32) -> [u8; 64] {
 fn a_process_record_is_read_by_its_offsets(rt: HostRuntime) -> Result<(), Fail> {
     let found = read_proc(&proc_record(2))?;
     let ticks = (found.user_ticks, found.system_ticks, found.real_ticks);
-    assert_eq!(rt; ticks, (120, 60, 600));
-    assert_eq!(rt; (found.mem, found.io, found.uid), (500, 1000, 1000));
-    assert_eq!(rt; found.comm, *b"make\0\0\0\0\0\0\0\0\0\0\0\0\0");
-    assert_eq!(rt;
-        read_proc(&version_3_record(0x4416_0000))?,
-        found,
-        "version 3"
-    );
+    expect_equal(&rt, &ticks, &(120, 60, 600));
+    expect_equal(&rt, &(found.mem, found.io, found.uid), &(500, 1000, 1000));
+    expect_equal(&rt, &found.comm, &*b"make\0\0\0\0\0\0\0\0\0\0\0\0\0");
+    expect_equal(&rt, &read_proc(&version_3_record(0x4416_0000))?, &found);
     Ok(())
 }
 
@@ -127,7 +125,7 @@ fn each_word_of_elapsed_time_has_its_ticks(rt: HostRuntime) -> Result<(), Fail> 
 fn a_name_of_sixteen_bytes_ends_in_a_zero(rt: HostRuntime) -> Result<(), Fail> {
     let mut bytes = version_3_record(0);
     put(&mut bytes, 48, b"sixteen-letters!");
-    assert_eq!(rt; read_proc(&bytes)?.comm, *b"sixteen-letters!\0");
+    expect_equal(&rt, &read_proc(&bytes)?.comm, &*b"sixteen-letters!\0");
     Ok(())
 }
 
@@ -135,25 +133,23 @@ fn a_name_of_sixteen_bytes_ends_in_a_zero(rt: HostRuntime) -> Result<(), Fail> {
 fn a_big_endian_process_record_is_refused(rt: HostRuntime) {
     for version in [0x82, 0x83, 0, 1, 4] {
         let found = read_proc(&proc_record(version));
-        assert_eq!(rt; found, Err(RecordFault::ProcVersion(version)));
+        expect_equal(&rt, &found, &Err(RecordFault::ProcVersion(version)));
     }
 }
 
+/// Why the batch of these login records is refused, if it is.
+fn refused(alloc: Global, blocks: &[[u8; 384]]) -> Option<BatchFault> {
+    Batch::logins(alloc, blocks.as_flattened()).err()
+}
+
 #[test]
-fn a_batch_names_its_first_bad_record(rt: HostRuntime) -> Result<(), Fail> {
-    let mut bytes = Vec::new(rt.alloc());
-    for kind in [7, 0, 10, 11] {
-        bytes.extend_from_slice(&login_record(kind, [b"", b"", b""], 0))?;
-    }
+fn a_batch_names_its_first_bad_record(rt: HostRuntime) {
+    let blocks = [7, 0, 10, 11].map(|kind| login_record(kind, [b"", b"", b""], 0));
     let wanted = BatchFault::Bad {
         index: 2,
         fault: RecordFault::LoginType(10),
     };
-    assert_eq!(rt;
-        Batch::logins(rt.alloc(), bytes.as_slice()).err(),
-        Some(wanted)
-    );
-    Ok(())
+    expect_equal(&rt, &refused(rt.alloc(), &blocks), &Some(wanted));
 }
 
 /// Records whose texts are short, full, end inside a word and at one, and have bytes after their NUL.
@@ -165,14 +161,40 @@ fn three_records() -> [[u8; 384]; 3] {
     [short, full, words]
 }
 
+/// Asserts that a batch shows these records and no more.
+fn expect_records(rt: &impl Abort, batch: &Batch, blocks: &[[u8; 384]; 3]) -> Result<(), Fail> {
+    for index in 0..3usize {
+        expect_equal(
+            rt,
+            &batch.login_at(index),
+            &Some(read_login(&blocks[index])?),
+        );
+    }
+    expect_equal(rt, &batch.login_at(3), &None);
+    Ok(())
+}
+
 #[test]
 fn a_batch_shows_records_as_they_are_read(rt: HostRuntime) -> Result<(), Fail> {
     let blocks = three_records();
     let batch = Batch::logins(rt.alloc(), blocks.as_flattened())?;
-    for index in 0..3usize {
-        assert_eq!(rt; batch.login_at(index), Some(read_login(&blocks[index])?));
-    }
-    assert_eq!(rt; batch.login_at(3), None);
+    expect_records(&rt, &batch, &blocks)
+}
+
+/// Asserts what is read alone of the three records.
+fn expect_parts(rt: &impl Abort, logins: &Logins, blocks: &[[u8; 384]; 3]) -> Result<(), Fail> {
+    expect_equal(rt, &logins.len(), &3);
+    let down = read_login(&blocks[2])?;
+    expect_equal(rt, &logins.get(2), &Some(down));
+    expect_equal(
+        rt,
+        &(logins.time(2), logins.event(2)),
+        &(Some(7), Some(Event::Down)),
+    );
+    expect_equal(rt, &logins.user(2), &Some(down.user));
+    assert!(rt; logins.line_key(0) == Some(Key::of(&read_login(&blocks[0])?.line)));
+    assert!(rt; logins.user_key(0) != logins.user_key(2));
+    expect_equal(rt, &logins.get(3), &None);
     Ok(())
 }
 
@@ -180,18 +202,7 @@ fn a_batch_shows_records_as_they_are_read(rt: HostRuntime) -> Result<(), Fail> {
 fn parts_of_records_are_read_alone(rt: HostRuntime) -> Result<(), Fail> {
     let blocks = three_records();
     let logins = Logins::read(rt.alloc(), &blocks)?;
-    assert_eq!(rt; logins.len(), 3);
-    let down = read_login(&blocks[2])?;
-    assert_eq!(rt; logins.get(2), Some(down));
-    assert_eq!(rt;
-        (logins.time(2), logins.event(2)),
-        (Some(7), Some(Event::Down))
-    );
-    assert_eq!(rt; logins.user(2), Some(down.user));
-    assert!(rt; logins.line_key(0) == Some(Key::of(&read_login(&blocks[0])?.line)));
-    assert!(rt; logins.user_key(0) != logins.user_key(2));
-    assert_eq!(rt; logins.get(3), None);
-    Ok(())
+    expect_parts(&rt, &logins, &blocks)
 }
 
 /// How many records so many zeros hold, or why they are no batch.
@@ -202,38 +213,68 @@ fn zeros_read(alloc: Global, count: usize) -> Result<Result<usize, BatchFault>, 
 
 #[test]
 fn a_batch_holds_up_to_1024_records(rt: HostRuntime) -> Result<(), Fail> {
-    assert_eq!(rt; zeros_read(rt.alloc(), 393_216)?, Ok(1024));
-    assert_eq!(rt;
-        zeros_read(rt.alloc(), 393_600)?,
-        Err(BatchFault::TooMany(1025))
+    expect_equal(&rt, &zeros_read(rt.alloc(), 393_216)?, &Ok(1024));
+    expect_equal(
+        &rt,
+        &zeros_read(rt.alloc(), 393_600)?,
+        &Err(BatchFault::TooMany(1025)),
     );
-    assert_eq!(rt; zeros_read(rt.alloc(), 385)?, Err(BatchFault::Length(385)));
-    assert_eq!(rt; zeros_read(rt.alloc(), 0)?, Ok(0));
+    expect_equal(
+        &rt,
+        &zeros_read(rt.alloc(), 385)?,
+        &Err(BatchFault::Length(385)),
+    );
+    expect_equal(&rt, &zeros_read(rt.alloc(), 0)?, &Ok(0));
     Ok(())
+}
+
+/// Asserts what a batch of one process record shows.
+fn expect_process(rt: &impl Abort, batch: &Batch) {
+    expect_equal(rt, &batch.kind(), &Kind::Proc);
+    expect_equal(rt, &batch.len(), &1);
+    expect_equal(rt, &batch.proc_at(0), &read_proc(&proc_record(2)).ok());
+    expect_equal(rt, &batch.login_at(0), &None);
 }
 
 #[test]
 fn a_batch_of_process_records_shows_them(rt: HostRuntime) -> Result<(), Fail> {
     let batch = Batch::procs(rt.alloc(), &proc_record(2))?;
-    assert_eq!(rt; batch.kind(), Kind::Proc);
-    assert_eq!(rt; batch.len(), 1);
-    assert_eq!(rt; batch.proc_at(0), read_proc(&proc_record(2)).ok());
-    assert_eq!(rt; batch.login_at(0), None);
+    expect_process(&rt, &batch);
     Ok(())
+}
+
+/// Asserts that a copy of an empty list shows what was pushed.
+fn expect_copy(rt: &impl Abort, alloc: Global, list: &mut List<i32>) -> Result<(), Memory> {
+    list.push(5)?;
+    list.push(7)?;
+    let copy = list.try_copy(alloc)?;
+    expect_equal(rt, &copy.as_slice(), &[5, 7].as_slice());
+    expect_equal(
+        rt,
+        &(copy.len(), copy.get(1), copy.get(2)),
+        &(2, Some(7), None),
+    );
+    Ok(())
+}
+
+/// Asserts that a copy shows what stood in the list, and the list what is pushed later.
+fn expect_pushed(rt: &impl Abort, list: &mut List<i32>, shared: &List<i32>) -> Result<(), Memory> {
+    list.push(3)?;
+    expect_equal(rt, &list.as_slice(), &[1, 2, 3].as_slice());
+    expect_equal(rt, &shared.as_slice(), &[1, 2].as_slice());
+    Ok(())
+}
+
+/// The same of a list that is copied.
+fn expect_shared(rt: &impl Abort, alloc: Global, list: &mut List<i32>) -> Result<(), Memory> {
+    let shared = list.try_copy(alloc)?;
+    expect_pushed(rt, list, &shared)
 }
 
 #[test]
 fn a_list_keeps_its_values_in_order(rt: HostRuntime) -> Result<(), Fail> {
-    let mut list = List::new(rt.alloc());
-    list.push(5)?;
-    list.push(7)?;
-    let copy = list.try_copy(rt.alloc())?;
-    assert_eq!(rt; copy.as_slice(), [5, 7].as_slice());
-    assert_eq!(rt; (copy.len(), copy.get(1), copy.get(2)), (2, Some(7), None));
+    expect_copy(&rt, rt.alloc(), &mut List::new(rt.alloc()))?;
     let mut vector = List::from_vec(rt.alloc(), vec![in rt.alloc(); 1, 2]?)?;
-    let shared = vector.try_copy(rt.alloc())?;
-    vector.push(3)?;
-    assert_eq!(rt; vector.as_slice(), [1, 2, 3].as_slice());
-    assert_eq!(rt; shared.as_slice(), [1, 2].as_slice());
+    expect_shared(&rt, rt.alloc(), &mut vector)?;
     Ok(())
 }

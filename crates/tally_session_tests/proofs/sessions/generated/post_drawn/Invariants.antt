@@ -1,5 +1,5 @@
 use Rattle.std.proofs.Common.{◌≡◌}
-use Rattle.tally_record_tests.proofs.sessions.generated.drawn.Given as goal
+use Rattle.tally_session_tests.proofs.sessions.generated.post_drawn.Given as goal
 
 abbrev pub invariant-loop-record : goal.invariant-loop-record
 invariant-loop-record l = l.sessions.hosts ≡ 3

@@ -1,11 +1,13 @@
 //! What a refused `prepare` leaves, and what `add` changes.
-ghost use Rattle.std.specs.Prelude.{IfOk};
+ghost use Rattle.std.specs.Prelude.{◌<◌, IfOk};
 ghost use Rattle.tally_records.specs.Records.{IsLogins};
 
 use crate::sessions::name;
 use crate::sessions::scripts::{played, record_of};
 use std::alloc::Global;
 use std::hash::RandomState;
+use std::process::Abort;
+use std::random::RandomSource;
 use std::test::Fail;
 use tally_records::Batch;
 use tally_sessions::Sessions;
@@ -34,27 +36,54 @@ fn three_users(alloc: Global) -> Result<Batch, Fail>
     Ok(Batch::logins(alloc, &bytes)?)
 }
 
-/// The answers after a `prepare`, which may be refused once, and after its `add`.
-fn answers_around_add(alloc: Global, keys: RandomState) -> Result<([u64; 4], [u64; 4]), Fail> {
-    let mut sessions = played(alloc, keys, "0 in tty1 ann 0")?;
-    let batch = three_users(alloc)?;
+/// Asserts the answers.
+fn expect_answers(
+    rt: &impl Abort,
+    alloc: Global,
+    sessions: &Sessions,
+    wanted: [u64; 4],
+) -> Result<(), Fail> {
+    let found = answers(alloc, sessions)?;
+    assert_eq!(rt; found, wanted);
+    Ok(())
+}
+
+/// Asserts the answers after a `prepare`, which may be refused once, and after its `add`.
+fn expect_around_add(
+    rt: &impl Abort,
+    alloc: Global,
+    sessions: &mut Sessions,
+    batch: &Batch,
+) -> Result<(), Fail>
+    requires host { 0 < sessions.old.hosts }
+    requires logins { IsLogins batch.now }
+{
     if batch.len() + sessions.entries().len() > 1000 {
         return Err(Fail::new("too many"));
     }
-    if sessions.prepare(0, &batch).is_err() {
-        if answers(alloc, &sessions)? != [1, 0, 0, 0] {
-            return Err(Fail::new("a refused prepare changed an answer"));
-        }
-        sessions.prepare(0, &batch)?;
+    if sessions.prepare(0, batch).is_err() {
+        expect_answers(rt, alloc, sessions, [1, 0, 0, 0])?;
+        sessions.prepare(0, batch)?;
     }
-    let before = answers(alloc, &sessions)?;
-    sessions.add(0, &batch);
-    Ok((before, answers(alloc, &sessions)?))
+    expect_answers(rt, alloc, sessions, [1, 0, 0, 0])?;
+    sessions.add(0, batch);
+    expect_answers(rt, alloc, sessions, [5, 110, 60, 3])
+}
+
+/// The same of ann's open session.
+fn expect_around_ann<R: Abort + RandomSource>(
+    rt: &R,
+    alloc: Global,
+    batch: &Batch,
+) -> Result<(), Fail>
+    requires { IsLogins batch.now }
+{
+    let mut sessions = played(alloc, RandomState::new(rt)?, "0 in tty1 ann 0")?;
+    expect_around_add(rt, alloc, &mut sessions, batch)
 }
 
 #[test]
 fn prepare_changes_no_answer_and_add_does(rt: HostRuntime) -> Result<(), Fail> {
-    let around = answers_around_add(rt.alloc(), RandomState::new(&rt)?)?;
-    assert_eq!(rt; around, ([1, 0, 0, 0], [5, 110, 60, 3]));
-    Ok(())
+    let batch = three_users(rt.alloc())?;
+    expect_around_ann(&rt, rt.alloc(), &batch)
 }

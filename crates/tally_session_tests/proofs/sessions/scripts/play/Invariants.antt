@@ -1,5 +1,5 @@
 use Rattle.std.proofs.Common.{◌≡◌}
-use Rattle.tally_record_tests.proofs.sessions.scripts.played.Given as goal
+use Rattle.tally_session_tests.proofs.sessions.scripts.play.Given as goal
 
 abbrev pub invariant-loop-line : goal.invariant-loop-line
 invariant-loop-line l =

@@ -1,9 +1,9 @@
 //! Days of clocks whose offset changes.
-use crate::sessions::scripts::played;
-use crate::sessions::texts::{day_users_on, days_on};
+use crate::sessions::texts::{Asked, expect};
 use jiff_tz::{TimeZone, posix};
 use std::alloc::Global;
-use std::hash::RandomState;
+use std::process::Abort;
+use std::random::RandomSource;
 use std::test::Fail;
 use tally_clock::Clock;
 
@@ -18,10 +18,8 @@ fn clock_of(alloc: Global, rule: &str) -> Result<Clock, Fail> {
     }
 }
 
-// The seconds of Europe/Berlin in March and October 2026, counted with Python's zoneinfo.
-#[test]
-fn days_have_23_or_25_hours(rt: HostRuntime) -> Result<(), Fail> {
-    let clock = clock_of(rt.alloc(), "CET-1CEST,M3.5.0,M10.5.0/3")?;
+/// Asserts the days of some scripts by Berlin's clock.
+fn expect_days<R: Abort + RandomSource>(rt: &R, alloc: Global, clock: &Clock) -> Result<(), Fail> {
     for (script, told) in [
         (
             "0 in tty1 ann 1774699200;0 out tty1 - 1774872000",
@@ -36,11 +34,26 @@ fn days_have_23_or_25_hours(rt: HostRuntime) -> Result<(), Fail> {
             "20751 3600;",
         ),
     ] {
-        let sessions = played(rt.alloc(), RandomState::new(&rt)?, script)?;
-        let days = days_on(rt.alloc(), &sessions, &clock, 0, None)?;
-        assert_eq!(rt; days.as_str(), told, "{script}");
+        expect(rt, alloc, script, Asked::Days(clock, 0), told)?;
     }
     Ok(())
+}
+
+// The seconds of Europe/Berlin in March and October 2026, counted with Python's zoneinfo.
+#[test]
+fn days_have_23_or_25_hours(rt: HostRuntime) -> Result<(), Fail> {
+    let clock = clock_of(rt.alloc(), "CET-1CEST,M3.5.0,M10.5.0/3")?;
+    expect_days(&rt, rt.alloc(), &clock)
+}
+
+/// Asserts the rows by day, and by day and user, of two sessions.
+fn expect_rows<R: Abort + RandomSource>(rt: &R, alloc: Global, clock: &Clock) -> Result<(), Fail> {
+    let script =
+        "0 in tty1 ann 774000;0 in tty2 bob 774000;0 out tty1 - 867600;0 out tty2 - 777601";
+    let days = "8 7200;9 86401;10 3600;";
+    expect(rt, alloc, script, Asked::Days(clock, 0), days)?;
+    let users = "8 ann 3600;8 bob 3600;9 ann 86400;9 bob 1;10 ann 3600;";
+    expect(rt, alloc, script, Asked::DayUsers(clock), users)
 }
 
 // Summer time from the start of January 10th to that of the 11th alone: an hour of the 9th, all of the 10th
@@ -48,15 +61,5 @@ fn days_have_23_or_25_hours(rt: HostRuntime) -> Result<(), Fail> {
 #[test]
 fn sessions_have_whole_rows_of_a_clock(rt: HostRuntime) -> Result<(), Fail> {
     let clock = clock_of(rt.alloc(), "AAA0BBB-1,J10/0,J11/0")?;
-    let script =
-        "0 in tty1 ann 774000;0 in tty2 bob 774000;0 out tty1 - 867600;0 out tty2 - 777601";
-    let sessions = played(rt.alloc(), RandomState::new(&rt)?, script)?;
-    let days = days_on(rt.alloc(), &sessions, &clock, 0, None)?;
-    assert_eq!(rt; days.as_str(), "8 7200;9 86401;10 3600;");
-    let users = day_users_on(rt.alloc(), &sessions, &clock, None)?;
-    assert_eq!(rt;
-        users.as_str(),
-        "8 ann 3600;8 bob 3600;9 ann 86400;9 bob 1;10 ann 3600;"
-    );
-    Ok(())
+    expect_rows(&rt, rt.alloc(), &clock)
 }

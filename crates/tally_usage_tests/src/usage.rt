@@ -2,9 +2,10 @@
 use std::alloc::Global;
 use std::hash::RandomState;
 use std::process::Abort;
+use std::random::RandomSource;
 use std::test::Fail;
 use tally_records::{Batch, BatchFault, Comm, Kind, List, Memory, PROC_SIZE};
-use tally_usage::{CommandRow, ENTRY_LIMIT, Order, Summary, UidRow, Usage};
+use tally_usage::{CommandRow, ENTRY_LIMIT, Order, ProcList, Summary, UidRow, Usage};
 
 mod commands;
 mod filters;
@@ -56,8 +57,29 @@ fn batch_of(alloc: Global, records: &[[u8; PROC_SIZE]]) -> Result<Batch, BatchFa
     }
 }
 
-/// Posts the records as a batch of the host. Where `prepare` is refused once, the entries and the
-/// total are as before, and the same `prepare` then succeeds.
+/// Posts a batch of the host. Where `prepare` is refused once, the entries and the total are as
+/// before, and the same `prepare` then succeeds.
+fn post_batch(
+    rt: &impl Abort,
+    summary: &mut Summary,
+    host: u32,
+    batch: &Batch,
+) -> Result<(), Fail> {
+    let Kind::Proc = batch.kind() else {
+        return Ok(());
+    };
+    let stored = summary.entries().len();
+    let total = summary.total();
+    assert!(rt; stored + batch.len() <= ENTRY_LIMIT);
+    if summary.prepare(host, batch).is_err() {
+        assert!(rt; summary.entries().len() == stored && summary.total() == total);
+        summary.prepare(host, batch)?;
+    }
+    summary.add(host, batch);
+    Ok(())
+}
+
+/// Posts the records as a batch of the host.
 fn post(
     rt: &impl Abort,
     alloc: Global,
@@ -66,18 +88,7 @@ fn post(
     records: &[[u8; PROC_SIZE]],
 ) -> Result<(), Fail> {
     let batch = batch_of(alloc, records)?;
-    let Kind::Proc = batch.kind() else {
-        return Ok(());
-    };
-    let stored = summary.entries().len();
-    let total = summary.total();
-    assert!(rt; stored + batch.len() <= ENTRY_LIMIT);
-    if summary.prepare(host, &batch).is_err() {
-        assert!(rt; summary.entries().len() == stored && summary.total() == total);
-        summary.prepare(host, &batch)?;
-    }
-    summary.add(host, &batch);
-    Ok(())
+    post_batch(rt, summary, host, &batch)
 }
 
 /// The rows by command, tried twice.
@@ -107,17 +118,64 @@ fn users_of(
     }
 }
 
-/// A summary of these records, posted by host 1.
-fn summary_of(
+/// What a summary must answer.
+#[derive(Clone, Copy)]
+enum Wanted<'a> {
+    /// These rows by command in an order, of all commands or not, and reversed or not.
+    Commands(Order, [bool; 2], &'a [CommandRow]),
+    /// This total, and these rows by user, that of most processor time first.
+    Users(&'a Usage, &'a [UidRow]),
+}
+
+/// Asserts that these rows were found.
+fn expect_rows<T: Copy + Drop + PartialEq>(
+    rt: &impl Abort,
+    found: Result<List<T>, Memory>,
+    rows: &[T],
+) -> Result<(), Fail> {
+    let found = found?;
+    assert!(rt; found.as_slice() == rows);
+    Ok(())
+}
+
+/// Posts the records by host 1, and asserts that the summary answers so.
+fn expect_after(
     rt: &impl Abort,
     alloc: Global,
-    keys: RandomState,
+    summary: &mut Summary,
     records: &[[u8; PROC_SIZE]],
-) -> Result<Summary, Fail> {
-    let mut summary = Summary::new(alloc, keys);
-    post(rt, alloc, &mut summary, 1, records)?;
-    Ok(summary)
+    wanted: Wanted,
+) -> Result<(), Fail> {
+    post(rt, alloc, summary, 1, records)?;
+    match wanted {
+        Wanted::Commands(order, flags, rows) => {
+            expect_rows(rt, commands_of(alloc, summary, order, flags), rows)
+        }
+        Wanted::Users(total, rows) => {
+            assert!(rt; summary.total() == *total);
+            expect_rows(rt, users_of(alloc, summary, Order::Cpu, false), rows)
+        }
+    }
 }
+
+/// The same of a new summary.
+fn expect<R: Abort + RandomSource>(
+    rt: &R,
+    alloc: Global,
+    records: &[[u8; PROC_SIZE]],
+    wanted: Wanted,
+) -> Result<(), Fail> {
+    let mut summary = Summary::new(alloc, RandomState::new(rt)?);
+    expect_after(rt, alloc, &mut summary, records, wanted)
+}
+
+const NONE: Usage = Usage {
+    count: 0,
+    real: 0,
+    cpu: 0,
+    io: 0,
+    mem_cpu: 0,
+};
 
 const EXECUTED: Usage = Usage {
     count: 1,
@@ -145,34 +203,37 @@ const TOTAL: Usage = Usage {
 
 #[test]
 fn a_user_has_the_sum_of_all_commands(rt: HostRuntime) -> Result<(), Fail> {
-    let summary = summary_of(&rt, rt.alloc(), RandomState::new(&rt)?, &makes())?;
-    assert!(rt; summary.total() == TOTAL);
-    let found = users_of(rt.alloc(), &summary, Order::Cpu, false)?;
-    let row = UidRow {
+    let rows = [UidRow {
         uid: 100,
         usage: TOTAL,
-    };
-    assert!(rt; found.as_slice() == [row].as_slice());
-    Ok(())
+    }];
+    expect(&rt, rt.alloc(), &makes(), Wanted::Users(&TOTAL, &rows))
 }
 
 #[test]
 fn no_records_have_no_rows(rt: HostRuntime) -> Result<(), Fail> {
-    let summary = summary_of(&rt, rt.alloc(), RandomState::new(&rt)?, &[])?;
-    let commands = commands_of(rt.alloc(), &summary, Order::Cpu, [false, false])?;
-    let users = users_of(rt.alloc(), &summary, Order::Cpu, false)?;
-    assert!(rt; commands.len() == 0 && users.len() == 0);
+    let commands = Wanted::Commands(Order::Cpu, [false, false], &[]);
+    expect(&rt, rt.alloc(), &[], commands)?;
+    expect(&rt, rt.alloc(), &[], Wanted::Users(&NONE, &[]))
+}
+
+/// Posts the three runs of make as host 1, as the last host, and as host 1 again.
+fn post_thrice(rt: &impl Abort, alloc: Global, summary: &mut Summary) -> Result<(), Fail> {
+    for host in [1, 4_294_967_295, 1] {
+        post(rt, alloc, summary, host, &makes())?;
+    }
+    assert!(rt; summary.entries().len() == 9);
     Ok(())
 }
 
-#[test]
-fn entries_are_the_batches_in_order(rt: HostRuntime) -> Result<(), Fail> {
-    let mut summary = summary_of(&rt, rt.alloc(), RandomState::new(&rt)?, &makes())?;
-    post(&rt, rt.alloc(), &mut summary, 4_294_967_295, &makes())?;
-    post(&rt, rt.alloc(), &mut summary, 1, &makes())?;
-    let shown = summary.entries().len();
-    let entries = summary.into_entries();
-    assert!(rt; shown == 9 && entries.len() == 9);
+/// Asserts that the entries are those of the three posts, in order.
+fn expect_three_posts(
+    rt: &impl Abort,
+    posted: Result<(), Fail>,
+    entries: &ProcList,
+) -> Result<(), Fail> {
+    posted?;
+    assert!(rt; entries.len() == 9);
     for i in 0..entries.len() {
         let entry = entries.get(i).ok_or("an entry at each place")?;
         let host = if i / 3 == 1 { 4_294_967_295 } else { 1 };
@@ -180,4 +241,11 @@ fn entries_are_the_batches_in_order(rt: HostRuntime) -> Result<(), Fail> {
         assert!(rt; entry.host == host && entry.item.flag == flag, "at {i}");
     }
     Ok(())
+}
+
+#[test]
+fn entries_are_the_batches_in_order(rt: HostRuntime) -> Result<(), Fail> {
+    let mut summary = Summary::new(rt.alloc(), RandomState::new(&rt)?);
+    let posted = post_thrice(&rt, rt.alloc(), &mut summary);
+    expect_three_posts(&rt, posted, &summary.into_entries())
 }

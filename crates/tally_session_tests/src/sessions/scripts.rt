@@ -61,13 +61,22 @@ pub(crate) fn post_below(
     Ok(())
 }
 
-/// The sessions of three hosts after a script, each record in a batch of its own.
+/// Posts the records of a script, each in a batch of its own.
+fn play(alloc: Global, sessions: &mut Sessions, script: &str) -> Result<(), Fail>
+    requires { sessions.old.hosts ≡ 3 }
+    ensures { OnOk result (sessions.new.hosts ≡ 3) }
+{
+    for line in script.split(';') {
+        post_below(alloc, sessions, &record_of(line)?)?;
+    }
+    Ok(())
+}
+
+/// The sessions of three hosts after a script.
 pub(crate) fn played(alloc: Global, keys: RandomState, script: &str) -> Result<Sessions, Fail>
     ensures { IfOk result (λ s. s.hosts ≡ 3) }
 {
     let mut sessions = Sessions::new(alloc, keys, 3)?;
-    for line in script.split(';') {
-        post_below(alloc, &mut sessions, &record_of(line)?)?;
-    }
+    play(alloc, &mut sessions, script)?;
     Ok(sessions)
 }

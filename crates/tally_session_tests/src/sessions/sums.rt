@@ -1,19 +1,32 @@
 //! Connect time of all hosts, and its rows by user and by day.
+ghost use Rattle.std.specs.Prelude.{◌<◌};
+
 use crate::sessions::name;
 use crate::sessions::scripts::played;
-use crate::sessions::texts::{day_users_of, days_of, users_of};
+use crate::sessions::texts::{Asked, expect};
 use std::hash::RandomState;
+use std::process::Abort;
 use std::test::Fail;
+use tally_clock::Clock;
+use tally_sessions::Sessions;
+
+/// Asserts the total, ann's time and the first second of host 0.
+fn expect_sums(rt: &impl Abort, sessions: &Sessions)
+    requires { 0 < sessions.now.hosts }
+{
+    let ann = sessions.connect(&name("ann"), None);
+    let first = sessions.first(0);
+    assert_eq!(rt; (sessions.total(None), ann, first), (770, 670, Some(1000)));
+}
 
 #[test]
 fn sums_are_of_all_hosts(rt: HostRuntime) -> Result<(), Fail> {
     let script =
         "0 in tty1 ann 1000;1 in tty1 ann 900;0 in tty1 bob 1600;1 out tty1 - 970;0 out tty1 - 1700";
     let sessions = played(rt.alloc(), RandomState::new(&rt)?, script)?;
-    let ann = sessions.connect(&name("ann"), None);
-    let first = sessions.first(0);
-    assert_eq!(rt; (sessions.total(None), ann, first), (770, 670, Some(1000)));
-    assert_eq!(rt; sessions.into_entries().len(), 5);
+    expect_sums(&rt, &sessions);
+    let count = sessions.into_entries().len();
+    assert_eq!(rt; count, 5);
     Ok(())
 }
 
@@ -21,16 +34,13 @@ fn sums_are_of_all_hosts(rt: HostRuntime) -> Result<(), Fail> {
 fn users_without_connect_time_have_no_row(rt: HostRuntime) -> Result<(), Fail> {
     let script =
         "0 in tty1 carl 2000;1 in tty1 bob 0;0 out tty1 - 1000;0 in tty1 bob 1000;1 out tty1 - 60;0 in tty1 ann 1600;0 out tty1 - 2200";
-    let sessions = played(rt.alloc(), RandomState::new(&rt)?, script)?;
-    assert_eq!(rt;
-        users_of(rt.alloc(), &sessions, None)?.as_str(),
-        "ann 600;bob 660;"
-    );
-    Ok(())
+    let told = "ann 600;bob 660;";
+    expect(&rt, rt.alloc(), script, Asked::Users, told)
 }
 
 #[test]
 fn midnight_divides_a_session_at_each_offset(rt: HostRuntime) -> Result<(), Fail> {
+    let utc = &Clock::utc(rt.alloc());
     for (script, offset, told) in [
         (
             "0 in tty1 ann 84600;0 out tty1 - 88200",
@@ -44,12 +54,7 @@ fn midnight_divides_a_session_at_each_offset(rt: HostRuntime) -> Result<(), Fail
             "-1 3600;0 3600;",
         ),
     ] {
-        let sessions = played(rt.alloc(), RandomState::new(&rt)?, script)?;
-        assert_eq!(rt;
-            days_of(rt.alloc(), &sessions, offset, None)?.as_str(),
-            told,
-            "{script} at {offset}"
-        );
+        expect(&rt, rt.alloc(), script, Asked::Days(utc, offset), told)?;
     }
     Ok(())
 }
@@ -57,8 +62,7 @@ fn midnight_divides_a_session_at_each_offset(rt: HostRuntime) -> Result<(), Fail
 #[test]
 fn users_have_their_own_rows_on_a_day(rt: HostRuntime) -> Result<(), Fail> {
     let script = "0 in tty1 bob 84600;0 in tty2 ann 86400;0 boot ~ reboot 88200";
-    let sessions = played(rt.alloc(), RandomState::new(&rt)?, script)?;
-    let told = day_users_of(rt.alloc(), &sessions, None)?;
-    assert_eq!(rt; told.as_str(), "0 bob 1800;1 ann 1800;1 bob 1800;");
-    Ok(())
+    let utc = &Clock::utc(rt.alloc());
+    let told = "0 bob 1800;1 ann 1800;1 bob 1800;";
+    expect(&rt, rt.alloc(), script, Asked::DayUsers(utc), told)
 }

@@ -1,13 +1,6 @@
 //! What clock changes do to stays.
-use crate::sessions::scripts::played;
-use crate::sessions::texts::stays_of;
-use std::alloc::Global;
-use std::hash::RandomState;
+use crate::sessions::texts::{Asked, expect};
 use std::test::Fail;
-
-fn stays_after(alloc: Global, keys: RandomState, script: &str) -> Result<String, Fail> {
-    stays_of(alloc, &played(alloc, keys, script)?, None, None)
-}
 
 #[test]
 fn clock_pair_moves_the_start(rt: HostRuntime) -> Result<(), Fail> {
@@ -33,11 +26,7 @@ fn clock_pair_moves_the_start(rt: HostRuntime) -> Result<(), Fail> {
             "ann Logout 1000 6000 5000;",
         ),
     ] {
-        assert_eq!(rt;
-            stays_after(rt.alloc(), RandomState::new(&rt)?, script)?.as_str(),
-            told,
-            "{script}"
-        );
+        expect(&rt, rt.alloc(), script, Asked::Stays(None), told)?;
     }
     Ok(())
 }
@@ -58,11 +47,7 @@ fn start_is_clamped_and_a_backward_session_has_no_length(rt: HostRuntime) -> Res
             "ann Logout 0 -1000 0;",
         ),
     ] {
-        assert_eq!(rt;
-            stays_after(rt.alloc(), RandomState::new(&rt)?, script)?.as_str(),
-            told,
-            "{script}"
-        );
+        expect(&rt, rt.alloc(), script, Asked::Stays(None), told)?;
     }
     Ok(())
 }

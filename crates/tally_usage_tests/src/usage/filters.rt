@@ -1,20 +1,13 @@
 //! The rows by plain filters over the list of entries, compared with those of a summary.
-use super::{BELL, MAKE, OTHER, commands_of, post, proc_record, row, users_of};
+use super::{BELL, MAKE, NONE, OTHER, commands_of, expect_rows, post, proc_record, row, users_of};
 use std::alloc::{AllocError, Global};
 use std::cmp::Ordering;
 use std::hash::RandomState;
 use std::process::Abort;
+use std::random::RandomSource;
 use std::test::Fail;
-use tally_records::{Comm, List, PROC_SIZE, ProcRecord};
+use tally_records::{Comm, PROC_SIZE, ProcRecord};
 use tally_usage::{CommandRow, Order, ProcEntry, Summary, UidRow, Usage};
-
-const NONE: Usage = Usage {
-    count: 0,
-    real: 0,
-    cpu: 0,
-    io: 0,
-    mem_cpu: 0,
-};
 
 /// Adds a record. The sums of these lists are small, so nothing saturates.
 fn add(usage: &mut Usage, process: &ProcRecord) {
@@ -124,36 +117,51 @@ fn user_rows(alloc: Global, entries: &[ProcEntry], order: Order) -> Result<Vec<U
     Ok(rows)
 }
 
-/// Asserts that these rows were found, and the same in reverse.
-fn expect_rows<T: Copy + Drop + PartialEq>(
+/// Asserts that the rows by command are those of the filters, and the same in reverse.
+fn expect_commands(
     rt: &impl Abort,
-    mut rows: Vec<T>,
-    found: &List<T>,
-    reversed: &List<T>,
-) {
-    assert!(rt; found.as_slice() == rows.as_slice());
+    alloc: Global,
+    summary: &Summary,
+    entries: &[ProcEntry],
+    order: Order,
+    all: bool,
+) -> Result<(), Fail> {
+    let mut rows = command_rows(alloc, entries, order, all)?;
+    let found = commands_of(alloc, summary, order, [all, false]);
+    expect_rows(rt, found, rows.as_slice())?;
     rows.reverse();
-    assert!(rt; reversed.as_slice() == rows.as_slice());
+    let reversed = commands_of(alloc, summary, order, [all, true]);
+    expect_rows(rt, reversed, rows.as_slice())
 }
 
-/// Asserts that the summary answers as the filters do, in this order and with each flag.
+/// The same of the rows by user.
+fn expect_users(
+    rt: &impl Abort,
+    alloc: Global,
+    summary: &Summary,
+    entries: &[ProcEntry],
+    order: Order,
+) -> Result<(), Fail> {
+    let mut rows = user_rows(alloc, entries, order)?;
+    expect_rows(rt, users_of(alloc, summary, order, false), rows.as_slice())?;
+    rows.reverse();
+    expect_rows(rt, users_of(alloc, summary, order, true), rows.as_slice())
+}
+
+/// Asserts that the summary of these entries answers as the filters do, in each order and with each flag.
 fn expect_filtered(
     rt: &impl Abort,
     alloc: Global,
     summary: &Summary,
-    order: Order,
+    entries: &[ProcEntry],
 ) -> Result<(), Fail> {
-    let entries = entries_of(alloc, summary)?;
-    for all in [false, true] {
-        let rows = command_rows(alloc, entries.as_slice(), order, all)?;
-        let found = commands_of(alloc, summary, order, [all, false])?;
-        let reversed = commands_of(alloc, summary, order, [all, true])?;
-        expect_rows(rt, rows, &found, &reversed);
+    assert!(rt; summary.total() == total_of(entries));
+    for order in [Order::Cpu, Order::Calls] {
+        for all in [false, true] {
+            expect_commands(rt, alloc, summary, entries, order, all)?;
+        }
+        expect_users(rt, alloc, summary, entries, order)?;
     }
-    let rows = user_rows(alloc, entries.as_slice(), order)?;
-    let found = users_of(alloc, summary, order, false)?;
-    let reversed = users_of(alloc, summary, order, true)?;
-    expect_rows(rt, rows, &found, &reversed);
     Ok(())
 }
 
@@ -181,19 +189,37 @@ fn generated(alloc: Global, seed: u32, count: usize) -> Result<Vec<[u8; PROC_SIZ
     Ok(records)
 }
 
+/// Posts so many records of a seed, and asserts that the summary then answers as the filters do.
+fn post_generated(
+    rt: &impl Abort,
+    alloc: Global,
+    summary: &mut Summary,
+    seed: u32,
+    count: usize,
+) -> Result<(), Fail> {
+    let records = generated(alloc, seed, count)?;
+    post(rt, alloc, summary, seed, records.as_slice())?;
+    expect_filtered(rt, alloc, summary, entries_of(alloc, summary)?.as_slice())
+}
+
+/// Posts batches of several lengths, each followed by a comparison.
+fn post_each(rt: &impl Abort, alloc: Global, summary: &mut Summary, seed: u32) -> Result<(), Fail> {
+    for count in [0, 1, 2, 4, 9] {
+        post_generated(rt, alloc, summary, seed, count)?;
+    }
+    Ok(())
+}
+
+/// The same to a new summary.
+fn compare<R: Abort + RandomSource>(rt: &R, alloc: Global, seed: u32) -> Result<(), Fail> {
+    let mut summary = Summary::new(alloc, RandomState::new(rt)?);
+    post_each(rt, alloc, &mut summary, seed)
+}
+
 #[test]
 fn answers_are_those_of_plain_filters(rt: HostRuntime) -> Result<(), Fail> {
     for seed in 0..12 {
-        let mut summary = Summary::new(rt.alloc(), RandomState::new(&rt)?);
-        for count in [0, 1, 2, 4, 9] {
-            let records = generated(rt.alloc(), seed, count)?;
-            post(&rt, rt.alloc(), &mut summary, seed, records.as_slice())?;
-            let entries = entries_of(rt.alloc(), &summary)?;
-            assert!(rt; summary.total() == total_of(entries.as_slice()));
-            for order in [Order::Cpu, Order::Calls] {
-                expect_filtered(&rt, rt.alloc(), &summary, order)?;
-            }
-        }
+        compare(&rt, rt.alloc(), seed)?;
     }
     Ok(())
 }

@@ -1,0 +1,5 @@
+//! Tests of sessions: worked scripts, and a slow program beside the quick one.
+#![tactic(auto)]
+
+#[cfg(test)]
+mod sessions;

@@ -1,0 +1,5 @@
+//! Tests of usage sums: worked examples, and plain filters beside the sums.
+#![tactic(auto)]
+
+#[cfg(test)]
+mod usage;
