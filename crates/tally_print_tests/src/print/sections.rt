@@ -33,6 +33,16 @@ fn record(kind: u8, line: &[u8], user: &[u8], time: i32) -> [u8; 384] {
     bytes
 }
 
+/// Posts the records of a host.
+fn post(alloc: Global, book: &mut Book, host: u32, records: &[[u8; 384]]) -> Result<(), Fail>
+    requires { host < book.old.callers }
+    ensures { book.new.callers ≡ book.old.callers }
+{
+    let batch = Batch::logins(alloc, records.as_flattened())?;
+    book.post(host, &batch)?;
+    Ok(())
+}
+
 /// Posts for one host a running time with a login in it, for the other two logins, of which one has not ended.
 fn post_both(alloc: Global, book: &mut Book) -> Result<(), Fail>
     requires { book.old.callers ≡ 2 }
@@ -48,83 +58,170 @@ fn post_both(alloc: Global, book: &mut Book) -> Result<(), Fail>
         record(7, b"tty2", b"bob", 0),
         record(8, b"tty1", b"", 90_000),
     ];
-    book.post(0, &Batch::logins(alloc, boot.as_flattened())?)?;
-    book.post(1, &Batch::logins(alloc, logins.as_flattened())?)?;
-    Ok(())
+    post(alloc, book, 0, &boot)?;
+    post(alloc, book, 1, &logins)
 }
 
-/// The sessions of both.
+/// The book of both.
+fn posted(alloc: Global, keys: RandomState) -> Result<Book, Fail>
+    ensures { IfOk result (λ book. book.callers ≡ 2) }
+{
+    let mut book = Book::new(alloc, keys, 2)?;
+    post_both(alloc, &mut book)?;
+    Ok(book)
+}
+
+/// Their sessions.
 fn sessions<R: AllocGlobal + Threads + Sync>(rt: &R, keys: RandomState) -> Result<Sessions, Fail>
     ensures { IfOk result (λ s. s.hosts ≡ 2) }
 {
-    let mut book = Book::new(rt.alloc(), keys, 2)?;
-    post_both(rt.alloc(), &mut book)?;
+    let book = posted(rt.alloc(), keys)?;
     Ok(book.into_sessions(rt, rt.alloc(), 2)?)
 }
 
-/// Asserts that a section of stays is printed as the list of these.
-fn expect_lines(
-    rt: &impl Abort,
-    alloc: Global,
-    sessions: &Sessions,
+/// Which stays are printed: those of a host up to a limit, the open ones counted up to a moment, at an offset.
+#[derive(Clone, Copy)]
+struct Asked {
     host: u32,
     limit: Option<u32>,
     until: Option<i32>,
     offset: i32,
-) -> Result<(), Fail>
-    requires host { host < sessions.now.hosts }
-    requires offset { IsOffset offset }
+}
+
+/// The printed list of these stays.
+fn printed_list(
+    alloc: Global,
+    clock: &Clock,
+    sessions: &Sessions,
+    asked: &Asked,
+) -> Result<Kept, Fail>
+    requires host { asked.now.host < sessions.now.hosts }
+    requires offset { IsOffset asked.now.offset }
 {
-    let utc = Clock::utc(alloc);
-    let rows = sessions.stays(alloc, host, limit, until)?;
-    let first = sessions.first(host);
-    let mut wanted = Kept::new(alloc);
+    let first = sessions.first(asked.host);
+    let rows = sessions.stays(alloc, asked.host, asked.limit, asked.until)?;
+    let mut out = Kept::new(alloc);
     print_last(
         alloc,
-        &utc,
+        clock,
         rows.as_slice(),
         first,
-        offset,
-        &mut wanted,
-        until,
+        asked.offset,
+        &mut out,
+        asked.until,
     )?;
+    Ok(out)
+}
+
+/// Asserts that a section of these stays is printed so.
+fn expect_section(
+    rt: &impl Abort,
+    alloc: Global,
+    clock: &Clock,
+    sessions: &Sessions,
+    asked: &Asked,
+    text: &[u8],
+)
+    requires host { asked.now.host < sessions.now.hosts }
+    requires offset { IsOffset asked.now.offset }
+{
+    let Asked {
+        host,
+        limit,
+        until,
+        offset,
+    } = *asked;
     let section = Section::Stays { host, limit, until };
     let mut out = Kept::new(alloc);
-    let printed = print_all_sections(alloc, &utc, sessions, &[section], offset, &mut out, until);
-    is_printed(rt, printed, &out, wanted.bytes());
+    let printed = print_all_sections(alloc, clock, sessions, &[section], offset, &mut out, until);
+    is_printed(rt, printed, &out, text);
+}
+
+/// Asserts that it is printed as the list of them.
+fn expect_list(
+    rt: &impl Abort,
+    alloc: Global,
+    clock: &Clock,
+    sessions: &Sessions,
+    asked: &Asked,
+) -> Result<(), Fail>
+    requires host { asked.now.host < sessions.now.hosts }
+    requires offset { IsOffset asked.now.offset }
+{
+    let wanted = printed_list(alloc, clock, sessions, asked)?;
+    expect_section(rt, alloc, clock, sessions, asked, wanted.bytes());
     Ok(())
+}
+
+/// The printed table of these stays.
+fn printed_table(
+    alloc: Global,
+    clock: &Clock,
+    sessions: &Sessions,
+    asked: &Asked,
+) -> Result<Kept, Fail>
+    requires host { asked.now.host < sessions.now.hosts }
+    requires offset { IsOffset asked.now.offset }
+{
+    let rows = sessions.stays(alloc, asked.host, asked.limit, asked.until)?;
+    let answer = Answer::Last { rows, first: None };
+    let mut out = Kept::new(alloc);
+    print_table(
+        alloc,
+        clock,
+        Table::Stays,
+        &[answer],
+        asked.offset,
+        &mut out,
+    )?;
+    Ok(out)
+}
+
+/// Asserts that the table of a section of these stays is this text.
+fn expect_section_table(
+    rt: &impl Abort,
+    alloc: Global,
+    clock: &Clock,
+    sessions: &Sessions,
+    asked: &Asked,
+    text: &[u8],
+)
+    requires host { asked.now.host < sessions.now.hosts }
+    requires offset { IsOffset asked.now.offset }
+{
+    let Asked {
+        host,
+        limit,
+        until,
+        offset,
+    } = *asked;
+    let sections = [Section::Stays { host, limit, until }];
+    let mut out = Kept::new(alloc);
+    let printed = print_section_table(
+        alloc,
+        clock,
+        sessions,
+        Table::Stays,
+        &sections,
+        offset,
+        &mut out,
+    );
+    is_printed(rt, printed, &out, text);
 }
 
 /// Asserts that it is the same table.
 fn expect_table(
     rt: &impl Abort,
     alloc: Global,
+    clock: &Clock,
     sessions: &Sessions,
-    host: u32,
-    limit: Option<u32>,
-    until: Option<i32>,
-    offset: i32,
+    asked: &Asked,
 ) -> Result<(), Fail>
-    requires host { host < sessions.now.hosts }
-    requires offset { IsOffset offset }
+    requires host { asked.now.host < sessions.now.hosts }
+    requires offset { IsOffset asked.now.offset }
 {
-    let utc = Clock::utc(alloc);
-    let rows = sessions.stays(alloc, host, limit, until)?;
-    let answer = Answer::Last { rows, first: None };
-    let mut wanted = Kept::new(alloc);
-    print_table(alloc, &utc, Table::Stays, &[answer], offset, &mut wanted)?;
-    let section = Section::Stays { host, limit, until };
-    let mut out = Kept::new(alloc);
-    let printed = print_section_table(
-        alloc,
-        &utc,
-        sessions,
-        Table::Stays,
-        &[section],
-        offset,
-        &mut out,
-    );
-    is_printed(rt, printed, &out, wanted.bytes());
+    let wanted = printed_table(alloc, clock, sessions, asked)?;
+    expect_section_table(rt, alloc, clock, sessions, asked, wanted.bytes());
     Ok(())
 }
 
@@ -132,6 +229,7 @@ fn expect_table(
 fn expect_sections(
     rt: &impl Abort,
     alloc: Global,
+    clock: &Clock,
     sessions: &Sessions,
     until: Option<i32>,
     offset: i32,
@@ -141,8 +239,14 @@ fn expect_sections(
 {
     for host in 0..2 {
         for limit in [None, Some(1), Some(2)] {
-            expect_lines(rt, alloc, sessions, host, limit, until, offset)?;
-            expect_table(rt, alloc, sessions, host, limit, until, offset)?;
+            let asked = Asked {
+                host,
+                limit,
+                until,
+                offset,
+            };
+            expect_list(rt, alloc, clock, sessions, &asked)?;
+            expect_table(rt, alloc, clock, sessions, &asked)?;
         }
     }
     Ok(())
@@ -152,8 +256,9 @@ fn expect_sections(
 fn expect_both(rt: &impl Abort, alloc: Global, sessions: &Sessions) -> Result<(), Fail>
     requires { sessions.now.hosts ≡ 2 }
 {
-    expect_sections(rt, alloc, sessions, None, 0)?;
-    expect_sections(rt, alloc, sessions, Some(200_000), -330)
+    let utc = Clock::utc(alloc);
+    expect_sections(rt, alloc, &utc, sessions, None, 0)?;
+    expect_sections(rt, alloc, &utc, sessions, Some(200_000), -330)
 }
 
 #[test]
