@@ -3,3 +3,5 @@
 
 #[cfg(test)]
 mod desk;
+#[cfg(test)]
+mod equal;

@@ -1,9 +1,11 @@
 //! Callers that feed and ask side by side, each in a thread of its own.
-ghost use Rattle.std.specs.Prelude.{◌≡◌, IfOk};
+ghost use Rattle.std.specs.Prelude.{◌≡◌, IfOk, vec_len};
+ghost use Rattle.std.specs.List.{All};
 
-use crate::desk::makers::{Meeting, twos};
+use crate::desk::makers::{Meeting, book_of, both, pair, twos, with_another};
 use std::alloc::Global;
 use std::hash::RandomState;
+use std::process::Abort;
 use std::sync::Wait;
 use std::test::Fail;
 use std::thread::{Threads, join};
@@ -93,6 +95,47 @@ fn parts_of_two<R: Threads + Wait + Sync>(
     (first, second, one && other)
 }
 
+/// The passes of a desk of four callers.
+fn four_of(desk: &Desk, mut passes: Vec<Pass>) -> (Pass, Pass, Pass, Pass)
+    requires four { vec_len passes ≡ 4 }
+    requires desk { All (λ p. p.desk ≡ desk.now.id) passes.items }
+    ensures first { result.0.desk ≡ desk.now.id }
+    ensures second { result.1.desk ≡ desk.now.id }
+    ensures third { result.2.desk ≡ desk.now.id }
+    ensures fourth { result.3.desk ≡ desk.now.id }
+{
+    let Some(fourth) = passes.pop() else {
+        unreachable!()
+    };
+    let Some(third) = passes.pop() else {
+        unreachable!()
+    };
+    let (first, second) = both(desk, passes);
+    (first, second, third, fourth)
+}
+
+/// The passes of two callers, where both took part.
+fn two_take_part<R: Threads + Wait + Sync>(
+    rt: &R,
+    alloc: Global,
+    desk: &Desk,
+    first: Pass,
+    second: Pass,
+    gate: &Meeting,
+) -> Result<Vec<Pass>, Fail>
+    requires first { first.desk ≡ desk.now.id }
+    requires second { second.desk ≡ desk.now.id }
+    ensures { IfOk result (λ all. All (λ p. p.desk ≡ desk.now.id) all.items) }
+{
+    let (first, second, taken) = parts_of_two(rt, alloc, desk, first, second, gate);
+    let passes = Vec::from_array(alloc, [first, second])?;
+    if taken {
+        Ok(passes)
+    } else {
+        Err("a call was refused")?
+    }
+}
+
 /// The closed book of two callers, where both took part.
 fn book_of_two<R: Threads + Wait + Sync>(
     rt: &R,
@@ -100,19 +143,58 @@ fn book_of_two<R: Threads + Wait + Sync>(
     keys: RandomState,
     gate: &Meeting,
 ) -> Result<Book, Fail> {
-    let (desk, mut passes) = Desk::open(alloc, keys, 2)?;
-    let second = passes.pop().ok_or("a second pass")?;
-    let first = passes.pop().ok_or("a first pass")?;
-    let (first, second, taken) = parts_of_two(rt, alloc, &desk, first, second, gate);
-    let mut handed = Vec::new(alloc);
-    handed.push(first)?;
-    handed.push(second)?;
-    let book = desk.close(handed).ok().ok_or("all passes are there")?;
-    if taken {
-        Ok(book)
-    } else {
-        Err("a call was refused")?
+    let (desk, first, second) = pair(alloc, keys)?;
+    let passes = two_take_part(rt, alloc, &desk, first, second, gate);
+    book_of(desk, passes)
+}
+
+/// The parts of four callers, in a thread each.
+fn parts_of_four<R: Threads + Wait + Sync>(
+    rt: &R,
+    alloc: Global,
+    desk: &Desk,
+    passes: Vec<Pass>,
+    gate: &Meeting,
+) -> (Pass, Pass, Pass, Pass, bool)
+    requires four { vec_len passes ≡ 4 }
+    requires desk { All (λ p. p.desk ≡ desk.now.id) passes.items }
+    ensures first { result.0.desk ≡ desk.now.id }
+    ensures second { result.1.desk ≡ desk.now.id }
+    ensures third { result.2.desk ≡ desk.now.id }
+    ensures fourth { result.3.desk ≡ desk.now.id }
+{
+    let (first, second, third, fourth) = four_of(desk, passes);
+    let ((first, second, one), (third, fourth, other)) = join(
+        rt,
+        || -> (Pass, Pass, bool)
+            requires { (first.desk ≡ desk.now.id) × (second.desk ≡ desk.now.id) }
+        { parts_of_two(rt, alloc, desk, first, second, gate) },
+        || -> (Pass, Pass, bool)
+            requires { (third.desk ≡ desk.now.id) × (fourth.desk ≡ desk.now.id) }
+        { parts_of_two(rt, alloc, desk, third, fourth, gate) },
+    );
+    (first, second, third, fourth, one && other)
+}
+
+/// The passes of four callers, where all took part.
+fn four_take_part<R: Threads + Wait + Sync>(
+    rt: &R,
+    alloc: Global,
+    desk: &Desk,
+    passes: Vec<Pass>,
+    gate: &Meeting,
+) -> Result<Vec<Pass>, Fail>
+    requires four { vec_len passes ≡ 4 }
+    requires desk { All (λ p. p.desk ≡ desk.now.id) passes.items }
+    ensures { IfOk result (λ all. All (λ p. p.desk ≡ desk.now.id) all.items) }
+{
+    let (first, second, third, fourth, taken) = parts_of_four(rt, alloc, desk, passes, gate);
+    if !taken {
+        return Err(Fail::new("a call was refused"));
     }
+    let passes = Vec::from_array(alloc, [first, second])?;
+    let passes = with_another(desk, passes, third)?;
+    with_another(desk, passes, fourth)
 }
 
 /// The closed book of four callers, where all took part.
@@ -122,31 +204,9 @@ fn book_of_four<R: Threads + Wait + Sync>(
     keys: RandomState,
     gate: &Meeting,
 ) -> Result<Book, Fail> {
-    let (desk, mut passes) = Desk::open(alloc, keys, 4)?;
-    let fourth = passes.pop().ok_or("a fourth pass")?;
-    let third = passes.pop().ok_or("a third pass")?;
-    let second = passes.pop().ok_or("a second pass")?;
-    let first = passes.pop().ok_or("a first pass")?;
-    let ((first, second, one), (third, fourth, other)) = join(
-        rt,
-        || -> (Pass, Pass, bool)
-            requires { (first.desk ≡ desk.id) × (second.desk ≡ desk.id) }
-        { parts_of_two(rt, alloc, &desk, first, second, gate) },
-        || -> (Pass, Pass, bool)
-            requires { (third.desk ≡ desk.id) × (fourth.desk ≡ desk.id) }
-        { parts_of_two(rt, alloc, &desk, third, fourth, gate) },
-    );
-    let mut handed = Vec::new(alloc);
-    handed.push(first)?;
-    handed.push(second)?;
-    handed.push(third)?;
-    handed.push(fourth)?;
-    let book = desk.close(handed).ok().ok_or("all passes are there")?;
-    if one && other {
-        Ok(book)
-    } else {
-        Err("a call was refused")?
-    }
+    let (desk, passes) = Desk::open(alloc, keys, 4)?;
+    let passes = four_take_part(rt, alloc, &desk, passes, gate);
+    book_of(desk, passes)
 }
 
 /// How many records are the caller's, how many posts it made, and how many questions it asked.
@@ -170,27 +230,51 @@ fn all_asked_at(book: &Book, last: usize, procs: u64) -> bool {
     calls.all(|call| matches!(call, Call::Asked { at, .. } if at.procs == procs))
 }
 
+/// Asserts that a book has so many calls and process records, an equal share of each caller, and that all asked after the last post.
+fn expect_shares(rt: &impl Abort, book: &Book, callers: u32, calls: usize, procs: u64) {
+    assert!(rt; book.calls().len() == calls);
+    for number in 0..callers {
+        assert!(rt; share_of(book, number) == (1025, 2, 2), "of {number}");
+    }
+    assert!(rt; all_asked_at(book, calls / 2, procs));
+}
+
+/// The same of the book of two callers.
+fn expect_two<R: Abort + Threads + Wait + Sync>(
+    rt: &R,
+    alloc: Global,
+    keys: RandomState,
+    gate: &Meeting,
+) -> Result<(), Fail> {
+    let book = book_of_two(rt, alloc, keys, gate)?;
+    expect_shares(rt, &book, 2, 8, 2050);
+    Ok(())
+}
+
 #[test]
 fn two_callers_feed_and_ask_side_by_side(rt: HostRuntime) -> Result<(), Fail> {
     let gate = Meeting::of(2);
-    let book = book_of_two(&rt, rt.alloc(), RandomState::new(&rt)?, &gate)?;
-    assert_eq!(rt; gate.late(), 0);
-    assert_eq!(rt; book.calls().len(), 8);
-    assert_eq!(rt; share_of(&book, 0), (1025, 2, 2));
-    assert_eq!(rt; share_of(&book, 1), (1025, 2, 2));
-    assert!(rt; all_asked_at(&book, 4, 2050));
+    expect_two(&rt, rt.alloc(), RandomState::new(&rt)?, &gate)?;
+    assert!(rt; gate.late() == 0);
+    Ok(())
+}
+
+/// The same of the book of four callers.
+fn expect_four<R: Abort + Threads + Wait + Sync>(
+    rt: &R,
+    alloc: Global,
+    keys: RandomState,
+    gate: &Meeting,
+) -> Result<(), Fail> {
+    let book = book_of_four(rt, alloc, keys, gate)?;
+    expect_shares(rt, &book, 4, 16, 4100);
     Ok(())
 }
 
 #[test]
 fn four_callers_feed_and_ask_side_by_side(rt: HostRuntime) -> Result<(), Fail> {
     let gate = Meeting::of(4);
-    let book = book_of_four(&rt, rt.alloc(), RandomState::new(&rt)?, &gate)?;
-    assert_eq!(rt; gate.late(), 0);
-    assert_eq!(rt; book.calls().len(), 16);
-    for number in 0..4 {
-        assert_eq!(rt; share_of(&book, number), (1025, 2, 2), "of {number}");
-    }
-    assert!(rt; all_asked_at(&book, 8, 4100));
+    expect_four(&rt, rt.alloc(), RandomState::new(&rt)?, &gate)?;
+    assert!(rt; gate.late() == 0);
     Ok(())
 }
