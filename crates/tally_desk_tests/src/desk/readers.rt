@@ -43,9 +43,8 @@ fn fed_whole<R: Wait>(
 #[test]
 fn the_bytes_of_a_reader_are_fed(rt: HostRuntime) -> Result<(), Fail> {
     let (desk, mut pass) = opened(rt.alloc(), RandomState::new(&rt)?)?;
-    let bytes = [2u8; 192];
-    let fed = fed_whole(&rt, rt.alloc(), &desk, &mut pass, &bytes)?;
-    assert!(rt; fed.records == 3);
+    let fed = fed_whole(&rt, rt.alloc(), &desk, &mut pass, &[2u8; 192]);
+    assert!(rt; fed == Ok(THREE));
     Ok(())
 }
 
@@ -96,7 +95,7 @@ fn whichever_read_fails_posts_nothing(rt: HostRuntime) -> Result<(), Fail> {
         };
         let input = &mut Reading::new(reader);
         let outcome = fed(&rt, rt.alloc(), keys, Kind::Login, input)?;
-        let want = (Err(FeedFault::Read), Some(0));
+        let want = (Err(FeedFault::Read), [0, 0, 0]);
         assert!(rt; outcome == want, "after {left} bytes");
     }
     Ok(())

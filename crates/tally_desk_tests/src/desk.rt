@@ -5,4 +5,5 @@ mod feeding;
 mod makers;
 mod readers;
 mod rounds;
+mod script;
 mod threads;

@@ -1,5 +1,7 @@
 //! Desks, inputs and gates for tests.
-ghost use Rattle.std.specs.Prelude.{◌≡◌, IfOk, None, false};
+ghost use Rattle.std.specs.Prelude.{◌≡◌, IfOk, None, false, vec_len};
+ghost use Rattle.std.specs.List.{All};
+ghost use Rattle.tally_book.specs.Books.{IsLegal};
 
 use std::alloc::{AllocError, Global};
 use std::hash::RandomState;
@@ -22,13 +24,82 @@ pub(crate) fn opened(alloc: Global, keys: RandomState) -> Result<(Desk, Pass), F
     Ok((desk, pass))
 }
 
+/// The passes of a desk of two callers.
+pub(crate) fn both(desk: &Desk, mut passes: Vec<Pass>) -> (Pass, Pass)
+    requires two { vec_len passes ≡ 2 }
+    requires desk { All (λ p. p.desk ≡ desk.now.id) passes.items }
+    ensures first { result.0.desk ≡ desk.now.id }
+    ensures second { result.1.desk ≡ desk.now.id }
+{
+    let Some(second) = passes.pop() else {
+        unreachable!()
+    };
+    let Some(first) = passes.pop() else {
+        unreachable!()
+    };
+    (first, second)
+}
+
+/// A desk of two callers, and their passes.
+pub(crate) fn pair(alloc: Global, keys: RandomState) -> Result<(Desk, Pass, Pass), Fail>
+    ensures first { IfOk result (λ r. r.1.desk ≡ r.0.id) }
+    ensures second { IfOk result (λ r. r.2.desk ≡ r.0.id) }
+{
+    let (desk, passes) = Desk::open(alloc, keys, 2)?;
+    let (first, second) = both(&desk, passes);
+    Ok((desk, first, second))
+}
+
+/// Passes of a desk, and another of them.
+pub(crate) fn with_another(
+    desk: &Desk,
+    mut passes: Vec<Pass>,
+    another: Pass,
+) -> Result<Vec<Pass>, Fail>
+    requires passes { All (λ p. p.desk ≡ desk.now.id) passes.items }
+    requires another { another.desk ≡ desk.now.id }
+    ensures { IfOk result (λ all. All (λ p. p.desk ≡ desk.now.id) all.items) }
+{
+    passes.push(another)?;
+    Ok(passes)
+}
+
+/// The book of a desk, where all its passes are handed in.
+pub(crate) fn book_of(desk: Desk, passes: Result<Vec<Pass>, Fail>) -> Result<Book, Fail>
+    requires { IfOk passes (λ all. All (λ p. p.desk ≡ desk.id) all.items) }
+    ensures legal { IfOk result IsLegal }
+{
+    let passes = passes?;
+    Ok(desk.close(passes).ok().ok_or("all passes are there")?)
+}
+
+/// The only pass of a desk, as a list.
+fn only(alloc: Global, desk: &Desk, pass: Pass) -> Result<Vec<Pass>, Fail>
+    requires { pass.desk ≡ desk.now.id }
+    ensures { IfOk result (λ all. All (λ p. p.desk ≡ desk.now.id) all.items) }
+{
+    Ok(Vec::from_array(alloc, [pass])?)
+}
+
 /// The book of a desk of one caller.
-pub(crate) fn closed(alloc: Global, desk: Desk, pass: Pass) -> Result<Option<Book>, Fail>
+pub(crate) fn closed(alloc: Global, desk: Desk, pass: Pass) -> Result<Book, Fail>
     requires { pass.desk ≡ desk.id }
 {
-    let mut passes = Vec::new(alloc);
-    passes.push(pass)?;
-    Ok(desk.close(passes).ok())
+    let passes = only(alloc, &desk, pass);
+    book_of(desk, passes)
+}
+
+/// How many login records, process records and calls a book has.
+pub(crate) fn counted(book: &Book) -> [usize; 3] {
+    [book.logins().len(), book.procs().len(), book.calls().len()]
+}
+
+/// The same of the book of a desk of one caller.
+pub(crate) fn closed_with(alloc: Global, desk: Desk, pass: Pass) -> Result<[usize; 3], Fail>
+    requires { pass.desk ≡ desk.id }
+{
+    let book = closed(alloc, desk, pass)?;
+    Ok(counted(&book))
 }
 
 /// Process records of version 2.

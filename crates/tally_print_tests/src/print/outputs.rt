@@ -125,14 +125,19 @@ fn the_writer_is_flushed_at_the_end(rt: HostRuntime) {
     assert!(rt; out.finish() == Err(OutputFault));
 }
 
+/// Prints the boots into bytes by way of a writer.
+fn write_boots(alloc: Global, held: &mut Vec<u8>) -> Result<(), Fail> {
+    let mut out = Writing::new(held);
+    let utc = Clock::utc(alloc);
+    print_last(alloc, &utc, &boots(), Some(100), 0, &mut out, None)?;
+    out.finish()?;
+    Ok(())
+}
+
 #[test]
 fn any_writer_takes_the_text(rt: HostRuntime) -> Result<(), Fail> {
     let mut held = Vec::new(rt.alloc());
-    let mut out = Writing::new(&mut held);
-    let utc = Clock::utc(rt.alloc());
-    print_last(rt.alloc(), &utc, &boots(), Some(100), 0, &mut out, None)?;
-    out.finish()?;
-    drop(out);
+    write_boots(rt.alloc(), &mut held)?;
     assert!(rt; held.as_slice() == BOOTS);
     Ok(())
 }

@@ -90,6 +90,14 @@ fn of_file(alloc: Global, stay: Stay) -> Result<Answer, Memory>
     Ok(Answer::Last { rows, first: None })
 }
 
+fn of_files(alloc: Global, first: Stay, second: Stay) -> Result<[Answer; 2], Memory>
+    ensures { IfOk result (λ answers. All HasDays answers) }
+{
+    let first = of_file(alloc, first)?;
+    let second = of_file(alloc, second)?;
+    Ok([first, second])
+}
+
 #[test]
 fn hostile_names_are_quoted(rt: HostRuntime) {
     let rows = [
@@ -122,10 +130,8 @@ fn an_empty_report_is_its_header_and_a_total_stands_alone(rt: HostRuntime) {
 #[test]
 fn stays_of_two_files_stand_under_one_header(rt: HostRuntime) {
     let alloc = rt.alloc();
-    let Ok(first) = of_file(alloc, boot(1100, End::Still, 1100, 0)) else {
-        return;
-    };
-    let Ok(second) = of_file(alloc, login(b"ann", -200, End::Down, 1000, 1200)) else {
+    let ann = login(b"ann", -200, End::Down, 1000, 1200);
+    let Ok(answers) = of_files(alloc, boot(1100, End::Still, 1100, 0), ann) else {
         return;
     };
     let text = b"\
@@ -134,7 +140,7 @@ file,user,line,remote,start,start_at,begin,end,end_time,end_at,seconds
 1,ann,tty1,,-200,1969-12-31T18:26:40-05:30,-200,down,1000,1969-12-31T18:46:40-05:30,1200
 ";
     let utc = Clock::utc(alloc);
-    expect_table(&rt, alloc, &utc, Table::Stays, &[first, second], -330, text);
+    expect_table(&rt, alloc, &utc, Table::Stays, &answers, -330, text);
 }
 
 #[test]

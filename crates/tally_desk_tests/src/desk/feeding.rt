@@ -1,7 +1,7 @@
 //! Feeds of inputs in memory.
 ghost use Rattle.std.specs.Prelude.{◌-◌, ◌^◌, ◌<◌};
 
-use crate::desk::makers::{Turns, Zeros, closed, opened, twos};
+use crate::desk::makers::{Turns, Zeros, closed_with, opened, twos};
 use std::alloc::Global;
 use std::hash::RandomState;
 use std::process::Abort;
@@ -18,23 +18,19 @@ pub(super) const THREE: Fed = Fed {
     batches: 1,
 };
 
-/// Feeds a new desk, and says how many records are stored then.
+/// Feeds a new desk, and says how many login records, process records and calls are stored then.
 pub(super) fn fed<R: Wait, I: Input>(
     rt: &R,
     alloc: Global,
     keys: RandomState,
     kind: Kind,
     input: &mut I,
-) -> Result<(Result<Fed, FeedFault>, Option<usize>), Fail>
+) -> Result<(Result<Fed, FeedFault>, [usize; 3]), Fail>
     requires { I.failures input.old < 2 ^ 64 - 1 }
 {
     let (desk, mut pass) = opened(alloc, keys)?;
     let outcome = feed(rt, alloc, &desk, &mut pass, kind, input, &OpenGate);
-    let stored = closed(alloc, desk, pass)?.map(|book| book
-        .logins()
-        .len()
-        .saturating_add(book.procs().len()));
-    Ok((outcome, stored))
+    Ok((outcome, closed_with(alloc, desk, pass)?))
 }
 
 /// Asserts what comes of an input that a new desk is fed, and how many records are stored then.
@@ -48,8 +44,8 @@ pub(super) fn expect_fed<R: Abort + RandomSource + Wait, I: Input>(
 ) -> Result<(), Fail>
     requires { I.failures input < 2 ^ 64 - 1 }
 {
-    let outcome = fed(rt, alloc, RandomState::new(rt)?, kind, &mut input)?;
-    assert!(rt; outcome == (want, Some(stored)));
+    let (outcome, [logins, procs, _]) = fed(rt, alloc, RandomState::new(rt)?, kind, &mut input)?;
+    assert!(rt; outcome == want && logins.saturating_add(procs) == stored);
     Ok(())
 }
 
@@ -99,17 +95,27 @@ fn a_bad_record_keeps_its_whole_block_out(rt: HostRuntime) -> Result<(), Fail> {
     )
 }
 
+/// Feeds a new desk login records of so many zeros, and says what comes of it and what is stored then.
+fn fed_zeros<R: Wait>(
+    rt: &R,
+    alloc: Global,
+    keys: RandomState,
+    len: usize,
+) -> Result<(Result<Fed, FeedFault>, [usize; 3]), Fail> {
+    let mut input = Bytes::new(vec![in alloc; 0u8; len]?);
+    fed(rt, alloc, keys, Kind::Login, &mut input)
+}
+
 #[test]
 fn wherever_a_record_is_torn_nothing_is_posted(rt: HostRuntime) -> Result<(), Fail> {
     let keys = RandomState::new(&rt)?;
     for len in 1u64..768 {
-        let input = &mut Bytes::new(vec![in rt.alloc(); 0u8; len as usize]?);
-        let outcome = fed(&rt, rt.alloc(), keys, Kind::Login, input)?;
+        let outcome = fed_zeros(&rt, rt.alloc(), keys, len as usize)?;
         let torn = FeedFault::Torn {
             records: len / 384,
             rest: len % 384,
         };
-        let want = (Err(torn), Some(0));
+        let want = (Err(torn), [0, 0, 0]);
         assert!(rt; len == 384 || outcome == want, "{len} bytes");
     }
     Ok(())
@@ -131,20 +137,29 @@ fn zeros_are_no_process_records(rt: HostRuntime) -> Result<(), Fail> {
     expect_fed(&rt, rt.alloc(), Kind::Proc, input, Err(want), 0)
 }
 
+/// What comes of a feed of 2,049 records to a new desk through a gate.
+fn fed_through<R: Wait>(
+    rt: &R,
+    alloc: Global,
+    keys: RandomState,
+    gate: &Turns,
+) -> Result<Result<Fed, FeedFault>, Fail> {
+    let mut input = Bytes::new(twos(alloc, 131_136)?);
+    let (desk, mut pass) = opened(alloc, keys)?;
+    Ok(feed(rt, alloc, &desk, &mut pass, Kind::Proc, &mut input, gate))
+}
+
 #[test]
 fn the_gate_is_told_of_each_post(rt: HostRuntime) -> Result<(), Fail> {
-    let alloc = rt.alloc();
-    let (desk, mut pass) = opened(alloc, RandomState::new(&rt)?)?;
     let gate = Turns {
         digits: AtomicU64::new(0),
     };
-    let mut input = Bytes::new(twos(alloc, 131_136)?);
-    let outcome = feed(&rt, alloc, &desk, &mut pass, Kind::Proc, &mut input, &gate);
+    let outcome = fed_through(&rt, rt.alloc(), RandomState::new(&rt)?, &gate)?;
     let want = Fed {
         records: 2049,
         batches: 3,
     };
     assert!(rt; outcome == Ok(want));
-    assert_eq!(rt; gate.digits.load(Ordering::SeqCst), 123);
+    assert!(rt; gate.digits.load(Ordering::SeqCst) == 123);
     Ok(())
 }
