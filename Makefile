@@ -18,11 +18,12 @@ build:
 look:
 	@.ci/look $(WORDS) $(FILES)
 
-# The gate: the first build, every wrong body, every proof and test from nothing, then every run of the program.
+# The gate: the first build, every wrong body, every proof and test from nothing, then every run of the program. What passed on
+# this machine is kept by checksums, and is done again where a change may have touched it.
 test:
 	@.ci/gate "$(ROWS)"
 
-# The same where the kit keeps what a run on this machine passed: every proof is done again.
+# The same, and every proof and wrong body again.
 test-anew:
 	@.ci/gate "$(ROWS)" --anew
 
