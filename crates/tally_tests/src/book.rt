@@ -3,9 +3,9 @@ ghost use Rattle.std.specs.Prelude.{◌≡◌, ◌<◌, IfOk};
 ghost use Rattle.tally_book.specs.Answers.{IsAskable, HasDays};
 
 use crate::bytes::{logins, make_record, procs, put, session};
-use crate::held::{held_by, holds};
+use crate::held::{Held, held_by, holds};
 use crate::printing::{print_receipt, print_served};
-use crate::stopped::Stopped;
+use crate::stopped::{Stopped, after};
 use crate::window::{grant_growths, refuse_growths};
 use std::alloc::Global;
 use std::hash::RandomState;
@@ -23,6 +23,18 @@ pub(crate) fn new_book(alloc: Global, keys: RandomState) -> Result<Book, Memory>
     }
 }
 
+/// Posts to a book that holds this, and posts again where memory was refused.
+fn post_to(book: &mut Book, before: &Held, caller: u32, batch: &Batch) -> Result<Receipt, Stopped>
+    requires { caller < book.old.callers }
+    ensures { book.new.callers ≡ book.old.callers }
+{
+    match book.post(caller, batch) {
+        Err(PostFault::Memory) if !holds(book, before) => Err(Stopped::Changed("the book")),
+        Err(PostFault::Memory) => Ok(book.post(caller, batch)?),
+        posted => Ok(posted?),
+    }
+}
+
 /// Posts, and posts again where memory was refused.
 pub(crate) fn post(
     alloc: Global,
@@ -34,11 +46,7 @@ pub(crate) fn post(
     ensures { book.new.callers ≡ book.old.callers }
 {
     let before = held_by(alloc, book)?;
-    match book.post(caller, batch) {
-        Err(PostFault::Memory) if !holds(book, &before) => Err(Stopped::Changed("the book")),
-        Err(PostFault::Memory) => Ok(book.post(caller, batch)?),
-        posted => Ok(posted?),
-    }
+    post_to(book, &before, caller, batch)
 }
 
 /// Posts a batch, and prints what the post answered.
@@ -54,6 +62,26 @@ fn print_post<R: Print + AllocGlobal>(
     print_receipt(rt, post(rt.alloc(), book, caller, &batch)?)
 }
 
+/// Asks a book that holds this, and asks again where memory was refused.
+fn ask_of(
+    alloc: Global,
+    book: &mut Book,
+    before: &Held,
+    caller: u32,
+    question: &Question,
+) -> Result<Served, Stopped>
+    requires caller { caller < book.old.callers }
+    requires askable { IsAskable question.now }
+    ensures callers { book.new.callers ≡ book.old.callers }
+    ensures days { IfOk result (λ served. HasDays served.answer) }
+{
+    match book.ask(alloc, caller, question) {
+        Err(AskFault::Memory) if !holds(book, before) => Err(Stopped::Changed("the book")),
+        Err(AskFault::Memory) => Ok(book.ask(alloc, caller, question)?),
+        asked => Ok(asked?),
+    }
+}
+
 /// Asks, and asks again where memory was refused.
 fn ask(alloc: Global, book: &mut Book, caller: u32, question: &Question) -> Result<Served, Stopped>
     requires caller { caller < book.old.callers }
@@ -62,11 +90,7 @@ fn ask(alloc: Global, book: &mut Book, caller: u32, question: &Question) -> Resu
     ensures days { IfOk result (λ served. HasDays served.answer) }
 {
     let before = held_by(alloc, book)?;
-    match book.ask(alloc, caller, question) {
-        Err(AskFault::Memory) if !holds(book, &before) => Err(Stopped::Changed("the book")),
-        Err(AskFault::Memory) => Ok(book.ask(alloc, caller, question)?),
-        asked => Ok(asked?),
-    }
+    ask_of(alloc, book, &before, caller, question)
 }
 
 /// A session of one hour.
@@ -104,8 +128,7 @@ pub(crate) fn report<R: Print + AllocGlobal>(
     requires askable { IsAskable question.now }
     ensures { book.new.callers ≡ book.old.callers }
 {
-    let served = ask(rt.alloc(), book, caller, question)?;
-    print_served(rt, &served)
+    print_served(rt, &ask(rt.alloc(), book, caller, question)?)
 }
 
 /// Connect time in all.
@@ -142,6 +165,12 @@ fn ask_of_nobody<R: Print + AllocGlobal>(rt: &R, book: &mut Book) -> Result<(), 
     }
 }
 
+/// How many entries of both kinds and how many calls a book hands out.
+pub(crate) fn count_parts(book: Book) -> (usize, usize, usize) {
+    let (logins, procs, calls) = book.into_parts();
+    (logins.len(), procs.len(), calls.len())
+}
+
 /// Prints what a book holds, which takes no memory to see and to hand out.
 fn print_parts<R: Print + AllocGlobal>(rt: &R, book: Book) -> Result<(), Stopped> {
     refuse_growths(rt.alloc());
@@ -151,8 +180,7 @@ fn print_parts<R: Print + AllocGlobal>(rt: &R, book: Book) -> Result<(), Stopped
         book.procs().len(),
         book.calls().len(),
     );
-    let (logins, procs, calls) = book.into_parts();
-    let given = (logins.len(), procs.len(), calls.len());
+    let given = count_parts(book);
     grant_growths(rt.alloc());
     if seen != (2, given.0, given.1, given.2) {
         return Err(Stopped::Changed("a closed book"));
@@ -175,6 +203,6 @@ fn print_calls<R: Print + AllocGlobal>(rt: &R, book: &mut Book) -> Result<(), St
 /// Prints what each call of the script answers, and what the book holds then.
 pub(crate) fn script<R: Print + AllocGlobal>(rt: &R, keys: RandomState) -> Result<(), Stopped> {
     let mut book = new_book(rt.alloc(), keys)?;
-    print_calls(rt, &mut book)?;
-    print_parts(rt, book)
+    let printed = print_calls(rt, &mut book);
+    print_parts(rt, after(printed, book)?)
 }

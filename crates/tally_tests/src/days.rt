@@ -52,17 +52,35 @@ fn print_sum<R: Print>(rt: &R, rows: &[DayUserTime]) -> Result<(), Stopped> {
     Ok(())
 }
 
+/// Prints the sum of the rows up to a day.
+fn print_sum_until<R: Print + AllocGlobal>(
+    rt: &R,
+    sessions: &Sessions,
+    clock: &Clock,
+    until: i32,
+) -> Result<(), Stopped> {
+    let rows = rows_until(rt.alloc(), sessions, clock, until)?;
+    print_sum(rt, rows.as_slice())
+}
+
+/// Prints the rows up to a day.
+fn print_rows_until<R: Print + AllocGlobal>(
+    rt: &R,
+    sessions: &Sessions,
+    clock: &Clock,
+    until: i32,
+) -> Result<(), Stopped> {
+    let rows = rows_until(rt.alloc(), sessions, clock, until)?;
+    print_both(rt, rows.as_slice())
+}
+
 /// Prints the rows of sessions of which one has not ended, up to these days.
 pub(crate) fn print_days<R: Print + AllocGlobal>(
     rt: &R,
     sessions: &Sessions,
 ) -> Result<(), Stopped> {
-    let alloc = rt.alloc();
-    let far = rows_until(alloc, sessions, &Clock::utc(alloc), MANY_DAYS)?;
-    print_sum(rt, far.as_slice())?;
-    let clock = two_days(alloc)?;
-    let late = rows_until(alloc, sessions, &clock, TEN_DAYS)?;
-    print_both(rt, late.as_slice())?;
-    let long = rows_until(alloc, sessions, &clock, TWENTY_DAYS)?;
-    print_sum(rt, long.as_slice())
+    print_sum_until(rt, sessions, &Clock::utc(rt.alloc()), MANY_DAYS)?;
+    let clock = two_days(rt.alloc())?;
+    print_rows_until(rt, sessions, &clock, TEN_DAYS)?;
+    print_sum_until(rt, sessions, &clock, TWENTY_DAYS)
 }

@@ -1,8 +1,8 @@
 //! The worked script on a desk of two callers, whose passes one thread uses.
-ghost use Rattle.std.specs.Prelude.{◌≡◌, IfOk};
+ghost use Rattle.std.specs.Prelude.{◌≡◌, All, IfOk, IfSome};
 ghost use Rattle.tally_book.specs.Answers.{HasDays, IsAskable};
 
-use crate::book::{COMMANDS, TOTAL, hour, makes};
+use crate::book::{COMMANDS, TOTAL, count_parts, hour, makes};
 use crate::printing::{print_receipt, print_served};
 use crate::stopped::Stopped;
 use crate::window::{grant_growths, refuse_growths};
@@ -13,6 +13,17 @@ use tally_book::{AskFault, Book, PostFault, Question, Receipt, Served};
 use tally_desk::{Desk, OpenFault, Pass};
 use tally_records::Batch;
 
+/// The two passes of a desk of two callers.
+fn two_of(desk: &Desk, mut passes: Vec<Pass>) -> Option<(Pass, Pass)>
+    requires { All (λ p. p.desk ≡ desk.now.id) passes.items }
+    ensures first { IfSome result (λ r. r.0.desk ≡ desk.now.id) }
+    ensures second { IfSome result (λ r. r.1.desk ≡ desk.now.id) }
+{
+    let second = passes.pop()?;
+    let first = passes.pop()?;
+    Some((first, second))
+}
+
 /// A desk of two callers and their passes, opened again where memory was refused.
 pub(crate) fn open(alloc: Global, keys: RandomState) -> Result<(Desk, Pass, Pass), Stopped>
     ensures first { IfOk result (λ r. r.1.desk ≡ r.0.id) }
@@ -22,10 +33,14 @@ pub(crate) fn open(alloc: Global, keys: RandomState) -> Result<(Desk, Pass, Pass
         Err(OpenFault::Memory) => Desk::open(alloc, keys, 2),
         opened => opened,
     };
-    let (desk, mut passes) = opened?;
-    let second = passes.pop().ok_or(Stopped::Refused("open"))?;
-    let first = passes.pop().ok_or(Stopped::Refused("open"))?;
-    Ok((desk, first, second))
+    let (desk, passes) = opened?;
+    match two_of(&desk, passes) {
+        Some((first, second)) => Ok((desk, first, second)),
+        None => {
+            drop(desk);
+            Err(Stopped::Refused("open"))
+        }
+    }
 }
 
 /// The book of a desk of two callers, for whose passes room is made again where memory was refused; to close it
@@ -38,13 +53,22 @@ pub(crate) fn close(alloc: Global, desk: Desk, first: Pass, second: Pass) -> Res
         Err(_) => Vec::with_capacity(alloc, 2),
         made => made,
     };
-    let mut passes = room?;
+    let Ok(mut passes) = room else {
+        drop((desk, first, second));
+        return Err(Stopped::Memory);
+    };
     passes.push_reserved(first);
     passes.push_reserved(second);
     refuse_growths(alloc);
     let closed = desk.close(passes);
     grant_growths(alloc);
-    closed.map_err(|_| Stopped::Refused("close"))
+    match closed {
+        Ok(book) => Ok(book),
+        Err(refused) => {
+            drop(refused);
+            Err(Stopped::Refused("close"))
+        }
+    }
 }
 
 /// Posts, and posts again where memory was refused.
@@ -129,13 +153,8 @@ fn print_stored<R: Print + AllocGlobal>(rt: &R, desk: &Desk, pass: &mut Pass) ->
 
 /// Prints what a closed book holds.
 fn print_book<R: Print>(rt: &R, book: Book) -> Result<(), Stopped> {
-    let (logins, procs, calls) = book.into_parts();
-    println!(rt;
-        "desk: {} {} in {} calls",
-        logins.len(),
-        procs.len(),
-        calls.len()
-    )?;
+    let (logins, procs, calls) = count_parts(book);
+    println!(rt; "desk: {logins} {procs} in {calls} calls")?;
     Ok(())
 }
 
@@ -166,6 +185,56 @@ fn print_report<R: Print + AllocGlobal + Wait>(
     print_served(rt, &ask(rt, rt.alloc(), desk, pass, question)?)
 }
 
+/// Prints how many calls a pass learns of, and then what it is answered.
+fn print_learned<R: Print + AllocGlobal + Wait>(
+    rt: &R,
+    desk: &Desk,
+    pass: &mut Pass,
+    question: &Question,
+) -> Result<(), Stopped>
+    requires desk { pass.old.desk ≡ desk.now.id }
+    requires askable { IsAskable question.now }
+    ensures { pass.new.desk ≡ pass.old.desk }
+{
+    print_stored(rt, desk, pass)?;
+    print_report(rt, desk, pass, question)
+}
+
+/// Prints what the calls on login records answer.
+fn print_login_calls<R: Print + AllocGlobal + Wait>(
+    rt: &R,
+    desk: &Desk,
+    first: &mut Pass,
+    second: &mut Pass,
+) -> Result<(), Stopped>
+    requires first { first.old.desk ≡ desk.now.id }
+    requires second { second.old.desk ≡ desk.now.id }
+    ensures first { first.new.desk ≡ first.old.desk }
+    ensures second { second.new.desk ≡ second.old.desk }
+{
+    print_post(rt, desk, first, hour(rt.alloc())?)?;
+    print_learned(rt, desk, second, &TOTAL)?;
+    ask_of_nobody(rt, desk, second)
+}
+
+/// Prints what the calls on process records answer.
+fn print_proc_calls<R: Print + AllocGlobal + Wait>(
+    rt: &R,
+    desk: &Desk,
+    first: &mut Pass,
+    second: &mut Pass,
+) -> Result<(), Stopped>
+    requires first { first.old.desk ≡ desk.now.id }
+    requires second { second.old.desk ≡ desk.now.id }
+    ensures first { first.new.desk ≡ first.old.desk }
+    ensures second { second.new.desk ≡ second.old.desk }
+{
+    print_post(rt, desk, second, makes(rt.alloc())?)?;
+    print_learned(rt, desk, first, &COMMANDS)?;
+    print_stored(rt, desk, first)?;
+    print_stored(rt, desk, second)
+}
+
 /// Prints what each call answers, and how many calls a pass learns of between them.
 fn print_calls<R: Print + AllocGlobal + Wait>(
     rt: &R,
@@ -178,15 +247,8 @@ fn print_calls<R: Print + AllocGlobal + Wait>(
     ensures first { first.new.desk ≡ first.old.desk }
     ensures second { second.new.desk ≡ second.old.desk }
 {
-    print_post(rt, desk, first, hour(rt.alloc())?)?;
-    print_stored(rt, desk, second)?;
-    print_report(rt, desk, second, &TOTAL)?;
-    ask_of_nobody(rt, desk, second)?;
-    print_post(rt, desk, second, makes(rt.alloc())?)?;
-    print_stored(rt, desk, first)?;
-    print_report(rt, desk, first, &COMMANDS)?;
-    print_stored(rt, desk, first)?;
-    print_stored(rt, desk, second)
+    print_login_calls(rt, desk, first, second)?;
+    print_proc_calls(rt, desk, first, second)
 }
 
 /// Prints what each call of the script answers, and what the closed book holds.
@@ -195,6 +257,7 @@ pub(crate) fn script<R: Print + AllocGlobal + Wait>(
     keys: RandomState,
 ) -> Result<(), Stopped> {
     let (desk, mut first, mut second) = open(rt.alloc(), keys)?;
-    print_calls(rt, &desk, &mut first, &mut second)?;
-    print_book(rt, close(rt.alloc(), desk, first, second)?)
+    let printed = print_calls(rt, &desk, &mut first, &mut second);
+    let closed = close(rt.alloc(), desk, first, second);
+    print_book(rt, printed.and(closed)?)
 }

@@ -3,7 +3,7 @@ ghost use Rattle.std.specs.Prelude.{IfOk};
 ghost use Rattle.tally_records.specs.Records.{IsProcs};
 
 use crate::bytes::{make_record, procs};
-use crate::stopped::Stopped;
+use crate::stopped::{Stopped, after};
 use crate::window::{grant_growths, refuse_growths};
 use std::alloc::{AllocError, Global};
 use std::hash::RandomState;
@@ -85,17 +85,23 @@ fn add(alloc: Global, summary: &mut Summary, host: u32, batch: &Batch) -> Result
     Ok(())
 }
 
-/// Prints whether the entries are those that are made, lent and handed out.
-fn print_entries<R: Print + AllocGlobal>(rt: &R, summary: Summary) -> Result<(), Stopped> {
-    let alloc = rt.alloc();
+/// How many entries a summary hands out, and whether all and the last are those that are made.
+fn hand_out(summary: Summary) -> (usize, bool, bool) {
     let count = BATCHES * BATCH_LIMIT;
-    refuse_growths(alloc);
-    let are_lent = are_made(summary.entries(), count);
     let entries = summary.into_entries();
     let are_given = are_made(entries.as_entries(), count);
     let last = entries.get(count - 1) == made(count - 1);
+    (entries.len(), are_given, last)
+}
+
+/// Prints whether the entries are those that are made, lent and handed out.
+fn print_entries<R: Print + AllocGlobal>(rt: &R, summary: Summary) -> Result<(), Stopped> {
+    let alloc = rt.alloc();
+    refuse_growths(alloc);
+    let are_lent = are_made(summary.entries(), BATCHES * BATCH_LIMIT);
+    let (count, are_given, last) = hand_out(summary);
     grant_growths(alloc);
-    println!(rt; "entries: {} {are_lent} {are_given} {last}", entries.len())?;
+    println!(rt; "entries: {count} {are_lent} {are_given} {last}")?;
     Ok(())
 }
 
@@ -111,6 +117,6 @@ fn add_all(alloc: Global, summary: &mut Summary) -> Result<(), Stopped> {
 /// Prints what a summary keeps of all batches.
 pub(crate) fn script<R: Print + AllocGlobal>(rt: &R, keys: RandomState) -> Result<(), Stopped> {
     let mut summary = Summary::new(rt.alloc(), keys);
-    add_all(rt.alloc(), &mut summary)?;
-    print_entries(rt, summary)
+    let added = add_all(rt.alloc(), &mut summary);
+    print_entries(rt, after(added, summary)?)
 }

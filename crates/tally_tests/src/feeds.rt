@@ -64,6 +64,44 @@ fn print_last_totals<R: Print>(rt: &R, book: &Book) -> Result<(), Stopped> {
     Ok(())
 }
 
+/// Posts an hour.
+fn post_hour<R: AllocGlobal + Wait>(rt: &R, desk: &Desk, pass: &mut Pass) -> Result<(), Stopped>
+    requires { pass.old.desk ≡ desk.now.id }
+    ensures { pass.new.desk ≡ pass.old.desk }
+{
+    post(rt, desk, pass, &hour(rt.alloc())?)?;
+    Ok(())
+}
+
+/// Prints what was fed.
+fn print_fed<R: Print + AllocGlobal + Wait>(
+    rt: &R,
+    desk: &Desk,
+    pass: &mut Pass,
+) -> Result<(), Stopped>
+    requires { pass.old.desk ≡ desk.now.id }
+    ensures { pass.new.desk ≡ pass.old.desk }
+{
+    let Fed { records, batches } = feed_makes(rt, rt.alloc(), desk, pass)?;
+    println!(rt; "fed: {records} records in {batches} batches")?;
+    Ok(())
+}
+
+/// Prints how many calls there were, and how many questions are answered.
+fn print_asked<R: Print + AllocGlobal + Wait>(
+    rt: &R,
+    desk: &Desk,
+    pass: &mut Pass,
+) -> Result<(), Stopped>
+    requires { pass.old.desk ≡ desk.now.id }
+    ensures { pass.new.desk ≡ pass.old.desk }
+{
+    println!(rt; "stored {}", desk.stored(pass))?;
+    let asked = ask_thrice(rt, rt.alloc(), desk, pass)?;
+    println!(rt; "asked: {asked} answers")?;
+    Ok(())
+}
+
 /// Prints what was fed and how many questions were answered after an hour was posted.
 fn print_calls<R: Print + AllocGlobal + Wait>(
     rt: &R,
@@ -76,14 +114,9 @@ fn print_calls<R: Print + AllocGlobal + Wait>(
     ensures first { first.new.desk ≡ first.old.desk }
     ensures second { second.new.desk ≡ second.old.desk }
 {
-    let hour = hour(rt.alloc())?;
-    post(rt, desk, first, &hour)?;
-    let Fed { records, batches } = feed_makes(rt, rt.alloc(), desk, second)?;
-    println!(rt; "fed: {records} records in {batches} batches")?;
-    println!(rt; "stored {}", desk.stored(first))?;
-    let asked = ask_thrice(rt, rt.alloc(), desk, first)?;
-    println!(rt; "asked: {asked} answers")?;
-    Ok(())
+    post_hour(rt, desk, first)?;
+    print_fed(rt, desk, second)?;
+    print_asked(rt, desk, first)
 }
 
 /// Prints what was fed, how many questions were answered and what was answered. A refused round
@@ -93,7 +126,10 @@ pub(crate) fn script<R: Print + AllocGlobal + Wait>(
     keys: RandomState,
 ) -> Result<(), Stopped> {
     let (desk, mut first, mut second) = open(rt.alloc(), keys)?;
-    print_calls(rt, &desk, &mut first, &mut second)?;
-    let book = close(rt.alloc(), desk, first, second)?;
-    print_last_totals(rt, &book)
+    let printed = print_calls(rt, &desk, &mut first, &mut second);
+    let closed = close(rt.alloc(), desk, first, second);
+    let book = printed.and(closed)?;
+    let printed = print_last_totals(rt, &book);
+    drop(book);
+    printed
 }

@@ -53,7 +53,8 @@ fn main(rt: HostRuntime) -> ExitCode {
     match scripts(&rt) {
         Ok(()) => ExitCode::SUCCESS,
         Err(stopped) => {
-            let _ = eprintln!(rt; "tally_tests: {stopped}");
+            let (first, second) = stopped.text();
+            let _ = eprintln!(rt; "tally_tests: {first}{second}");
             ExitCode::FAILURE
         }
     }

@@ -2,10 +2,9 @@
 ghost use Rattle.std.specs.Prelude.{◌≡◌, IfOk};
 ghost use Rattle.tally_book.specs.Answers.{HasDays};
 
-use crate::stopped::Stopped;
-use crate::watched::Watched;
+use crate::stopped::{Stopped, after};
+use crate::watched::{Watched, print_watched, see_part};
 use std::alloc::Global;
-use std::io::{self, Write};
 use tally_book::{Answer, Receipt, Served};
 use tally_clock::Clock;
 use tally_print::{PrintFault, print_answer};
@@ -21,24 +20,37 @@ fn copy(alloc: Global, answer: &Answer) -> Result<Answer, Memory>
     }
 }
 
-/// The text of an answer, printed again where memory was refused: to the printer or to its output,
-/// which the fault tells apart. What was written then is a first part of the text.
+/// The text of an answer, of which a part was printed before memory was refused.
+fn text_after(
+    alloc: Global,
+    answer: &Answer,
+    fault: PrintFault,
+    part: &Watched,
+) -> Result<Watched, Stopped>
+    requires { HasDays answer.now }
+{
+    let mut whole = Watched::new(alloc);
+    print_answer(alloc, &Clock::utc(alloc), answer, 0, &mut whole, None)?;
+    after(see_part(fault, part, &whole), whole)
+}
+
+/// The text of an answer, printed again where memory was refused.
 fn text(alloc: Global, answer: &Answer) -> Result<Watched, Stopped>
     requires { HasDays answer.now }
 {
     let mut first = Watched::new(alloc);
-    let Err(fault) = print_answer(alloc, &Clock::utc(alloc), answer, 0, &mut first, None) else {
-        return Ok(first);
-    };
-    let mut second = Watched::new(alloc);
-    print_answer(alloc, &Clock::utc(alloc), answer, 0, &mut second, None)?;
-    if (fault == PrintFault::Write) != first.failed {
-        return Err(Stopped::Changed("a fault of the output"));
+    let printed = print_answer(alloc, &Clock::utc(alloc), answer, 0, &mut first, None);
+    match printed {
+        Ok(()) => Ok(first),
+        Err(fault) => text_after(alloc, answer, fault, &first),
     }
-    if !second.kept.bytes().starts_with(first.kept.bytes()) {
-        return Err(Stopped::Changed("a text"));
-    }
-    Ok(second)
+}
+
+/// Prints the answer.
+fn print_text<R: Print + AllocGlobal>(rt: &R, answer: &Answer) -> Result<(), Stopped>
+    requires { HasDays answer.now }
+{
+    print_watched(rt, &text(rt.alloc(), answer)?)
 }
 
 /// Prints a copy of the answer.
@@ -46,9 +58,7 @@ fn print_copy<R: Print + AllocGlobal>(rt: &R, answer: &Answer) -> Result<(), Sto
     requires { HasDays answer.now }
 {
     let copied = copy(rt.alloc(), answer)?;
-    let printed = text(rt.alloc(), &copied)?;
-    io::writer(rt).write_all(printed.kept.bytes())?;
-    Ok(())
+    print_text(rt, &copied)
 }
 
 /// Prints what a post answered.

@@ -7,7 +7,7 @@ use crate::window::{grant_growths, refuse_growths};
 use std::alloc::{AllocError, Global};
 use std::hash::RandomState;
 use std::sync::Arc;
-use tally_desk::{Bytes, Input};
+use tally_desk::{Bytes, Desk, Input, Pass};
 use tally_print::{Kept, Output};
 use tally_records::{Batch, List, Logins, Memory, PackedProc, comp};
 
@@ -30,10 +30,8 @@ fn print_list<R: Print + AllocGlobal>(rt: &R) -> Result<(), Stopped> {
     Ok(())
 }
 
-/// Prints what batches answer, and the number that a word of acct(5) stands for.
-fn print_batches<R: Print + AllocGlobal>(rt: &R) -> Result<(), Stopped> {
-    let hour = hour(rt.alloc())?;
-    let makes = makes(rt.alloc())?;
+/// Prints what both batches answer, and the number that a word of acct(5) stands for.
+fn print_both<R: Print + AllocGlobal>(rt: &R, hour: &Batch, makes: &Batch) -> Result<(), Stopped> {
     refuse_growths(rt.alloc());
     let is_one_kind = hour.kind() == makes.kind();
     let (logins, procs) = (hour.len(), makes.len());
@@ -44,6 +42,12 @@ fn print_batches<R: Print + AllocGlobal>(rt: &R) -> Result<(), Stopped> {
     println!(rt; "batches: {logins} {procs} {is_one_kind} {number}")?;
     println!(rt; "records: {} {}", logout.unwrap_or(0), cpu.unwrap_or(0))?;
     Ok(())
+}
+
+/// Prints what batches answer.
+fn print_batches<R: Print + AllocGlobal>(rt: &R) -> Result<(), Stopped> {
+    let hour = hour(rt.alloc())?;
+    print_both(rt, &hour, &makes(rt.alloc())?)
 }
 
 /// The process records of a batch, shared again where memory was refused.
@@ -124,13 +128,25 @@ fn print_bytes<R: Print + AllocGlobal>(rt: &R) -> Result<(), Stopped> {
 }
 
 /// Prints the numbers of a desk and its passes.
-fn print_numbers<R: Print + AllocGlobal>(rt: &R, keys: RandomState) -> Result<(), Stopped> {
-    let (desk, first, second) = open(rt.alloc(), keys)?;
+fn print_desk<R: Print + AllocGlobal>(
+    rt: &R,
+    desk: &Desk,
+    first: &Pass,
+    second: &Pass,
+) -> Result<(), Stopped> {
     refuse_growths(rt.alloc());
     let (callers, least, greatest) = (desk.callers(), first.number(), second.number());
     grant_growths(rt.alloc());
     println!(rt; "desk: {callers} callers, {least} to {greatest}")?;
-    close(rt.alloc(), desk, first, second)?;
+    Ok(())
+}
+
+/// Prints them for a desk that is opened and closed.
+fn print_numbers<R: Print + AllocGlobal>(rt: &R, keys: RandomState) -> Result<(), Stopped> {
+    let (desk, first, second) = open(rt.alloc(), keys)?;
+    let printed = print_desk(rt, &desk, &first, &second);
+    let closed = close(rt.alloc(), desk, first, second);
+    drop(printed.and(closed)?);
     Ok(())
 }
 

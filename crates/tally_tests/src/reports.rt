@@ -70,23 +70,14 @@ fn night(alloc: Global) -> Result<Batch, Stopped> {
     Ok(logins(alloc, &session("ann", 84_600, 88_200))?)
 }
 
-/// Posts the batches of both callers.
-fn post_both(alloc: Global, book: &mut Book, first: Batch, second: Batch) -> Result<(), Stopped>
-    requires { book.old.callers ≡ 2 }
-    ensures { book.new.callers ≡ 2 }
-{
-    post(alloc, book, 0, &first)?;
-    post(alloc, book, 1, &second)?;
-    Ok(())
-}
-
 /// Posts running times and a night.
 pub(crate) fn post_nights(alloc: Global, book: &mut Book) -> Result<(), Stopped>
     requires { book.old.callers ≡ 2 }
     ensures { book.new.callers ≡ 2 }
 {
-    let reboots = reboots(alloc)?;
-    post_both(alloc, book, reboots, night(alloc)?)
+    post(alloc, book, 0, &reboots(alloc)?)?;
+    post(alloc, book, 1, &night(alloc)?)?;
+    Ok(())
 }
 
 /// Posts the records of the worked script.
@@ -94,8 +85,9 @@ fn post_work(alloc: Global, book: &mut Book) -> Result<(), Stopped>
     requires { book.old.callers ≡ 2 }
     ensures { book.new.callers ≡ 2 }
 {
-    let hour = hour(alloc)?;
-    post_both(alloc, book, hour, makes(alloc)?)
+    post(alloc, book, 0, &hour(alloc)?)?;
+    post(alloc, book, 1, &makes(alloc)?)?;
+    Ok(())
 }
 
 fn print_nights<R: Print + AllocGlobal>(rt: &R, book: &mut Book) -> Result<(), Stopped>
@@ -122,11 +114,15 @@ fn print_work<R: Print + AllocGlobal>(rt: &R, book: &mut Book) -> Result<(), Sto
 /// Prints reports on running times and on a night.
 pub(crate) fn nights<R: Print + AllocGlobal>(rt: &R, keys: RandomState) -> Result<(), Stopped> {
     let mut book = new_book(rt.alloc(), keys)?;
-    print_nights(rt, &mut book)
+    let printed = print_nights(rt, &mut book);
+    drop(book);
+    printed
 }
 
 /// Prints each report.
 pub(crate) fn script<R: Print + AllocGlobal>(rt: &R, keys: RandomState) -> Result<(), Stopped> {
     let mut book = new_book(rt.alloc(), keys)?;
-    print_work(rt, &mut book)
+    let printed = print_work(rt, &mut book);
+    drop(book);
+    printed
 }

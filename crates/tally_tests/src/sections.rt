@@ -5,12 +5,11 @@ ghost use Rattle.tally_print.specs.Section.{NamesHostBelow, answer_in};
 
 use crate::book::new_book;
 use crate::reports::post_nights;
-use crate::stopped::Stopped;
-use crate::watched::Watched;
+use crate::stopped::{Stopped, after};
+use crate::watched::{Watched, print_watched, see_part};
 use crate::window::{grant_growths, refuse_growths};
 use std::alloc::Global;
 use std::hash::RandomState;
-use std::io::{self, Write};
 use std::thread::Threads;
 use tally_book::{Answer, Book};
 use tally_clock::Clock;
@@ -23,8 +22,8 @@ fn book(alloc: Global, keys: RandomState) -> Result<Book, Stopped>
     ensures { IfOk result (λ b. b.callers ≡ 2) }
 {
     let mut book = new_book(alloc, keys)?;
-    post_nights(alloc, &mut book)?;
-    Ok(book)
+    let posted = post_nights(alloc, &mut book);
+    Ok(after(posted, book)?)
 }
 
 /// Its sessions, of a book that is made again where memory was refused.
@@ -101,8 +100,26 @@ fn print(
     }
 }
 
-/// Their text, printed again where memory was refused: to the printer or to its output, which the fault tells
-/// apart. What was written then is a first part of the text. Refused twice, either fault is want of memory.
+/// Their text, of which a part was printed before memory was refused. Refused again, either fault is want of memory.
+fn text_after(
+    alloc: Global,
+    sessions: &Sessions,
+    sections: &[Section],
+    is_table: bool,
+    fault: PrintFault,
+    part: &Watched,
+) -> Result<Watched, Stopped>
+    requires hosts { All (NamesHostBelow sessions.now.hosts) sections.now }
+    requires days { All (λ s. HasDays (answer_in sessions.now.entries s)) sections.now }
+{
+    let mut whole = Watched::new(alloc);
+    match print(alloc, sessions, sections, is_table, &mut whole) {
+        Ok(()) => after(see_part(fault, part, &whole), whole),
+        Err(_) => Err(Stopped::Memory),
+    }
+}
+
+/// Their text, printed again where memory was refused.
 fn text(
     alloc: Global,
     sessions: &Sessions,
@@ -113,20 +130,23 @@ fn text(
     requires days { All (λ s. HasDays (answer_in sessions.now.entries s)) sections.now }
 {
     let mut first = Watched::new(alloc);
-    let Err(fault) = print(alloc, sessions, sections, is_table, &mut first) else {
-        return Ok(first);
-    };
-    let mut second = Watched::new(alloc);
-    if print(alloc, sessions, sections, is_table, &mut second).is_err() {
-        return Err(Stopped::Memory);
+    match print(alloc, sessions, sections, is_table, &mut first) {
+        Ok(()) => Ok(first),
+        Err(fault) => text_after(alloc, sessions, sections, is_table, fault, &first),
     }
-    if (fault == PrintFault::Write) != first.failed {
-        return Err(Stopped::Changed("a fault of the output"));
-    }
-    if !second.kept.bytes().starts_with(first.kept.bytes()) {
-        return Err(Stopped::Changed("a text"));
-    }
-    Ok(second)
+}
+
+/// Prints the sections.
+fn print_text<R: Print + AllocGlobal>(
+    rt: &R,
+    sessions: &Sessions,
+    sections: &[Section],
+    is_table: bool,
+) -> Result<(), Stopped>
+    requires hosts { All (NamesHostBelow sessions.now.hosts) sections.now }
+    requires days { All (λ s. HasDays (answer_in sessions.now.entries s)) sections.now }
+{
+    print_watched(rt, &text(rt.alloc(), sessions, sections, is_table)?)
 }
 
 /// Prints the stays of both hosts, of one only the latest, and a total.
@@ -153,19 +173,24 @@ fn print_sections<R: Print + AllocGlobal>(
             total: 3600,
         }),
     ];
-    let printed = text(rt.alloc(), sessions, &sections, is_table)?;
-    io::writer(rt).write_all(printed.kept.bytes())?;
-    Ok(())
+    print_text(rt, sessions, &sections, is_table)
 }
 
 /// Prints what the sessions have, as sections too.
+fn print_all<R: Print + AllocGlobal>(rt: &R, sessions: &Sessions) -> Result<(), Stopped>
+    requires { sessions.now.hosts ≡ 2 }
+{
+    print_count(rt, sessions, 0)?;
+    print_count(rt, sessions, 1)?;
+    print_sections(rt, sessions, false)?;
+    print_sections(rt, sessions, true)
+}
+
+/// Prints what the sessions of a book have.
 pub(crate) fn script<R: Print + AllocGlobal + Threads + Sync>(
     rt: &R,
     keys: RandomState,
 ) -> Result<(), Stopped> {
     let sessions = sessions(rt, keys)?;
-    print_count(rt, &sessions, 0)?;
-    print_count(rt, &sessions, 1)?;
-    print_sections(rt, &sessions, false)?;
-    print_sections(rt, &sessions, true)
+    print_all(rt, &sessions)
 }

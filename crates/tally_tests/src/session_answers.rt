@@ -46,17 +46,36 @@ pub(crate) fn seen_of(sessions: &Sessions) -> Seen
     }
 }
 
+/// Both, where memory was refused to neither.
+fn both<A: Drop, B: Drop>(
+    first: Result<A, Memory>,
+    second: Result<B, Memory>,
+) -> Result<(A, B), Memory> {
+    Ok((first?, second?))
+}
+
 fn ask_all(alloc: Global, sessions: &Sessions) -> Result<Answers, Memory>
     requires { sessions.now.hosts ≡ 2 }
 {
+    let entries = sessions.entries().iter().collect(alloc)?;
+    let stays = both(
+        sessions.stays(alloc, 0, None, None),
+        sessions.stays(alloc, 1, None, None),
+    );
+    let days = both(
+        sessions.connect_by_day(alloc, &Clock::utc(alloc), 0, None),
+        sessions.connect_by_day_user(alloc, &Clock::utc(alloc), 0, None),
+    );
+    let times = both(sessions.connect_by_user(alloc, None), days);
+    let ((of_first_host, of_second_host), (by_user, (by_day, by_both))) = both(stays, times)?;
     Ok(Answers {
         seen: seen_of(sessions),
-        entries: sessions.entries().iter().collect(alloc)?,
-        of_first_host: sessions.stays(alloc, 0, None, None)?,
-        of_second_host: sessions.stays(alloc, 1, None, None)?,
-        by_user: sessions.connect_by_user(alloc, None)?,
-        by_day: sessions.connect_by_day(alloc, &Clock::utc(alloc), 0, None)?,
-        by_both: sessions.connect_by_day_user(alloc, &Clock::utc(alloc), 0, None)?,
+        entries,
+        of_first_host,
+        of_second_host,
+        by_user,
+        by_day,
+        by_both,
     })
 }
 

@@ -24,8 +24,28 @@ fn new_sessions(alloc: Global, keys: RandomState) -> Result<Sessions, Memory>
     }
 }
 
+/// Whether the answers are still these.
+fn are_still(alloc: Global, sessions: &Sessions, before: &Answers) -> Result<bool, Memory>
+    requires { sessions.now.hosts ≡ 2 }
+{
+    let now = answers_of(alloc, sessions)?;
+    let are_still = are_same(before, &now);
+    drop(now);
+    Ok(are_still)
+}
+
 /// Sees that a refused call left the sessions as they were.
-fn see_unchanged(
+fn see_unchanged(alloc: Global, sessions: &Sessions, before: &Answers) -> Result<(), Stopped>
+    requires { sessions.now.hosts ≡ 2 }
+{
+    if are_still(alloc, sessions, before)? {
+        return Ok(());
+    }
+    Err(Stopped::Changed("sessions"))
+}
+
+/// Sees that a call left the sessions as they were, where it was refused.
+fn see_answered(
     alloc: Global,
     sessions: &Sessions,
     before: Answers,
@@ -33,10 +53,13 @@ fn see_unchanged(
 ) -> Result<(), Stopped>
     requires { sessions.now.hosts ≡ 2 }
 {
-    if is_answered || are_same(&before, &answers_of(alloc, sessions)?) {
-        return Ok(());
-    }
-    Err(Stopped::Changed("sessions"))
+    let seen = if is_answered {
+        Ok(())
+    } else {
+        see_unchanged(alloc, sessions, &before)
+    };
+    drop(before);
+    seen
 }
 
 /// Makes sessions ready for a batch, and again where memory was refused.
@@ -50,7 +73,7 @@ fn prepare(alloc: Global, sessions: &mut Sessions, host: u32, batch: &Batch) -> 
 {
     let before = answers_of(alloc, sessions)?;
     let is_ready = sessions.prepare(host, batch).is_ok();
-    see_unchanged(alloc, sessions, before, is_ready)?;
+    see_answered(alloc, sessions, before, is_ready)?;
     if !is_ready {
         sessions.prepare(host, batch)?;
     }
@@ -131,10 +154,8 @@ fn add_both(alloc: Global, sessions: &mut Sessions) -> Result<Seen, Stopped>
     requires { sessions.old.hosts ≡ 2 }
     ensures { sessions.new.hosts ≡ 2 }
 {
-    let hour = hour(alloc)?;
-    let three = three(alloc)?;
-    add(alloc, sessions, 0, &hour)?;
-    add(alloc, sessions, 1, &three)
+    add(alloc, sessions, 0, &hour(alloc)?)?;
+    add(alloc, sessions, 1, &three(alloc)?)
 }
 
 /// Prints what takes no memory to ask.
@@ -146,21 +167,35 @@ fn print_seen<R: Print>(rt: &R, seen: Seen) -> Result<(), Stopped> {
     Ok(())
 }
 
-/// Prints what the sessions answer.
-fn print_answers<R: Print + AllocGlobal>(rt: &R, sessions: &Sessions) -> Result<(), Stopped>
-    requires { sessions.now.hosts ≡ 2 }
-{
-    let answers = answers_of(rt.alloc(), sessions)?;
+/// Prints the lists among the answers.
+fn print_lists<R: Print>(rt: &R, answers: &Answers) -> Result<(), Stopped> {
     print_stays(rt, answers.of_second_host.as_slice())?;
     print_users(rt, answers.by_user.as_slice())?;
     print_days(rt, answers.by_day.as_slice())?;
     print_both(rt, answers.by_both.as_slice())
 }
 
+/// Prints what the sessions answer.
+fn print_answers<R: Print + AllocGlobal>(rt: &R, sessions: &Sessions) -> Result<(), Stopped>
+    requires { sessions.now.hosts ≡ 2 }
+{
+    let answers = answers_of(rt.alloc(), sessions)?;
+    let printed = print_lists(rt, &answers);
+    drop(answers);
+    printed
+}
+
+/// Adds both batches, and prints what the sessions answer then.
+fn print_all<R: Print + AllocGlobal>(rt: &R, sessions: &mut Sessions) -> Result<(), Stopped>
+    requires { sessions.old.hosts ≡ 2 }
+{
+    print_seen(rt, add_both(rt.alloc(), sessions)?)?;
+    print_answers(rt, sessions)?;
+    days::print_days(rt, sessions)
+}
+
 /// Prints what the sessions answer once both batches are added.
 pub(crate) fn script<R: Print + AllocGlobal>(rt: &R, keys: RandomState) -> Result<(), Stopped> {
     let mut sessions = new_sessions(rt.alloc(), keys)?;
-    print_seen(rt, add_both(rt.alloc(), &mut sessions)?)?;
-    print_answers(rt, &sessions)?;
-    days::print_days(rt, &sessions)
+    print_all(rt, &mut sessions)
 }

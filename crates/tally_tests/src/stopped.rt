@@ -1,3 +1,5 @@
+ghost use Rattle.std.specs.Prelude.{◌≡◌, IfOk};
+
 use std::alloc::AllocError;
 use std::io;
 use tally_book::{AskFault, PostFault};
@@ -6,21 +8,29 @@ use tally_clock::RuleFault;
 use tally_desk::{FeedFault, OpenFault};
 use tally_print::PrintFault;
 use tally_records::{BatchFault, Memory};
-use thiserror::Error;
 
 /// Why a script stopped.
-#[derive(Debug, Drop, Error)]
+#[derive(Drop)]
 pub(crate) enum Stopped {
-    #[error("out of memory twice")]
+    /// Memory was refused twice.
     Memory,
-    #[error("write failed")]
     Write,
     /// A refused call did not leave this as it was.
-    #[error("a refused call changed {0}")]
     Changed(&'static str),
     /// A call answered something else than the script wants.
-    #[error("a call was refused: {0}")]
     Refused(&'static str),
+}
+
+impl Stopped {
+    /// The text of it, in two parts.
+    pub(crate) fn text(&self) -> (&'static str, &'static str) {
+        match self {
+            Stopped::Memory => ("out of memory twice", ""),
+            Stopped::Write => ("write failed", ""),
+            Stopped::Changed(what) => ("a refused call changed ", *what),
+            Stopped::Refused(what) => ("a call was refused: ", *what),
+        }
+    }
 }
 
 impl From<AllocError> for Stopped {
@@ -111,4 +121,12 @@ impl From<PrintFault> for Stopped {
             PrintFault::Write => Stopped::Write,
         }
     }
+}
+
+/// The value, where what was done with it went well.
+pub(crate) fn after<T: Drop>(done: Result<(), Stopped>, value: T) -> Result<T, Stopped>
+    ensures { IfOk result (λ same. same ≡ value) }
+{
+    done?;
+    Ok(value)
 }

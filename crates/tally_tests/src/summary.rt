@@ -1,11 +1,11 @@
 //! A summary by itself, to which the runs of make are added twice.
-ghost use Rattle.std.specs.Prelude.{◌≡◌};
-ghost use Rattle.tally_records.specs.Records.{IsProcs};
+ghost use Rattle.std.specs.Prelude.{◌≡◌, ◌≤◌, ◌+◌, OnOk, Some, length};
+ghost use Rattle.tally_records.specs.Records.{IsProcs, procs_in, record_count};
 
 use crate::book::make_bytes;
 use crate::bytes::procs;
 use crate::held::copy_of_entries;
-use crate::stopped::Stopped;
+use crate::stopped::{Stopped, after};
 use crate::window::{grant_growths, refuse_growths};
 use std::alloc::Global;
 use std::hash::RandomState;
@@ -52,6 +52,53 @@ fn are_same(a: &Answers, b: &Answers) -> bool {
         && a.users.as_slice() == b.users.as_slice()
 }
 
+/// Whether the answers are still these.
+fn are_still(alloc: Global, summary: &Summary, before: &Answers) -> Result<bool, Memory> {
+    let now = answers_of(alloc, summary)?;
+    let are_still = are_same(before, &now);
+    drop(now);
+    Ok(are_still)
+}
+
+/// Sees that a refused call left the summary as it was.
+fn see_unchanged(alloc: Global, summary: &Summary, before: &Answers) -> Result<(), Stopped> {
+    if are_still(alloc, summary, before)? {
+        return Ok(());
+    }
+    Err(Stopped::Changed("a summary"))
+}
+
+/// Sees that a call left the summary as it was, where it was refused.
+fn see_answered(
+    alloc: Global,
+    summary: &Summary,
+    before: Answers,
+    is_answered: bool,
+) -> Result<(), Stopped> {
+    let seen = if is_answered {
+        Ok(())
+    } else {
+        see_unchanged(alloc, summary, &before)
+    };
+    drop(before);
+    seen
+}
+
+/// Makes a summary ready for a batch, and again where memory was refused.
+fn prepare(alloc: Global, summary: &mut Summary, host: u32, batch: &Batch) -> Result<(), Stopped>
+    requires kind { IsProcs batch.now }
+    requires room { length summary.old.entries + record_count batch.now ≤ 1048576 }
+    ensures { OnOk result (summary.new.ready ≡ Some (record { host = host; records = procs_in batch.now })) }
+{
+    let before = answers_of(alloc, summary)?;
+    let is_ready = summary.prepare(host, batch).is_ok();
+    see_answered(alloc, summary, before, is_ready)?;
+    if !is_ready {
+        summary.prepare(host, batch)?;
+    }
+    Ok(())
+}
+
 /// Adds a batch, made ready again where memory was refused; to add it takes none.
 fn add(alloc: Global, summary: &mut Summary, host: u32, batch: &Batch) -> Result<usize, Stopped>
     requires { IsProcs batch.now }
@@ -59,13 +106,7 @@ fn add(alloc: Global, summary: &mut Summary, host: u32, batch: &Batch) -> Result
     if summary.entries().len() + batch.len() > ENTRY_LIMIT {
         return Err(Stopped::Refused("batch"));
     }
-    let before = answers_of(alloc, summary)?;
-    if summary.prepare(host, batch).is_err() {
-        if !are_same(&before, &answers_of(alloc, summary)?) {
-            return Err(Stopped::Changed("a summary"));
-        }
-        summary.prepare(host, batch)?;
-    }
+    prepare(alloc, summary, host, batch)?;
     refuse_growths(alloc);
     summary.add(host, batch);
     let count = summary.total().count;
@@ -91,22 +132,34 @@ fn print_users<R: Print>(rt: &R, rows: &[UidRow]) -> Result<(), Stopped> {
     Ok(())
 }
 
+/// How many entries a summary hands out.
+fn count_given(summary: Summary) -> usize {
+    let entries = summary.into_entries();
+    entries.len()
+}
+
 /// Prints how many entries the summary hands out, which takes no memory.
 fn print_entries<R: Print + AllocGlobal>(rt: &R, summary: Summary) -> Result<(), Stopped> {
     let alloc = rt.alloc();
     refuse_growths(alloc);
-    let entries = summary.into_entries();
-    let count = entries.len();
+    let count = count_given(summary);
     grant_growths(alloc);
     println!(rt; "summary: {count} entries handed out")?;
     Ok(())
 }
 
+/// Prints the lists among the answers.
+fn print_lists<R: Print>(rt: &R, answers: &Answers) -> Result<(), Stopped> {
+    print_commands(rt, answers.by_cpu.as_slice())?;
+    print_users(rt, answers.users.as_slice())
+}
+
 /// Prints what the summary answers.
 fn print_answers<R: Print + AllocGlobal>(rt: &R, summary: &Summary) -> Result<(), Stopped> {
     let answers = answers_of(rt.alloc(), summary)?;
-    print_commands(rt, answers.by_cpu.as_slice())?;
-    print_users(rt, answers.users.as_slice())
+    let printed = print_lists(rt, &answers);
+    drop(answers);
+    printed
 }
 
 /// Adds a batch under each of two hosts.
@@ -122,11 +175,16 @@ fn print_growth<R: Print + AllocGlobal>(
     Ok(())
 }
 
-/// Prints what the summary answers once both batches are added.
-pub(crate) fn script<R: Print + AllocGlobal>(rt: &R, keys: RandomState) -> Result<(), Stopped> {
+/// Adds both batches, and prints what the summary answers then.
+fn print_all<R: Print + AllocGlobal>(rt: &R, summary: &mut Summary) -> Result<(), Stopped> {
     let makes = procs(rt.alloc(), &make_bytes())?;
+    print_growth(rt, summary, &makes)?;
+    print_answers(rt, summary)
+}
+
+/// Prints what the summary answers once both batches are added, and hands out.
+pub(crate) fn script<R: Print + AllocGlobal>(rt: &R, keys: RandomState) -> Result<(), Stopped> {
     let mut summary = Summary::new(rt.alloc(), keys);
-    print_growth(rt, &mut summary, &makes)?;
-    print_answers(rt, &summary)?;
-    print_entries(rt, summary)
+    let printed = print_all(rt, &mut summary);
+    print_entries(rt, after(printed, summary)?)
 }

@@ -1,8 +1,10 @@
 //! An output over memory that shows whether one of its own growths was refused.
 ghost use Rattle.std.specs.Prelude.{◌≡◌};
 
+use crate::stopped::Stopped;
 use std::alloc::Global;
-use tally_print::{Kept, Output, OutputFault};
+use std::io::{self, Write};
+use tally_print::{Kept, Output, OutputFault, PrintFault};
 
 /// What was written, and whether a write failed.
 #[derive(Drop)]
@@ -20,6 +22,24 @@ impl Watched {
             failed: false,
         }
     }
+}
+
+/// Sees that a print that was refused memory, by the printer or by its output, which the fault tells apart, wrote a
+/// first part of the text.
+pub(crate) fn see_part(fault: PrintFault, part: &Watched, whole: &Watched) -> Result<(), Stopped> {
+    if (fault == PrintFault::Write) != part.failed {
+        return Err(Stopped::Changed("a fault of the output"));
+    }
+    if !whole.kept.bytes().starts_with(part.kept.bytes()) {
+        return Err(Stopped::Changed("a text"));
+    }
+    Ok(())
+}
+
+/// Prints what was written.
+pub(crate) fn print_watched<R: Print>(rt: &R, written: &Watched) -> Result<(), Stopped> {
+    io::writer(rt).write_all(written.kept.bytes())?;
+    Ok(())
 }
 
 impl Output for Watched {

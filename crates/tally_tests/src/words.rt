@@ -28,29 +28,46 @@ fn word(alloc: Global, words: &[String], index: usize) -> Result<String, LineFau
     }
 }
 
-/// Prints what the words are read as.
+/// Prints the file word of this index, which has no prefix.
+fn print_prefix<R: Print + AllocGlobal>(
+    rt: &R,
+    words: &[String],
+    index: usize,
+) -> Result<(), Stopped> {
+    let found = word(rt.alloc(), words, index)?;
+    println!(rt; "words: no prefix in {} at {index}", found.as_str())?;
+    Ok(())
+}
+
+/// Prints what the words were read as.
+fn print_read<R: Print + AllocGlobal>(
+    rt: &R,
+    words: &[String],
+    read: &Result<Line, LineFault>,
+) -> Result<(), Stopped> {
+    match read {
+        Ok(
+            Line::Run {
+                job,
+                zone: _,
+                files,
+            },
+        ) => { println!(rt; "words: {} files, {} feeders", files.len(), job.feeders)? }
+        Ok(Line::Help { text: _ }) => println!(rt; "words: help")?,
+        Err(LineFault::Usage { text: _ }) => println!(rt; "words: refused")?,
+        Err(LineFault::Prefix { index }) => print_prefix(rt, words, *index)?,
+        Err(LineFault::Memory) => return Err(Stopped::Memory),
+    }
+    Ok(())
+}
+
+/// Prints what the words are read as, read again where memory was refused.
 fn print_line<R: Print + AllocGlobal>(rt: &R, words: &[String]) -> Result<(), Stopped> {
     let read = match job_of(rt.alloc(), words) {
         Err(LineFault::Memory) => job_of(rt.alloc(), words),
         read => read,
     };
-    match read {
-        Ok(
-            Line::Run {
-                job,
-                zone: _zone,
-                files,
-            },
-        ) => { println!(rt; "words: {} files, {} feeders", files.len(), job.feeders)? }
-        Ok(Line::Help { text: _text }) => println!(rt; "words: help")?,
-        Err(LineFault::Usage { text: _text }) => println!(rt; "words: refused")?,
-        Err(LineFault::Prefix { index }) => {
-            let found = word(rt.alloc(), words, index)?;
-            println!(rt; "words: no prefix in {} at {index}", found.as_str())?
-        }
-        Err(LineFault::Memory) => return Err(Stopped::Memory),
-    }
-    Ok(())
+    print_read(rt, words, &read)
 }
 
 /// Prints what each command line is read as.
