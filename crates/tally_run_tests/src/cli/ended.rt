@@ -88,6 +88,13 @@ struct Ended {
     takes: [u64; 2],
 }
 
+/// A source of so many zeros, of which each take is counted.
+fn source_of_zeros(left: usize, takes: &AtomicU64) -> Source<Counted<'_>> {
+    let input = Counted { left, takes };
+    let kind = Kind::Login;
+    Source { kind, input }
+}
+
 /// Prints all reports over two files of so many zeros.
 fn all_over<R: AllocGlobal + Threads + Wait + Sync>(
     rt: &R,
@@ -97,12 +104,13 @@ fn all_over<R: AllocGlobal + Threads + Wait + Sync>(
 ) -> Result<Ended, AllocError> {
     let first = AtomicU64::new(0);
     let second = AtomicU64::new(0);
-    let kind = Kind::Login;
-    let mut sources = Vec::new(rt.alloc());
-    for (left, takes) in [(sizes[0], &first), (sizes[1], &second)] {
-        let input = Counted { left, takes };
-        sources.push(Source { kind, input })?;
-    }
+    let sources = Vec::from_array(
+        rt.alloc(),
+        [
+            source_of_zeros(sizes[0], &first),
+            source_of_zeros(sizes[1], &second),
+        ],
+    )?;
     let job = text_job(Report::All, 1, 0);
     let mut out = Closing::new(fails);
     let outcome = run(

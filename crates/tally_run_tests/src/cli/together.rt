@@ -9,7 +9,7 @@ use std::sync::atomic::{AtomicU64, Ordering};
 use std::test::Fail;
 use std::thread;
 use std::thread::Threads;
-use tally_cli::{Report, RunFault, Source, run};
+use tally_cli::{Report, Source, run};
 use tally_clock::Clock;
 use tally_desk::{Bytes, Gate, OpenGate};
 use tally_print::Kept;
@@ -64,36 +64,22 @@ fn two_blocks(alloc: Global, user: &[u8], logout: &[u8]) -> Result<Vec<u8>, Allo
     Ok(bytes)
 }
 
-// What all reports on both files are, by so many feeders and askers that pass this gate.
-fn all_of_two<R: AllocGlobal + Threads + Wait + Sync, G: Gate + Sync>(
-    rt: &R,
-    keys: RandomState,
-    feeders: u32,
-    askers: u32,
-    gate: &G,
-) -> Result<(Result<(), RunFault>, Kept), AllocError>
-    requires { (1 ≤ feeders) × (feeders ≤ 64) × (askers ≤ 128) }
-{
-    let alloc = rt.alloc();
+// The source of such a file.
+fn source_of_two_blocks(
+    alloc: Global,
+    user: &[u8],
+    logout: &[u8],
+) -> Result<Source<Bytes>, AllocError> {
+    let input = Bytes::new(two_blocks(alloc, user, logout)?);
     let kind = Kind::Login;
-    let mut sources = Vec::new(alloc);
-    let ann = Bytes::new(two_blocks(alloc, b"ann", &[0x10, 0x0E])?);
-    sources.push(Source { kind, input: ann })?;
-    let bob = Bytes::new(two_blocks(alloc, b"bob", &[0x20, 0x1C])?);
-    sources.push(Source { kind, input: bob })?;
-    let job = text_job(Report::All, feeders, askers);
-    let mut out = Kept::new(alloc);
-    let outcome = run(
-        rt,
-        alloc,
-        keys,
-        &Clock::utc(alloc),
-        &job,
-        sources,
-        gate,
-        &mut out,
-    );
-    Ok((outcome, out))
+    Ok(Source { kind, input })
+}
+
+// The sources of both files.
+fn both_sources(alloc: Global) -> Result<Vec<Source<Bytes>>, AllocError> {
+    let ann = source_of_two_blocks(alloc, b"ann", &[0x10, 0x0E])?;
+    let bob = source_of_two_blocks(alloc, b"bob", &[0x20, 0x1C])?;
+    Ok(Vec::from_array(alloc, [ann, bob])?)
 }
 
 const ALL_OF_TWO: &[u8] = b"\
@@ -110,21 +96,49 @@ total                        3.00
        0         0.00re         0.00cp          0avio          0k
 ";
 
+// Whether all reports on both files, by so many feeders and askers that pass this gate, are this text.
+fn gives_all_of_two<R: AllocGlobal + Threads + Wait + Sync, G: Gate + Sync>(
+    rt: &R,
+    keys: RandomState,
+    feeders: u32,
+    askers: u32,
+    gate: &G,
+) -> Result<bool, AllocError>
+    requires { (1 ≤ feeders) × (feeders ≤ 64) × (askers ≤ 128) }
+{
+    let alloc = rt.alloc();
+    let sources = both_sources(alloc)?;
+    let job = text_job(Report::All, feeders, askers);
+    let mut out = Kept::new(alloc);
+    let outcome = run(
+        rt,
+        alloc,
+        keys,
+        &Clock::utc(alloc),
+        &job,
+        sources,
+        gate,
+        &mut out,
+    );
+    Ok(outcome.is_ok() && out.bytes() == ALL_OF_TWO)
+}
+
 #[test]
 fn two_feeders_go_on_together_and_with_an_asker(rt: HostRuntime) -> Result<(), Fail> {
+    let keys = RandomState::new(&rt)?;
     for (askers, callers) in [(0, 2), (1, 3)] {
         let gate = Meeting::of(callers);
-        let (outcome, out) = all_of_two(&rt, RandomState::new(&rt)?, 2, askers, &gate)?;
-        assert!(rt; outcome == Ok(()), "{askers} askers");
+        assert!(rt;
+            gives_all_of_two(&rt, keys, 2, askers, &gate)?,
+            "{askers} askers"
+        );
         assert!(rt; gate.late.load(Ordering::SeqCst) == 0, "{askers} askers");
-        assert!(rt; out.bytes() == ALL_OF_TWO, "{askers} askers");
     }
     Ok(())
 }
 
 #[test]
 fn one_feeder_alone_gives_the_same(rt: HostRuntime) -> Result<(), Fail> {
-    let (outcome, out) = all_of_two(&rt, RandomState::new(&rt)?, 1, 0, &OpenGate)?;
-    assert!(rt; outcome == Ok(()) && out.bytes() == ALL_OF_TWO);
+    assert!(rt; gives_all_of_two(&rt, RandomState::new(&rt)?, 1, 0, &OpenGate)?);
     Ok(())
 }
