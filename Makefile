@@ -23,13 +23,13 @@ look:
 test:
 	@.ci/gate "$(ROWS)"
 
-# The same, and every proof and wrong body again.
+# The same, and every proof and wrong body again, those too that are recorded as refused.
 test-anew:
 	@.ci/gate "$(ROWS)" --anew
 
-# The wrong bodies of some crates alone: make test-edits CRATES="tally_book tally_desk"
+# Every wrong body, or those of some crates alone, and records them as refused: make test-edits CRATES="tally_book tally_desk"
 test-edits: build
-	@.ci/edits $(CRATES)
+	@.ci/edits --record $(CRATES)
 
 # The rows and the cases with inputs of 402 MB. `make test` or `make build` comes first.
 test-big:

@@ -68,6 +68,7 @@ def copy_crate(name, to):
 
 
 REFUSED = re.compile(r'(?:rt: )?must-fail (\S+)\.edit: refused, as it must be(.*)')
+RECORDED = re.compile(r'must-fail (\S+)\.edit: recorded as refused')
 
 
 def edits_in(*folders):
@@ -79,3 +80,9 @@ def refused_in(log):
     """By what each edit that a log says was refused was refused."""
     with open(log, encoding='utf-8', errors='replace') as file:
         return dict(match.groups() for match in map(REFUSED.match, file) if match)
+
+
+def recorded_in(log):
+    """The edits that a log says were not tried, since .ci/tried has them as refused."""
+    with open(log, encoding='utf-8', errors='replace') as file:
+        return {match[1] for match in map(RECORDED.match, file) if match}

@@ -1,4 +1,9 @@
-"""What wrong bodies were refused by on this machine, each under the checksum of all that this rests on, below XDG_CACHE_HOME."""
+"""What is known of wrong bodies that were refused before, by the checksum of all that this rests on: on this machine the line that said
+so, below XDG_CACHE_HOME, and in .ci/tried the crates of which all were refused.
+
+A function is proved from the contracts of those that it calls, never from their bodies. So of the crates below a crate its verdicts rest
+on definitions, lemmas and sources without the bodies of functions, and not on the proofs of functions.
+"""
 import functools
 import hashlib
 import os
@@ -6,8 +11,15 @@ import pathlib
 import subprocess
 
 from common import TOP, below, lines
+from sources import without_bodies
 
-SCRIPTS = ('common.py', 'edits', 'kept.py', 'sources.py')
+SCRIPTS = ('bodies.py', 'sources.py')
+# The proof of one function, which no crate above can cite.
+OF_FUNCTIONS = ('Answers.antt', 'Invariants.antt', 'Proof.antt')
+TRIED = TOP / '.ci' / 'tried'
+HEAD = """# The crates of which every wrong body was refused, with the checksum of all that this rests on: the gate then tries those of must-fail/
+# alone. `.ci/edits --record` writes this file after it has tried them.
+"""
 
 
 @functools.lru_cache(maxsize=None)
@@ -21,16 +33,40 @@ def folder():
         return None
 
 
+def checksum(parts):
+    return hashlib.sha256(b''.join(hashlib.sha256(it).digest() for it in parts)).hexdigest()
+
+
+def files_of(crate, part):
+    return sorted(it for it in (TOP / 'crates' / crate / part).rglob('*') if it.is_file())
+
+
+@functools.lru_cache(maxsize=None)
+def own_sum(crate):
+    """The checksum of a crate whole."""
+    its = [it for part in ('src', 'specs', 'proofs') for it in files_of(crate, part)]
+    return checksum(part for it in its for part in (it.relative_to(TOP).as_posix().encode(), it.read_bytes()))
+
+
+@functools.lru_cache(maxsize=None)
+def surface_sum(crate):
+    """The checksum of what the crates above can see of a crate."""
+    sources = [(it, without_bodies(it.read_text(encoding='utf-8')).encode()) for it in files_of(crate, 'src')]
+    others = [*files_of(crate, 'specs'), *(it for it in files_of(crate, 'proofs') if it.name not in OF_FUNCTIONS)]
+    its = sources + [(it, it.read_bytes()) for it in others]
+    return checksum(part for it, text in its for part in (it.relative_to(TOP).as_posix().encode(), text))
+
+
 @functools.lru_cache(maxsize=None)
 def crate_sum(name):
-    """The checksum of what a verdict on an edit of this crate rests on beside the edit: the crate and those below it, the kit, and scripts."""
+    """The checksum of what a verdict on an edit of this crate rests on beside the edit: the crate, what it sees of those below, the logic, and scripts."""
     named = [*below(name), name]
-    files = [it for crate in named for part in ('src', 'specs', 'proofs') for it in sorted((TOP / 'crates' / crate / part).rglob('*')) if it.is_file()]
-    files += [TOP / 'HANDLES', *(TOP / '.ci' / it for it in SCRIPTS)]
-    said = [subprocess.run(['rt', 'version'], stdout=subprocess.PIPE, check=True).stdout]
-    said += [line.encode() for line in lines('crates.txt') if line.split(':')[0].split()[0] in named]
-    said += [part for it in files for part in (it.relative_to(TOP).as_posix().encode(), it.read_bytes())]
-    return hashlib.sha256(b''.join(hashlib.sha256(it).digest() for it in said)).hexdigest()
+    said = subprocess.run(['rt', 'version'], stdout=subprocess.PIPE, check=True).stdout
+    logic = said[said.index(b'logic'):]
+    uses = [line.encode() for line in lines('crates.txt') if line.split(':')[0].split()[0] in named]
+    sums = [*map(surface_sum, below(name)), own_sum(name)]
+    scripts = [(TOP / '.ci' / it).read_bytes() for it in SCRIPTS]
+    return checksum([logic, (TOP / 'HANDLES').read_bytes(), *uses, *(it.encode() for it in sums), *scripts])
 
 
 def place(name, edit):
@@ -52,3 +88,19 @@ def keep(name, edit, said):
         new = file.with_name(f'{file.name}.{os.getpid()}')
         new.write_text(f'{said}\n', encoding='utf-8')
         new.replace(file)
+
+
+def whole_sum(name, edits):
+    """The checksum of all that the verdicts on these edits of a crate rest on."""
+    return checksum([crate_sum(name).encode(), *(part.encode() for it in sorted(edits, key=lambda it: it.name) for part in (it.name, it.text))])
+
+
+def recorded():
+    """The checksum of each crate whose wrong bodies were all refused."""
+    return dict(line.split() for line in lines('.ci/tried')) if TRIED.exists() else {}
+
+
+def record(sums):
+    """Writes the checksums of these crates into the file, beside those that stand there."""
+    its = recorded() | sums
+    TRIED.write_text(HEAD + ''.join(f'{name} {its[name]}\n' for name in sorted(its)), encoding='utf-8')

@@ -11,12 +11,13 @@ LABEL = re.compile(r'-clause-(\w+)')
 
 
 class Function:
-    """A function, the type or trait that it is of, the labels of its clauses, and its first and last line with its attributes, counted from 0."""
+    """A function, the type or trait that it is of, the labels of its clauses, and by number from 0 the line of its name, its first one with its
+    attributes, the one that opens its body, and its last."""
 
     def __init__(self, owner, lines, at):
         indent, self.pub, self.name = FUNCTION.match(lines[at]).groups()
         self.trait, self.type = owner if indent else (None, None)
-        self.first, self.clauses = at, []
+        self.at, self.first, self.clauses = at, at, []
         while self.first > 0 and lines[self.first - 1].startswith(indent + '#['):
             self.first -= 1
         end = at
@@ -26,7 +27,7 @@ class Function:
                 self.clauses.append(clause[1] or 'ensures')
             if line.rstrip().endswith((' {', ';')) and not CLAUSE.match(line) or line in (indent + '{', indent + '{}') or line.endswith('};'):
                 break
-        ends = (indent + '}', indent + '{}')
+        self.opened, ends = end, (indent + '}', indent + '{}')
         has_body = not lines[end].endswith(';')
         self.last = next((k for k in range(end, len(lines)) if lines[k] in ends or k == end and lines[k].endswith(' {}')), end) if has_body else end
 
@@ -48,6 +49,13 @@ def functions(text):
 def function_at(its, line):
     """The function, of those of a file, that a line is in, counted from 1."""
     return next((it for it in its if it.first < line <= it.last + 1), None)
+
+
+def without_bodies(text):
+    """A file without the lines between the brace that opens a function's body and the one that ends it. A `const fn` stays as it is."""
+    lines = text.split('\n')
+    inside = {at for it in functions(text) if 'const fn' not in lines[it.at] for at in range(it.opened + 1, it.last)}
+    return '\n'.join(line for at, line in enumerate(lines) if at not in inside)
 
 
 class Crate:
