@@ -1,3 +1,2 @@
-pub mod FrontLemmas
 mod NamedFiles
 mod SameKinds

@@ -3,13 +3,12 @@
 ghost use Rattle.std.specs.Prelude.{ℕ, length};
 ghost use Rattle.tally_cli.specs.Runs.{IsNamed};
 
-use crate::hint::hint_on;
 use crate::shown::{ErrorsTo, Shown};
-use crate::zone::ZoneFault;
 use std::fmt::Display;
 use std::process::ExitCode;
 use tally_cli::{FileArg, RunFault};
 use tally_records::Memory;
+use tally_zones::{ZoneFault, hint_on};
 
 /// The status of a fault.
 pub(crate) const FAULT: u8 = 1;

@@ -2,13 +2,11 @@
 #![tactic(auto)]
 
 mod faults;
-mod hint;
 mod opened;
 mod output;
 mod program;
 mod shown;
 mod words;
-mod zone;
 
 use crate::shown::ErrorsTo;
 use std::io::IsTerminal;

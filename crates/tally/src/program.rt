@@ -8,7 +8,6 @@ use crate::opened::{OpenFault, ROOT, hold_closed_streams, open_all};
 use crate::output::Watched;
 use crate::shown::{ErrorsTo, Shown, printable};
 use crate::words::{WordsFault, words};
-use crate::zone::clock_of;
 use std::hash::RandomState;
 use std::io;
 use std::os::fd::AsRawFd;
@@ -22,6 +21,7 @@ use tally_clock::Clock;
 use tally_desk::OpenGate;
 use tally_print::Writing;
 use tally_records::Memory;
+use tally_zones::clock_of;
 
 /// Runs the program, and says how it went.
 pub(crate) fn tally<R>(rt: &R, to: ErrorsTo) -> ExitCode

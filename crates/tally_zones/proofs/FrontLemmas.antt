@@ -5,7 +5,7 @@ use Rattle.std.proofs.lemmas.List.{length-take, take_all}
 use Rattle.tally_clock.specs.Files.{IsClockOfFile}
 use Rattle.tally_clock.specs.Rows.{ClockRows}
 use Rattle.tally_clock.specs.declared.file.TheConstants.{FILE_LIMIT}
-use Rattle.tally.specs.Zones.{front_of}
+use Rattle.tally_zones.specs.Zones.{front_of}
 
 small_is_whole : (bytes : List ℕ) → length (front_of bytes) ≤ FILE_LIMIT → front_of bytes ≡ bytes
 small_is_whole bytes small = take_all (FILE_LIMIT + 1) bytes (let size = length-take (FILE_LIMIT + 1) bytes in omega (arith, size))

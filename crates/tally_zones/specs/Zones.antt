@@ -10,8 +10,8 @@ use Rattle.tally_clock.specs.declared.file.TheConstants.{FILE_LIMIT}
 use Rattle.tally_clock.specs.declared.rule.RuleFault.{RuleFault}
 use Rattle.tally_clock.specs.declared.rule.RuleFault.TheVariants as rule
 use Rattle.tally_clock.specs.declared.word.ZoneText.TheVariants.{MistakenOffset, Rule}
-use Rattle.tally.specs.declared.zone.ZoneFault.{ZoneFault}
-use Rattle.tally.specs.declared.zone.ZoneFault.TheVariants as fault
+use Rattle.tally_zones.specs.declared.zone.ZoneFault.{ZoneFault}
+use Rattle.tally_zones.specs.declared.zone.ZoneFault.TheVariants as fault
 
 -- as much of a file as shows whether it is too large
 abbrev pub front_of : List ℕ → List ℕ

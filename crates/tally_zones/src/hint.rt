@@ -6,12 +6,15 @@ use std::fmt::{self, Display, Formatter};
 const NAMES: [&str; 3] = ["UTC", "GMT", "UT"];
 
 /// What to write.
-#[derive(Clone, Copy)]
-pub(crate) enum Hint {
+#[derive(Clone, Copy, Debug)]
+pub enum Hint {
     /// The rule of this offset, as it was meant: `UTC+2` is two hours east.
     Rule {
+        /// Whether it is ahead of UTC.
         is_east: bool,
+        /// Its whole hours.
         hours: u32,
+        /// The minutes beside them.
         minutes: u32,
     },
     /// Some rule, where the offset is not plain.
@@ -41,7 +44,7 @@ impl Display for Hint {
 }
 
 /// What to write in place of a name of UTC and an offset.
-pub(crate) fn hint_on(word: &str) -> Hint {
+pub fn hint_on(word: &str) -> Hint {
     for name in NAMES {
         if let Some(text) = word.strip_prefix(name) {
             return hint_of(text);

@@ -3,7 +3,8 @@ ghost use Rattle.std.specs.Prelude.{◌≡◌, IfOk, IfSome, take};
 ghost use Rattle.tally_clock.specs.Files.{IsClockOfFile};
 ghost use Rattle.tally_clock.specs.Words.{zone_word};
 ghost use Rattle.tally_clock.specs.declared.word.ZoneWord.{ZoneWord};
-ghost use Rattle.tally.specs.Zones.{IsOfText, front_of, of_file_fault, of_rule_fault};
+ghost use Rattle.tally_zones.specs.declared.zone.ZoneFault.TheVariants as fault;
+ghost use Rattle.tally_zones.specs.Zones.{IsOfText, front_of, of_file_fault, of_rule_fault};
 
 use std::alloc::{AllocError, AllocFailed, Global};
 use std::fs;
@@ -23,8 +24,9 @@ const FOLDER: &str = "/usr/share/zoneinfo/";
 const UTC: &str = "UTC";
 
 /// Why a word gives no clock.
-#[derive(Clone, Copy)]
-pub(crate) enum ZoneFault {
+#[derive(Clone, Copy, Debug)]
+pub enum ZoneFault {
+    /// Memory ran out.
     Memory,
     /// It names no file, and is no rule.
     NotFound,
@@ -35,12 +37,16 @@ pub(crate) enum ZoneFault {
 }
 
 impl From<AllocError> for ZoneFault {
+    ghost from_gives = { λ _ found. found ≡ fault.Memory };
+
     fn from(_error: AllocError) -> ZoneFault {
         ZoneFault::Memory
     }
 }
 
 impl<T: Drop> From<AllocFailed<T>> for ZoneFault {
+    ghost from_gives = { λ _ found. found ≡ fault.Memory };
+
     fn from(_error: AllocFailed<T>) -> ZoneFault {
         ZoneFault::Memory
     }
@@ -68,8 +74,9 @@ impl From<RuleFault> for ZoneFault {
     }
 }
 
-/// The clock of the zone that a word names.
-pub(crate) fn clock_of<R: Files + AllocGlobal>(rt: &R, word: &str) -> Result<Clock, ZoneFault>
+/// The clock of the zone that a word names: `local`, a path, a name as `Europe/Berlin`, or a rule of POSIX. It errs where memory
+/// runs out, and where there is no such zone.
+pub fn clock_of<R: Files + AllocGlobal>(rt: &R, word: &str) -> Result<Clock, ZoneFault>
 where
     R::File: Drop,
     ensures { zone_word word.now ≡ ZoneWord.Text → IsOfText word.now result }

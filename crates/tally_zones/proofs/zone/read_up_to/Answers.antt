@@ -1,7 +1,7 @@
 use Rattle.std.proofs.Common.{◌++◌, ◌≡◌, subst, take}
 use Rattle.std.specs.Prelude.{IfSome, option_map}
-use Rattle.tally.proofs.FrontLemmas.{limited}
-use Rattle.tally.proofs.zone.read_up_to.Goals as goal
+use Rattle.tally_zones.proofs.FrontLemmas.{limited}
+use Rattle.tally_zones.proofs.zone.read_up_to.Goals as goal
 
 pub returns : goal.returns
 returns g c = limited (g.F.Read.remaining c.args.file) c.take.result.limit _ c.new-bytes.result.items _ c.take.ensures.limit c.new-bytes.ensures.items
