@@ -1,27 +1,33 @@
 //! Desks, inputs and gates for tests.
-ghost use Rattle.std.specs.Prelude.{◌≡◌, IfOk, None, false, vec_len};
+ghost use Rattle.std.specs.Prelude.{◌≡◌, None, false, vec_len};
 ghost use Rattle.std.specs.List.{All};
-ghost use Rattle.tally_book.specs.Books.{IsLegal};
 
-use std::alloc::{AllocError, Global};
+use std::alloc::Global;
 use std::hash::RandomState;
 use std::io::{ErrorKind, Read};
+use std::process::Abort;
+use std::random::RandomSource;
 use std::sync::atomic::{AtomicU64, Ordering};
-use std::test::Fail;
 use std::{io, thread};
 use tally_book::Book;
 use tally_desk::{Desk, Gate, Input, InputFault, Pass};
 use tally_records::Batch;
 
+/// Keys of a book's tables.
+pub(crate) fn new_keys<R: Abort + RandomSource>(rt: &R) -> RandomState {
+    RandomState::new(rt).expect(rt, "random bytes")
+}
+
 /// A desk of one caller, and its pass.
-pub(crate) fn opened(alloc: Global, keys: RandomState) -> Result<(Desk, Pass), Fail>
-    ensures { IfOk result (λ r. r.1.desk ≡ r.0.id) }
+pub(crate) fn opened<R: Abort + RandomSource>(rt: &R, alloc: Global) -> (Desk, Pass)
+    ensures { result.1.desk ≡ result.0.id }
 {
-    let (desk, mut passes) = Desk::open(alloc, keys, 1)?;
+    let (desk, mut passes) = Desk::open(alloc, new_keys(rt), 1).expect(rt, "a desk of one caller");
     let Some(pass) = passes.pop() else {
         unreachable!()
     };
-    Ok((desk, pass))
+    drop(passes);
+    (desk, pass)
 }
 
 /// The passes of a desk of two callers.
@@ -37,56 +43,55 @@ pub(crate) fn both(desk: &Desk, mut passes: Vec<Pass>) -> (Pass, Pass)
     let Some(first) = passes.pop() else {
         unreachable!()
     };
+    drop(passes);
     (first, second)
 }
 
 /// A desk of two callers, and their passes.
-pub(crate) fn pair(alloc: Global, keys: RandomState) -> Result<(Desk, Pass, Pass), Fail>
-    ensures first { IfOk result (λ r. r.1.desk ≡ r.0.id) }
-    ensures second { IfOk result (λ r. r.2.desk ≡ r.0.id) }
+pub(crate) fn pair<R: Abort + RandomSource>(rt: &R, alloc: Global) -> (Desk, Pass, Pass)
+    ensures first { result.1.desk ≡ result.0.id }
+    ensures second { result.2.desk ≡ result.0.id }
 {
-    let (desk, passes) = Desk::open(alloc, keys, 2)?;
+    let (desk, passes) = Desk::open(alloc, new_keys(rt), 2).expect(rt, "a desk of two callers");
     let (first, second) = both(&desk, passes);
-    Ok((desk, first, second))
+    (desk, first, second)
+}
+
+/// Lets a desk of two callers go.
+pub(crate) fn leave(desk: Desk, first: Pass, second: Pass) {
+    drop(first);
+    drop(second);
+    drop(desk);
 }
 
 /// Passes of a desk, and another of them.
 pub(crate) fn with_another(
+    rt: &impl Abort,
     desk: &Desk,
     mut passes: Vec<Pass>,
     another: Pass,
-) -> Result<Vec<Pass>, Fail>
+) -> Vec<Pass>
     requires passes { All (λ p. p.desk ≡ desk.now.id) passes.items }
     requires another { another.desk ≡ desk.now.id }
-    ensures { IfOk result (λ all. All (λ p. p.desk ≡ desk.now.id) all.items) }
+    ensures { All (λ p. p.desk ≡ desk.now.id) result.items }
 {
-    passes.push(another)?;
-    Ok(passes)
+    passes.push(another).expect(rt, "memory");
+    passes
 }
 
 /// The book of a desk, where all its passes are handed in.
-pub(crate) fn book_of(desk: Desk, passes: Result<Vec<Pass>, Fail>) -> Result<Book, Fail>
-    requires { IfOk passes (λ all. All (λ p. p.desk ≡ desk.id) all.items) }
-    ensures legal { IfOk result IsLegal }
+pub(crate) fn book_of(rt: &impl Abort, desk: Desk, passes: Vec<Pass>) -> Book
+    requires { All (λ p. p.desk ≡ desk.id) passes.items }
 {
-    let passes = passes?;
-    Ok(desk.close(passes).ok().ok_or("all passes are there")?)
-}
-
-/// The only pass of a desk, as a list.
-fn only(alloc: Global, desk: &Desk, pass: Pass) -> Result<Vec<Pass>, Fail>
-    requires { pass.desk ≡ desk.now.id }
-    ensures { IfOk result (λ all. All (λ p. p.desk ≡ desk.now.id) all.items) }
-{
-    Ok(Vec::from_array(alloc, [pass])?)
+    desk.close(passes).ok().expect(rt, "all passes are there")
 }
 
 /// The book of a desk of one caller.
-pub(crate) fn closed(alloc: Global, desk: Desk, pass: Pass) -> Result<Book, Fail>
+pub(crate) fn closed(rt: &impl Abort, alloc: Global, desk: Desk, pass: Pass) -> Book
     requires { pass.desk ≡ desk.id }
 {
-    let passes = only(alloc, &desk, pass);
-    book_of(desk, passes)
+    let passes = Vec::from_array(alloc, [pass]).expect(rt, "memory");
+    book_of(rt, desk, passes)
 }
 
 /// How many login records, process records and calls a book has.
@@ -95,16 +100,18 @@ pub(crate) fn counted(book: &Book) -> [usize; 3] {
 }
 
 /// The same of the book of a desk of one caller.
-pub(crate) fn closed_with(alloc: Global, desk: Desk, pass: Pass) -> Result<[usize; 3], Fail>
+pub(crate) fn closed_with(rt: &impl Abort, alloc: Global, desk: Desk, pass: Pass) -> [usize; 3]
     requires { pass.desk ≡ desk.id }
 {
-    let book = closed(alloc, desk, pass)?;
-    Ok(counted(&book))
+    let book = closed(rt, alloc, desk, pass);
+    let counts = counted(&book);
+    drop(book);
+    counts
 }
 
 /// Process records of version 2.
-pub(crate) fn twos(alloc: Global, count: usize) -> Result<Vec<u8>, AllocError> {
-    vec![in alloc; 2u8; count]
+pub(crate) fn twos(rt: &impl Abort, alloc: Global, count: usize) -> Vec<u8> {
+    vec![in alloc; 2u8; count].expect(rt, "memory")
 }
 
 /// A reader of twos that gives at most `step` bytes a time, `left` in all, and may then fail.
@@ -259,20 +266,24 @@ fn make_record(flag: u8, numbers: &[u8; 10]) -> [u8; 64] {
     bytes
 }
 
+/// No process records.
+pub(crate) fn nothing(rt: &impl Abort, alloc: Global) -> Batch {
+    Batch::procs(alloc, &[]).expect(rt, "no records")
+}
+
 /// A session of one hour.
-pub(crate) fn hour(alloc: Global) -> Result<Batch, Fail> {
-    let mut bytes = Vec::new(alloc);
-    bytes.extend_from_slice(&login_record(7, "ann", 1_000_000))?;
-    bytes.extend_from_slice(&login_record(8, "", 1_003_600))?;
-    Ok(Batch::logins(alloc, bytes.as_slice())?)
+pub(crate) fn hour(rt: &impl Abort, alloc: Global) -> Batch {
+    let records = [
+        login_record(7, "ann", 1_000_000),
+        login_record(8, "", 1_003_600),
+    ];
+    Batch::logins(alloc, records.as_flattened()).expect(rt, "login records")
 }
 
 /// One run of make that executed, and two that only forked.
-pub(crate) fn makes(alloc: Global) -> Result<Batch, Fail> {
-    let mut bytes = Vec::new(alloc);
-    bytes.extend_from_slice(&make_record(0, &[120, 0, 60, 0, 0x58, 2, 0xf4, 1, 0xe8, 3]))?;
-    for _ in 0..2 {
-        bytes.extend_from_slice(&make_record(1, &[60, 0, 0, 0, 60, 0, 200, 0, 3, 0]))?;
-    }
-    Ok(Batch::procs(alloc, bytes.as_slice())?)
+pub(crate) fn makes(rt: &impl Abort, alloc: Global) -> Batch {
+    let executed = make_record(0, &[120, 0, 60, 0, 0x58, 2, 0xf4, 1, 0xe8, 3]);
+    let forked = make_record(1, &[60, 0, 0, 0, 60, 0, 200, 0, 3, 0]);
+    let records = [executed, forked, forked];
+    Batch::procs(alloc, records.as_flattened()).expect(rt, "process records")
 }

@@ -4,13 +4,12 @@ ghost use Rattle.tally_desk.specs.Feeds.{IsWhole, Posts};
 
 use crate::desk::feeding::{THREE, expect_fed, fed};
 use crate::desk::makers::{Once, Trickle, opened, steady};
+use crate::equal::expect_equal;
 use std::alloc::Global;
-use std::hash::RandomState;
 use std::io::Read;
 use std::process::Abort;
 use std::random::RandomSource;
 use std::sync::Wait;
-use std::test::Fail;
 use tally_desk::{Desk, Fed, FeedFault, OpenGate, Pass, Reading, feed};
 use tally_records::Kind;
 
@@ -21,8 +20,8 @@ fn expect_read<R: Abort + RandomSource + Wait, S: Read + Drop>(
     reader: S,
     want: Result<Fed, FeedFault>,
     stored: usize,
-) -> Result<(), Fail> {
-    expect_fed(rt, alloc, Kind::Proc, Reading::new(reader), want, stored)
+) {
+    expect_fed(rt, alloc, Kind::Proc, Reading::new(reader), want, stored);
 }
 
 /// A reader of bytes in memory is known to be fed whole.
@@ -41,15 +40,16 @@ fn fed_whole<R: Wait>(
 }
 
 #[test]
-fn the_bytes_of_a_reader_are_fed(rt: HostRuntime) -> Result<(), Fail> {
-    let (desk, mut pass) = opened(rt.alloc(), RandomState::new(&rt)?)?;
+fn the_bytes_of_a_reader_are_fed(rt: HostRuntime) {
+    let (desk, mut pass) = opened(&rt, rt.alloc());
     let fed = fed_whole(&rt, rt.alloc(), &desk, &mut pass, &[2u8; 192]);
-    assert!(rt; fed == Ok(THREE));
-    Ok(())
+    drop(pass);
+    drop(desk);
+    expect_equal(&rt, &fed, &Ok(THREE));
 }
 
 #[test]
-fn a_reader_is_not_read_after_its_end(rt: HostRuntime) -> Result<(), Fail> {
+fn a_reader_is_not_read_after_its_end(rt: HostRuntime) {
     for (stored, batches) in [(0, 0), (3, 1), (1024, 1), (1025, 2)] {
         let reader = Once {
             left: stored * 64,
@@ -62,66 +62,63 @@ fn a_reader_is_not_read_after_its_end(rt: HostRuntime) -> Result<(), Fail> {
             reader,
             Ok(Fed { records, batches }),
             stored,
-        )?;
+        );
     }
-    Ok(())
 }
 
 #[test]
-fn bytes_may_come_one_at_a_time(rt: HostRuntime) -> Result<(), Fail> {
+fn bytes_may_come_one_at_a_time(rt: HostRuntime) {
     let reader = Trickle {
         interrupts: 3,
         ..steady(1, 192)
     };
-    expect_read(&rt, rt.alloc(), reader, Ok(THREE), 3)
+    expect_read(&rt, rt.alloc(), reader, Ok(THREE), 3);
 }
 
 #[test]
-fn a_first_read_that_fails_posts_nothing(rt: HostRuntime) -> Result<(), Fail> {
+fn a_first_read_that_fails_posts_nothing(rt: HostRuntime) {
     let reader = Trickle {
         fails: true,
         ..steady(4096, 0)
     };
-    expect_read(&rt, rt.alloc(), reader, Err(FeedFault::Read), 0)
+    expect_read(&rt, rt.alloc(), reader, Err(FeedFault::Read), 0);
 }
 
 #[test]
-fn whichever_read_fails_posts_nothing(rt: HostRuntime) -> Result<(), Fail> {
-    let keys = RandomState::new(&rt)?;
+fn whichever_read_fails_posts_nothing(rt: HostRuntime) {
     for left in 0..769 {
         let reader = Trickle {
             fails: true,
             ..steady(1, left)
         };
         let input = &mut Reading::new(reader);
-        let outcome = fed(&rt, rt.alloc(), keys, Kind::Login, input)?;
+        let outcome = fed(&rt, rt.alloc(), Kind::Login, input);
         let want = (Err(FeedFault::Read), [0, 0, 0]);
         assert!(rt; outcome == want, "after {left} bytes");
     }
-    Ok(())
 }
 
 #[test]
-fn a_later_read_that_fails_keeps_the_blocks_before(rt: HostRuntime) -> Result<(), Fail> {
+fn a_later_read_that_fails_keeps_the_blocks_before(rt: HostRuntime) {
     let reader = Trickle {
         fails: true,
         ..steady(4096, 65_600)
     };
-    expect_read(&rt, rt.alloc(), reader, Err(FeedFault::Read), 1024)
+    expect_read(&rt, rt.alloc(), reader, Err(FeedFault::Read), 1024);
 }
 
 #[test]
-fn endless_interrupts_are_a_failed_read(rt: HostRuntime) -> Result<(), Fail> {
+fn endless_interrupts_are_a_failed_read(rt: HostRuntime) {
     let reader = Trickle {
         interrupts: 10_000,
         ..steady(4096, 64)
     };
-    expect_read(&rt, rt.alloc(), reader, Err(FeedFault::Read), 0)
+    expect_read(&rt, rt.alloc(), reader, Err(FeedFault::Read), 0);
 }
 
 #[test]
-fn a_record_past_the_limit_is_too_long(rt: HostRuntime) -> Result<(), Fail> {
+fn a_record_past_the_limit_is_too_long(rt: HostRuntime) {
     let reader = steady(65_536, 67_108_928);
     let want = Err(FeedFault::TooLong);
-    expect_read(&rt, rt.alloc(), reader, want, 1_048_576)
+    expect_read(&rt, rt.alloc(), reader, want, 1_048_576);
 }

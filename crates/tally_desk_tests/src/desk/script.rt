@@ -1,12 +1,11 @@
 //! The worked script of a desk of two callers: a post of the first, a report of the second, and then the other way round.
-ghost use Rattle.std.specs.Prelude.{◌≡◌, OnOk};
+ghost use Rattle.std.specs.Prelude.{◌≡◌};
 ghost use Rattle.tally_book.specs.Answers.{IsAskable};
 
-use crate::desk::makers::{hour, makes, pair};
+use crate::desk::makers::{hour, makes};
 use std::alloc::Global;
-use std::hash::RandomState;
+use std::process::Abort;
 use std::sync::Wait;
-use std::test::Fail;
 use tally_book::{Answer, AskFault, Counts, Question, Receipt};
 use tally_desk::{Desk, Pass};
 use tally_usage::Order;
@@ -41,102 +40,78 @@ fn rows_of(answer: &Answer) -> Option<(usize, u64)> {
 }
 
 /// What a desk answers to a question.
-fn report<R: Wait>(
+fn report<R: Abort + Wait>(
     rt: &R,
     alloc: Global,
     desk: &Desk,
     pass: &mut Pass,
     question: &Question,
-) -> Result<Report, AskFault>
+) -> Report
     requires desk { pass.old.desk ≡ desk.now.id }
     requires askable { IsAskable question.now }
     ensures { pass.new.desk ≡ desk.now.id }
 {
-    let served = desk.ask(rt, alloc, pass, question)?;
-    Ok((served.call, served.at, rows_of(&served.answer)))
+    let served = desk.ask(rt, alloc, pass, question).expect(rt, "a report");
+    let report = (served.call, served.at, rows_of(&served.answer));
+    drop(served);
+    report
 }
 
 /// What the first post and the first report of the script answer.
-fn begin<R: Wait>(
+pub(super) fn begin<R: Abort + Wait>(
     rt: &R,
     alloc: Global,
     desk: &Desk,
     first: &mut Pass,
     second: &mut Pass,
-) -> Result<(Receipt, Report), Fail>
+) -> (Receipt, Report)
     requires first { first.old.desk ≡ desk.now.id }
     requires second { second.old.desk ≡ desk.now.id }
-    ensures first { OnOk result (first.new.desk ≡ desk.now.id) }
-    ensures second { OnOk result (second.new.desk ≡ desk.now.id) }
+    ensures first { first.new.desk ≡ desk.now.id }
+    ensures second { second.new.desk ≡ desk.now.id }
 {
-    let receipt = desk.post(rt, first, &hour(alloc)?)?;
-    Ok((receipt, report(rt, alloc, desk, second, &TOTAL)?))
-}
-
-/// The same of a new desk.
-pub(super) fn begun<R: Wait>(
-    rt: &R,
-    alloc: Global,
-    keys: RandomState,
-) -> Result<(Receipt, Report), Fail> {
-    let (desk, mut first, mut second) = pair(alloc, keys)?;
-    begin(rt, alloc, &desk, &mut first, &mut second)
+    let receipt = desk
+        .post(rt, first, &hour(rt, alloc))
+        .expect(rt, "a receipt");
+    (receipt, report(rt, alloc, desk, second, &TOTAL))
 }
 
 /// Why a report on a host that is not there is refused after that, and how many calls the desk then has.
-fn refuse<R: Wait>(
+pub(super) fn refuse<R: Abort + Wait>(
     rt: &R,
     alloc: Global,
     desk: &Desk,
     first: &mut Pass,
     second: &mut Pass,
-) -> Result<(Option<AskFault>, u64), Fail>
+) -> (Option<AskFault>, u64)
     requires first { first.old.desk ≡ desk.now.id }
     requires second { second.old.desk ≡ desk.now.id }
 {
-    let _begun = begin(rt, alloc, desk, first, second)?;
+    let _begun = begin(rt, alloc, desk, first, second);
     let question = Question::Last {
         host: 2,
         limit: None,
         until: None,
     };
-    let fault = report(rt, alloc, desk, second, &question).err();
-    Ok((fault, desk.stored(second)))
-}
-
-/// The same of a new desk.
-pub(super) fn refused<R: Wait>(
-    rt: &R,
-    alloc: Global,
-    keys: RandomState,
-) -> Result<(Option<AskFault>, u64), Fail> {
-    let (desk, mut first, mut second) = pair(alloc, keys)?;
-    refuse(rt, alloc, &desk, &mut first, &mut second)
+    let fault = desk.ask(rt, alloc, second, &question).err();
+    (fault, desk.stored(second))
 }
 
 /// What the rest of the script answers, and how many calls the desk then has.
-fn finish<R: Wait>(
+pub(super) fn finish<R: Abort + Wait>(
     rt: &R,
     alloc: Global,
     desk: &Desk,
     first: &mut Pass,
     second: &mut Pass,
-) -> Result<(Receipt, Report, u64), Fail>
+) -> (Receipt, Report, u64)
     requires first { first.old.desk ≡ desk.now.id }
     requires second { second.old.desk ≡ desk.now.id }
 {
-    let _begun = begin(rt, alloc, desk, first, second)?;
-    let receipt = desk.post(rt, second, &makes(alloc)?)?;
-    let answered = report(rt, alloc, desk, first, &COMMANDS)?;
-    Ok((receipt, answered, desk.stored(second)))
-}
-
-/// The same of a new desk.
-pub(super) fn finished<R: Wait>(
-    rt: &R,
-    alloc: Global,
-    keys: RandomState,
-) -> Result<(Receipt, Report, u64), Fail> {
-    let (desk, mut first, mut second) = pair(alloc, keys)?;
-    finish(rt, alloc, &desk, &mut first, &mut second)
+    let _begun = begin(rt, alloc, desk, first, second);
+    let receipt = desk
+        .post(rt, second, &makes(rt, alloc))
+        .expect(rt, "a receipt");
+    let answered = report(rt, alloc, desk, first, &COMMANDS);
+    (receipt, answered, desk.stored(second))
 }

@@ -1,14 +1,14 @@
 //! Callers that feed and ask side by side, each in a thread of its own.
-ghost use Rattle.std.specs.Prelude.{◌≡◌, IfOk, vec_len};
+ghost use Rattle.std.specs.Prelude.{◌≡◌};
 ghost use Rattle.std.specs.List.{All};
 
-use crate::desk::makers::{Meeting, book_of, both, pair, twos, with_another};
+use crate::desk::makers::{Meeting, book_of, new_keys, twos};
+use crate::equal::expect_equal;
 use std::alloc::Global;
 use std::hash::RandomState;
 use std::process::Abort;
 use std::sync::Wait;
-use std::test::Fail;
-use std::thread::{Threads, join};
+use std::thread::{Threads, for_each_mut};
 use tally_book::{Book, Call, Question};
 use tally_desk::{Bytes, Desk, Gate, Pass, feed};
 use tally_records::Kind;
@@ -20,208 +20,84 @@ const TOTAL: Question = Question::Connect {
     until: None,
 };
 
-/// Asks one question together with the others' calls, and says how many calls the desk then had,
-/// where that is at least the number of this one.
-fn ask_once<R: Wait>(
+/// Asks one question together with the others' calls, and asserts that the desk then had at least
+/// this many calls and the number of this one.
+fn ask_once<R: Abort + Wait>(
     rt: &R,
     alloc: Global,
     desk: &Desk,
     pass: &mut Pass,
     gate: &Meeting,
-) -> Option<u64>
+    least: u64,
+)
     requires { pass.old.desk ≡ desk.now.id }
     ensures { pass.new.desk ≡ pass.old.desk }
 {
     gate.before(pass.number(), 0);
-    let served = desk.ask(rt, alloc, pass, &TOTAL).ok()?;
-    let stored = desk.stored(pass);
-    (stored >= served.call).then_some(stored)
+    let served = desk.ask(rt, alloc, pass, &TOTAL).expect(rt, "an answer");
+    let least = least.max(served.call);
+    drop(served);
+    assert!(rt; desk.stored(pass) >= least);
 }
 
 /// Feeds 1,025 records as two posts and asks two questions, each call made together with the
-/// others' calls. Answers whether the desk then counted them each time.
-fn take_part<R: Wait>(
-    rt: &R,
-    alloc: Global,
-    desk: &Desk,
-    pass: &mut Pass,
-    gate: &Meeting,
-) -> Option<bool>
+/// others' calls. Asserts that the desk then counted them each time.
+fn take_part<R: Abort + Wait>(rt: &R, alloc: Global, desk: &Desk, pass: &mut Pass, gate: &Meeting)
     requires { pass.old.desk ≡ desk.now.id }
     ensures { pass.new.desk ≡ pass.old.desk }
 {
-    let mut input = Bytes::new(twos(alloc, 65_600).ok()?);
-    let fed = feed(rt, alloc, desk, pass, Kind::Proc, &mut input, gate).ok()?;
-    let posted = desk.stored(pass);
-    let once = ask_once(rt, alloc, desk, pass, gate)?;
-    let twice = ask_once(rt, alloc, desk, pass, gate)?;
-    Some(fed.batches == 2 && posted >= 2 && once >= 3 && twice >= 4)
+    let mut input = Bytes::new(twos(rt, alloc, 65_600));
+    let fed = feed(rt, alloc, desk, pass, Kind::Proc, &mut input, gate).expect(rt, "a feed");
+    drop(input);
+    expect_equal(rt, &fed.batches, &2);
+    assert!(rt; desk.stored(pass) >= 2);
+    ask_once(rt, alloc, desk, pass, gate, 3);
+    ask_once(rt, alloc, desk, pass, gate, 4);
 }
 
-/// A caller's part in any thread.
-fn part_of<R: Wait>(
+/// All callers of a desk take part, each in a thread of its own.
+fn all_take_part<R: Abort + Threads + Wait + Sync>(
     rt: &R,
     alloc: Global,
     desk: &Desk,
-    mut pass: Pass,
+    passes: &mut [Pass],
     gate: &Meeting,
-) -> (Pass, bool)
-    requires { pass.desk ≡ desk.now.id }
-    ensures { result.0.desk ≡ pass.desk }
+)
+    requires { All (λ p. p.desk ≡ desk.now.id) passes.old }
+    ensures { All (λ p. p.desk ≡ desk.now.id) passes.new }
 {
-    let taken = take_part(rt, alloc, desk, &mut pass, gate).unwrap_or(false);
-    (pass, taken)
-}
-
-/// The parts of two callers, in a thread each.
-fn parts_of_two<R: Threads + Wait + Sync>(
-    rt: &R,
-    alloc: Global,
-    desk: &Desk,
-    first: Pass,
-    second: Pass,
-    gate: &Meeting,
-) -> (Pass, Pass, bool)
-    requires first { first.desk ≡ desk.now.id }
-    requires second { second.desk ≡ desk.now.id }
-    ensures first { result.0.desk ≡ first.desk }
-    ensures second { result.1.desk ≡ second.desk }
-{
-    let ((first, one), (second, other)) = join(
+    let threads = passes.len().max(1);
+    for_each_mut(
         rt,
-        || part_of(rt, alloc, desk, first, gate),
-        || part_of(rt, alloc, desk, second, gate),
+        passes,
+        threads,
+        &|_, pass| take_part(rt, alloc, desk, pass, gate),
     );
-    (first, second, one && other)
 }
 
-/// The passes of a desk of four callers.
-fn four_of(desk: &Desk, mut passes: Vec<Pass>) -> (Pass, Pass, Pass, Pass)
-    requires four { vec_len passes ≡ 4 }
-    requires desk { All (λ p. p.desk ≡ desk.now.id) passes.items }
-    ensures first { result.0.desk ≡ desk.now.id }
-    ensures second { result.1.desk ≡ desk.now.id }
-    ensures third { result.2.desk ≡ desk.now.id }
-    ensures fourth { result.3.desk ≡ desk.now.id }
-{
-    let Some(fourth) = passes.pop() else {
-        unreachable!()
-    };
-    let Some(third) = passes.pop() else {
-        unreachable!()
-    };
-    let (first, second) = both(desk, passes);
-    (first, second, third, fourth)
-}
-
-/// The passes of two callers, where both took part.
-fn two_take_part<R: Threads + Wait + Sync>(
-    rt: &R,
-    alloc: Global,
-    desk: &Desk,
-    first: Pass,
-    second: Pass,
-    gate: &Meeting,
-) -> Result<Vec<Pass>, Fail>
-    requires first { first.desk ≡ desk.now.id }
-    requires second { second.desk ≡ desk.now.id }
-    ensures { IfOk result (λ all. All (λ p. p.desk ≡ desk.now.id) all.items) }
-{
-    let (first, second, taken) = parts_of_two(rt, alloc, desk, first, second, gate);
-    let passes = Vec::from_array(alloc, [first, second])?;
-    if taken {
-        Ok(passes)
-    } else {
-        Err("a call was refused")?
-    }
-}
-
-/// The closed book of two callers, where both took part.
-fn book_of_two<R: Threads + Wait + Sync>(
-    rt: &R,
-    alloc: Global,
-    keys: RandomState,
-    gate: &Meeting,
-) -> Result<Book, Fail> {
-    let (desk, first, second) = pair(alloc, keys)?;
-    let passes = two_take_part(rt, alloc, &desk, first, second, gate);
-    book_of(desk, passes)
-}
-
-/// The parts of four callers, in a thread each.
-fn parts_of_four<R: Threads + Wait + Sync>(
-    rt: &R,
-    alloc: Global,
-    desk: &Desk,
-    passes: Vec<Pass>,
-    gate: &Meeting,
-) -> (Pass, Pass, Pass, Pass, bool)
-    requires four { vec_len passes ≡ 4 }
-    requires desk { All (λ p. p.desk ≡ desk.now.id) passes.items }
-    ensures first { result.0.desk ≡ desk.now.id }
-    ensures second { result.1.desk ≡ desk.now.id }
-    ensures third { result.2.desk ≡ desk.now.id }
-    ensures fourth { result.3.desk ≡ desk.now.id }
-{
-    let (first, second, third, fourth) = four_of(desk, passes);
-    let ((first, second, one), (third, fourth, other)) = join(
-        rt,
-        || -> (Pass, Pass, bool)
-            requires { (first.desk ≡ desk.now.id) × (second.desk ≡ desk.now.id) }
-        { parts_of_two(rt, alloc, desk, first, second, gate) },
-        || -> (Pass, Pass, bool)
-            requires { (third.desk ≡ desk.now.id) × (fourth.desk ≡ desk.now.id) }
-        { parts_of_two(rt, alloc, desk, third, fourth, gate) },
-    );
-    (first, second, third, fourth, one && other)
-}
-
-/// The passes of four callers, where all took part.
-fn four_take_part<R: Threads + Wait + Sync>(
-    rt: &R,
-    alloc: Global,
-    desk: &Desk,
-    passes: Vec<Pass>,
-    gate: &Meeting,
-) -> Result<Vec<Pass>, Fail>
-    requires four { vec_len passes ≡ 4 }
-    requires desk { All (λ p. p.desk ≡ desk.now.id) passes.items }
-    ensures { IfOk result (λ all. All (λ p. p.desk ≡ desk.now.id) all.items) }
-{
-    let (first, second, third, fourth, taken) = parts_of_four(rt, alloc, desk, passes, gate);
-    if !taken {
-        return Err(Fail::new("a call was refused"));
-    }
-    let passes = Vec::from_array(alloc, [first, second])?;
-    let passes = with_another(desk, passes, third)?;
-    with_another(desk, passes, fourth)
-}
-
-/// The closed book of four callers, where all took part.
-fn book_of_four<R: Threads + Wait + Sync>(
-    rt: &R,
-    alloc: Global,
-    keys: RandomState,
-    gate: &Meeting,
-) -> Result<Book, Fail> {
-    let (desk, passes) = Desk::open(alloc, keys, 4)?;
-    let passes = four_take_part(rt, alloc, &desk, passes, gate);
-    book_of(desk, passes)
-}
-
-/// How many records are the caller's, how many posts it made, and how many questions it asked.
-fn share_of(book: &Book, number: u32) -> (usize, usize, usize) {
+/// How many records are the caller's.
+fn records_of(book: &Book, number: u32) -> usize {
     let entries = book.procs();
-    let records = (0..entries.len()).filter(
-        |place| matches!(entries.get(*place), Some(entry) if entry.host == number),
-    );
-    let calls = book.calls().iter();
-    let posts = calls.filter(
-        |call| matches!(call, Call::Posted { caller, .. } if *caller == number),
-    );
-    let calls = book.calls().iter();
-    let asks = calls.filter(|call| matches!(call, Call::Asked { caller, .. } if *caller == number));
-    (records.count(), posts.count(), asks.count())
+    let mut records = 0usize;
+    for place in 0..entries.len() {
+        if matches!(entries.get(place), Some(entry) if entry.host == number) {
+            records = records.saturating_add(1);
+        }
+    }
+    records
+}
+
+/// How many posts the caller made, and how many questions it asked.
+fn calls_of(book: &Book, number: u32) -> (usize, usize) {
+    let (mut posts, mut asks) = (0usize, 0usize);
+    for call in book.calls() {
+        match call {
+            Call::Posted { caller, .. } if *caller == number => posts = posts.saturating_add(1),
+            Call::Asked { caller, .. } if *caller == number => asks = asks.saturating_add(1),
+            _ => {}
+        }
+    }
+    (posts, asks)
 }
 
 /// Whether this many last calls are questions that were asked of this many records.
@@ -234,47 +110,36 @@ fn all_asked_at(book: &Book, last: usize, procs: u64) -> bool {
 fn expect_shares(rt: &impl Abort, book: &Book, callers: u32, calls: usize, procs: u64) {
     assert!(rt; book.calls().len() == calls);
     for number in 0..callers {
-        assert!(rt; share_of(book, number) == (1025, 2, 2), "of {number}");
+        let share = (records_of(book, number), calls_of(book, number));
+        assert!(rt; share == (1025, (2, 2)), "of {number}");
     }
     assert!(rt; all_asked_at(book, calls / 2, procs));
 }
 
-/// The same of the book of two callers.
-fn expect_two<R: Abort + Threads + Wait + Sync>(
+/// Asserts the same of the closed book of a new desk whose callers all took part.
+fn expect_side_by_side<R: Abort + Threads + Wait + Sync>(
     rt: &R,
     alloc: Global,
     keys: RandomState,
-    gate: &Meeting,
-) -> Result<(), Fail> {
-    let book = book_of_two(rt, alloc, keys, gate)?;
-    expect_shares(rt, &book, 2, 8, 2050);
-    Ok(())
+    callers: u32,
+    calls: usize,
+    procs: u64,
+) {
+    let gate = Meeting::of(u64::from(callers));
+    let (desk, mut passes) = Desk::open(alloc, keys, callers).expect(rt, "a desk");
+    all_take_part(rt, alloc, &desk, passes.as_mut_slice(), &gate);
+    let book = book_of(rt, desk, passes);
+    expect_shares(rt, &book, callers, calls, procs);
+    drop(book);
+    assert!(rt; gate.late() == 0);
 }
 
 #[test]
-fn two_callers_feed_and_ask_side_by_side(rt: HostRuntime) -> Result<(), Fail> {
-    let gate = Meeting::of(2);
-    expect_two(&rt, rt.alloc(), RandomState::new(&rt)?, &gate)?;
-    assert!(rt; gate.late() == 0);
-    Ok(())
-}
-
-/// The same of the book of four callers.
-fn expect_four<R: Abort + Threads + Wait + Sync>(
-    rt: &R,
-    alloc: Global,
-    keys: RandomState,
-    gate: &Meeting,
-) -> Result<(), Fail> {
-    let book = book_of_four(rt, alloc, keys, gate)?;
-    expect_shares(rt, &book, 4, 16, 4100);
-    Ok(())
+fn two_callers_feed_and_ask_side_by_side(rt: HostRuntime) {
+    expect_side_by_side(&rt, rt.alloc(), new_keys(&rt), 2, 8, 2050);
 }
 
 #[test]
-fn four_callers_feed_and_ask_side_by_side(rt: HostRuntime) -> Result<(), Fail> {
-    let gate = Meeting::of(4);
-    expect_four(&rt, rt.alloc(), RandomState::new(&rt)?, &gate)?;
-    assert!(rt; gate.late() == 0);
-    Ok(())
+fn four_callers_feed_and_ask_side_by_side(rt: HostRuntime) {
+    expect_side_by_side(&rt, rt.alloc(), new_keys(&rt), 4, 16, 4100);
 }
