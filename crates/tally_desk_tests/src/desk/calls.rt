@@ -18,19 +18,21 @@ use tally_records::Batch;
 
 #[test]
 fn a_desk_has_1_to_128_callers(rt: HostRuntime) {
-    let keys = new_keys(&rt);
+    let rt = &rt;
+    let keys = new_keys(rt);
     for callers in [0, 129] {
         let found = Desk::open(rt.alloc(), keys, callers).err();
-        expect_equal(&rt, &found, &Some(OpenFault::Callers(callers)));
+        expect_equal(rt, &found, &Some(OpenFault::Callers(callers)));
     }
 }
 
 #[test]
 fn passes_are_numbered_from_0(rt: HostRuntime) {
-    let (desk, first, second) = pair(&rt, rt.alloc());
+    let rt = &rt;
+    let (desk, first, second) = pair(rt, rt.alloc());
     let found = (desk.callers(), first.number(), second.number());
     leave(desk, first, second);
-    expect_equal(&rt, &found, &(2, 0, 1));
+    expect_equal(rt, &found, &(2, 0, 1));
 }
 
 /// The passes of a desk without the last, and the last.
@@ -80,20 +82,24 @@ fn expect_missed(rt: &impl Abort, alloc: Global, keys: RandomState, callers: u32
 
 #[test]
 fn a_desk_is_closed_with_all_its_passes(rt: HostRuntime) {
-    expect_missed(&rt, rt.alloc(), new_keys(&rt), 2, 1);
+    let rt = &rt;
+    expect_missed(rt, rt.alloc(), new_keys(rt), 2, 1);
 }
 
 #[test]
 fn the_last_of_128_passes_is_missed(rt: HostRuntime) {
-    expect_missed(&rt, rt.alloc(), new_keys(&rt), 128, 127);
+    let rt = &rt;
+    expect_missed(rt, rt.alloc(), new_keys(rt), 128, 127);
 }
 
 #[test]
 fn an_empty_post_is_a_call(rt: HostRuntime) {
-    let empty = nothing(&rt, rt.alloc());
-    let (desk, mut pass) = opened(&rt, rt.alloc());
+    let rt = &rt;
+    let alloc = rt.alloc();
+    let empty = nothing(rt, alloc);
+    let (desk, mut pass) = opened(rt, alloc);
     let before = desk.stored(&mut pass);
-    let found = desk.post(&rt, &mut pass, &empty).expect(&rt, "a receipt");
+    let found = desk.post(rt, &mut pass, &empty).expect(rt, "a receipt");
     let after = desk.stored(&mut pass);
     drop(pass);
     drop(desk);
@@ -102,24 +108,28 @@ fn an_empty_post_is_a_call(rt: HostRuntime) {
         before: counts(0, 0),
         after: counts(0, 0),
     };
-    expect_equal(&rt, &found, &receipt);
-    expect_equal(&rt, &(before, after), &(0, 1));
+    expect_equal(rt, &found, &receipt);
+    expect_equal(rt, &(before, after), &(0, 1));
 }
 
 #[test]
 fn stored_tells_the_calls_of_others(rt: HostRuntime) {
-    let empty = nothing(&rt, rt.alloc());
-    let (desk, mut first, mut second) = pair(&rt, rt.alloc());
-    let _receipt = desk.post(&rt, &mut first, &empty).expect(&rt, "a receipt");
+    let rt = &rt;
+    let alloc = rt.alloc();
+    let empty = nothing(rt, alloc);
+    let (desk, mut first, mut second) = pair(rt, alloc);
+    let _receipt = desk.post(rt, &mut first, &empty).expect(rt, "a receipt");
     let found = desk.stored(&mut second);
     leave(desk, first, second);
-    expect_equal(&rt, &found, &1);
+    expect_equal(rt, &found, &1);
 }
 
 #[test]
 fn a_report_is_of_what_another_posted(rt: HostRuntime) {
-    let (desk, mut first, mut second) = pair(&rt, rt.alloc());
-    let found = begin(&rt, rt.alloc(), &desk, &mut first, &mut second);
+    let rt = &rt;
+    let alloc = rt.alloc();
+    let (desk, mut first, mut second) = pair(rt, alloc);
+    let found = begin(rt, alloc, &desk, &mut first, &mut second);
     leave(desk, first, second);
     let receipt = Receipt {
         call: 1,
@@ -127,21 +137,25 @@ fn a_report_is_of_what_another_posted(rt: HostRuntime) {
         after: counts(2, 0),
     };
     let report = (2, counts(2, 0), Some((0, 3600)));
-    expect_equal(&rt, &found, &(receipt, report));
+    expect_equal(rt, &found, &(receipt, report));
 }
 
 #[test]
 fn a_refused_report_is_no_call(rt: HostRuntime) {
-    let (desk, mut first, mut second) = pair(&rt, rt.alloc());
-    let found = refuse(&rt, rt.alloc(), &desk, &mut first, &mut second);
+    let rt = &rt;
+    let alloc = rt.alloc();
+    let (desk, mut first, mut second) = pair(rt, alloc);
+    let found = refuse(rt, alloc, &desk, &mut first, &mut second);
     leave(desk, first, second);
-    expect_equal(&rt, &found, &(Some(AskFault::NoSuchHost(2)), 2));
+    expect_equal(rt, &found, &(Some(AskFault::NoSuchHost(2)), 2));
 }
 
 #[test]
 fn both_callers_stand_in_one_history(rt: HostRuntime) {
-    let (desk, mut first, mut second) = pair(&rt, rt.alloc());
-    let found = finish(&rt, rt.alloc(), &desk, &mut first, &mut second);
+    let rt = &rt;
+    let alloc = rt.alloc();
+    let (desk, mut first, mut second) = pair(rt, alloc);
+    let found = finish(rt, alloc, &desk, &mut first, &mut second);
     leave(desk, first, second);
     let receipt = Receipt {
         call: 3,
@@ -149,7 +163,7 @@ fn both_callers_stand_in_one_history(rt: HostRuntime) {
         after: counts(2, 3),
     };
     let report = (4, counts(2, 3), Some((2, 3)));
-    expect_equal(&rt, &found, &(receipt, report, 4));
+    expect_equal(rt, &found, &(receipt, report, 4));
 }
 
 /// Posts the batch.
@@ -182,12 +196,14 @@ fn all_post<R: Abort + Threads + Wait + Sync>(
 
 #[test]
 fn two_threads_post_to_one_book(rt: HostRuntime) {
-    let one = hour(&rt, rt.alloc());
-    let other = makes(&rt, rt.alloc());
-    let (desk, mut passes) = Desk::open(rt.alloc(), new_keys(&rt), 2).expect(&rt, "a desk");
-    all_post(&rt, &desk, passes.as_mut_slice(), &one, &other);
-    let book = book_of(&rt, desk, passes);
+    let rt = &rt;
+    let alloc = rt.alloc();
+    let one = hour(rt, alloc);
+    let other = makes(rt, alloc);
+    let (desk, mut passes) = Desk::open(alloc, new_keys(rt), 2).expect(rt, "a desk");
+    all_post(rt, &desk, passes.as_mut_slice(), &one, &other);
+    let book = book_of(rt, desk, passes);
     let found = counted(&book);
     drop(book);
-    expect_equal(&rt, &found, &[2, 3, 2]);
+    expect_equal(rt, &found, &[2, 3, 2]);
 }

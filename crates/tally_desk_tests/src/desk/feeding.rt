@@ -55,33 +55,40 @@ pub(super) fn expect_fed<R: Abort + RandomSource + Wait, I: Input>(
 
 #[test]
 fn three_records_are_one_batch(rt: HostRuntime) {
-    let input = Bytes::new(twos(&rt, rt.alloc(), 192));
-    expect_fed(&rt, rt.alloc(), Kind::Proc, input, Ok(THREE), 3);
+    let rt = &rt;
+    let alloc = rt.alloc();
+    let input = Bytes::new(twos(rt, alloc, 192));
+    expect_fed(rt, alloc, Kind::Proc, input, Ok(THREE), 3);
 }
 
 #[test]
 fn an_empty_input_posts_nothing(rt: HostRuntime) {
-    let input = Bytes::new(Vec::new(rt.alloc()));
+    let alloc = rt.alloc();
+    let input = Bytes::new(Vec::new(alloc));
     let want = Fed {
         records: 0,
         batches: 0,
     };
-    expect_fed(&rt, rt.alloc(), Kind::Login, input, Ok(want), 0);
+    expect_fed(&rt, alloc, Kind::Login, input, Ok(want), 0);
 }
 
 #[test]
 fn an_end_inside_a_record_is_torn(rt: HostRuntime) {
-    let input = zeros(&rt, rt.alloc(), 385);
+    let rt = &rt;
+    let alloc = rt.alloc();
+    let input = zeros(rt, alloc, 385);
     let want = FeedFault::Torn {
         records: 1,
         rest: 1,
     };
-    expect_fed(&rt, rt.alloc(), Kind::Login, input, Err(want), 0);
+    expect_fed(rt, alloc, Kind::Login, input, Err(want), 0);
 }
 
 #[test]
 fn a_bad_record_keeps_its_whole_block_out(rt: HostRuntime) {
-    let mut bytes = twos(&rt, rt.alloc(), 65_792);
+    let rt = &rt;
+    let alloc = rt.alloc();
+    let mut bytes = twos(rt, alloc, 65_792);
     if let Some(version) = bytes.get_mut(65_665) {
         *version = 0x82;
     }
@@ -89,21 +96,16 @@ fn a_bad_record_keeps_its_whole_block_out(rt: HostRuntime) {
         at: 1026,
         fault: RecordFault::ProcVersion(0x82),
     };
-    expect_fed(
-        &rt,
-        rt.alloc(),
-        Kind::Proc,
-        Bytes::new(bytes),
-        Err(want),
-        1024,
-    );
+    expect_fed(rt, alloc, Kind::Proc, Bytes::new(bytes), Err(want), 1024);
 }
 
 #[test]
 fn wherever_a_record_is_torn_nothing_is_posted(rt: HostRuntime) {
+    let rt = &rt;
+    let alloc = rt.alloc();
     for len in 1u64..768 {
-        let mut input = zeros(&rt, rt.alloc(), len as usize);
-        let outcome = fed(&rt, rt.alloc(), Kind::Login, &mut input);
+        let mut input = zeros(rt, alloc, len as usize);
+        let outcome = fed(rt, alloc, Kind::Login, &mut input);
         let torn = FeedFault::Torn {
             records: len / 384,
             rest: len % 384,
@@ -121,36 +123,32 @@ fn endless_zeros_are_the_most_login_records(rt: HostRuntime) {
 
 #[test]
 fn zeros_are_no_process_records(rt: HostRuntime) {
-    let input = zeros(&rt, rt.alloc(), 131_072);
+    let rt = &rt;
+    let alloc = rt.alloc();
+    let input = zeros(rt, alloc, 131_072);
     let want = FeedFault::Bad {
         at: 0,
         fault: RecordFault::ProcVersion(0),
     };
-    expect_fed(&rt, rt.alloc(), Kind::Proc, input, Err(want), 0);
+    expect_fed(rt, alloc, Kind::Proc, input, Err(want), 0);
 }
 
 #[test]
 fn the_gate_is_told_of_each_post(rt: HostRuntime) {
+    let rt = &rt;
+    let alloc = rt.alloc();
     let gate = Turns {
         digits: AtomicU64::new(0),
     };
-    let mut input = Bytes::new(twos(&rt, rt.alloc(), 131_136));
-    let (desk, mut pass) = opened(&rt, rt.alloc());
-    let outcome = feed(
-        &rt,
-        rt.alloc(),
-        &desk,
-        &mut pass,
-        Kind::Proc,
-        &mut input,
-        &gate,
-    );
+    let mut input = Bytes::new(twos(rt, alloc, 131_136));
+    let (desk, mut pass) = opened(rt, alloc);
+    let outcome = feed(rt, alloc, &desk, &mut pass, Kind::Proc, &mut input, &gate);
     drop(pass);
     drop(desk);
     let want = Fed {
         records: 2049,
         batches: 3,
     };
-    expect_equal(&rt, &outcome, &Ok(want));
-    expect_equal(&rt, &gate.digits.load(Ordering::SeqCst), &123);
+    expect_equal(rt, &outcome, &Ok(want));
+    expect_equal(rt, &gate.digits.load(Ordering::SeqCst), &123);
 }

@@ -41,11 +41,13 @@ fn fed_whole<R: Wait>(
 
 #[test]
 fn the_bytes_of_a_reader_are_fed(rt: HostRuntime) {
-    let (desk, mut pass) = opened(&rt, rt.alloc());
-    let fed = fed_whole(&rt, rt.alloc(), &desk, &mut pass, &[2u8; 192]);
+    let rt = &rt;
+    let alloc = rt.alloc();
+    let (desk, mut pass) = opened(rt, alloc);
+    let fed = fed_whole(rt, alloc, &desk, &mut pass, &[2u8; 192]);
     drop(pass);
     drop(desk);
-    expect_equal(&rt, &fed, &Ok(THREE));
+    expect_equal(rt, &fed, &Ok(THREE));
 }
 
 #[test]

@@ -42,17 +42,19 @@ fn reports_in(book: &Book) -> (usize, usize) {
 
 #[test]
 fn each_round_asks_again(rt: HostRuntime) {
+    let rt = &rt;
+    let alloc = rt.alloc();
     let gate = Turns {
         digits: AtomicU64::new(0),
     };
-    let (desk, mut pass) = opened(&rt, rt.alloc());
-    let outcome = ask_rounds(&rt, rt.alloc(), &desk, &mut pass, &[TOTAL], 3, &gate);
-    let book = closed(&rt, rt.alloc(), desk, pass);
+    let (desk, mut pass) = opened(rt, alloc);
+    let outcome = ask_rounds(rt, alloc, &desk, &mut pass, &[TOTAL], 3, &gate);
+    let book = closed(rt, alloc, desk, pass);
     let reports = reports_in(&book);
     drop(book);
-    expect_equal(&rt, &outcome, &Ok(3));
-    expect_equal(&rt, &reports, &(3, 3));
-    expect_equal(&rt, &gate.digits.load(Ordering::SeqCst), &123);
+    expect_equal(rt, &outcome, &Ok(3));
+    expect_equal(rt, &reports, &(3, 3));
+    expect_equal(rt, &gate.digits.load(Ordering::SeqCst), &123);
 }
 
 /// Asserts that nothing is asked without questions, and without rounds.
@@ -68,8 +70,10 @@ fn expect_nothing<R: Abort + Wait>(rt: &R, alloc: Global, desk: &Desk, pass: &mu
 
 #[test]
 fn nothing_is_asked_without_questions_or_rounds(rt: HostRuntime) {
-    let (desk, mut pass) = opened(&rt, rt.alloc());
-    expect_nothing(&rt, rt.alloc(), &desk, &mut pass);
+    let rt = &rt;
+    let alloc = rt.alloc();
+    let (desk, mut pass) = opened(rt, alloc);
+    expect_nothing(rt, alloc, &desk, &mut pass);
     drop(pass);
     drop(desk);
 }
@@ -104,13 +108,14 @@ fn expect_full<R: Abort + Wait>(rt: &R, desk: &Desk, pass: &mut Pass, empty: &Ba
 
 #[test]
 fn a_full_history_refuses_a_feed(rt: HostRuntime) {
+    let rt = &rt;
     let alloc = rt.alloc();
-    let empty = nothing(&rt, alloc);
-    let mut input = Bytes::new(twos(&rt, alloc, 192));
-    let (desk, mut pass) = opened(&rt, alloc);
-    expect_full(&rt, &desk, &mut pass, &empty);
+    let empty = nothing(rt, alloc);
+    let mut input = Bytes::new(twos(rt, alloc, 192));
+    let (desk, mut pass) = opened(rt, alloc);
+    expect_full(rt, &desk, &mut pass, &empty);
     let outcome = feed(
-        &rt,
+        rt,
         alloc,
         &desk,
         &mut pass,
@@ -118,7 +123,7 @@ fn a_full_history_refuses_a_feed(rt: HostRuntime) {
         &mut input,
         &OpenGate,
     );
-    let stored = closed_with(&rt, alloc, desk, pass);
-    expect_equal(&rt, &outcome, &Err(FeedFault::CallsFull));
-    expect_equal(&rt, &stored, &[0, 0, 65_536]);
+    let stored = closed_with(rt, alloc, desk, pass);
+    expect_equal(rt, &outcome, &Err(FeedFault::CallsFull));
+    expect_equal(rt, &stored, &[0, 0, 65_536]);
 }

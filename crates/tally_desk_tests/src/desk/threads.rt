@@ -136,10 +136,12 @@ fn expect_side_by_side<R: Abort + Threads + Wait + Sync>(
 
 #[test]
 fn two_callers_feed_and_ask_side_by_side(rt: HostRuntime) {
-    expect_side_by_side(&rt, rt.alloc(), new_keys(&rt), 2, 8, 2050);
+    let rt = &rt;
+    expect_side_by_side(rt, rt.alloc(), new_keys(rt), 2, 8, 2050);
 }
 
 #[test]
 fn four_callers_feed_and_ask_side_by_side(rt: HostRuntime) {
-    expect_side_by_side(&rt, rt.alloc(), new_keys(&rt), 4, 16, 4100);
+    let rt = &rt;
+    expect_side_by_side(rt, rt.alloc(), new_keys(rt), 4, 16, 4100);
 }
