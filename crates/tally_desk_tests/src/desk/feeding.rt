@@ -101,11 +101,9 @@ fn a_bad_record_keeps_its_whole_block_out(rt: HostRuntime) {
 
 #[test]
 fn wherever_a_record_is_torn_nothing_is_posted(rt: HostRuntime) {
-    let rt = &rt;
-    let alloc = rt.alloc();
     for len in 1u64..768 {
-        let mut input = zeros(rt, alloc, len as usize);
-        let outcome = fed(rt, alloc, Kind::Login, &mut input);
+        let mut input = zeros(&rt, rt.alloc(), len as usize);
+        let outcome = fed(&rt, rt.alloc(), Kind::Login, &mut input);
         let torn = FeedFault::Torn {
             records: len / 384,
             rest: len % 384,
