@@ -1,6 +1,7 @@
 //! Command lines, and whole runs over files in memory.
 
 mod ended;
+mod expect;
 mod line;
 mod runs;
 mod together;

@@ -1,15 +1,16 @@
 //! How a run ends: which call of its output is the last, and what is not touched after a failure.
 ghost use Rattle.std.specs.Prelude.{◌≡◌, None, [], false};
 
-use crate::cli::runs::{TOTAL, one_hour, source_of, text_job, torn};
-use std::alloc::AllocError;
-use std::hash::RandomState;
+use crate::cli::expect::expect_that;
+use crate::cli::runs::{
+    TOTAL, add_source, expect_fault, expect_torn, one_hour, run_over, source_of, text_job,
+};
+use std::process::Abort;
+use std::random::RandomSource;
 use std::sync::Wait;
 use std::sync::atomic::{AtomicU64, Ordering};
-use std::test::Fail;
 use std::thread::Threads;
-use tally_cli::{Report, RunFault, Source, run};
-use tally_clock::Clock;
+use tally_cli::{Report, RunFault, Source};
 use tally_desk::{Input, InputFault, OpenGate};
 use tally_print::{Output, OutputFault};
 use tally_records::Kind;
@@ -88,69 +89,61 @@ struct Ended {
     takes: [u64; 2],
 }
 
-/// A source of so many zeros, of which each take is counted.
-fn source_of_zeros(left: usize, takes: &AtomicU64) -> Source<Counted<'_>> {
-    let input = Counted { left, takes };
-    let kind = Kind::Login;
-    Source { kind, input }
-}
-
 /// Prints all reports over two files of so many zeros.
-fn all_over<R: AllocGlobal + Threads + Wait + Sync>(
+fn all_over<R: AllocGlobal + Abort + RandomSource + Threads + Wait + Sync>(
     rt: &R,
-    keys: RandomState,
     sizes: [usize; 2],
     fails: bool,
-) -> Result<Ended, AllocError> {
+) -> Ended {
     let first = AtomicU64::new(0);
     let second = AtomicU64::new(0);
-    let sources = Vec::from_array(
-        rt.alloc(),
-        [
-            source_of_zeros(sizes[0], &first),
-            source_of_zeros(sizes[1], &second),
-        ],
-    )?;
-    let job = text_job(Report::All, 1, 0);
+    let mut sources = Vec::new(rt.alloc());
+    let [left, then_left] = sizes;
+    let zeros = Counted {
+        left,
+        takes: &first,
+    };
+    add_source(rt, &mut sources, Kind::Login, zeros);
+    let zeros = Counted {
+        left: then_left,
+        takes: &second,
+    };
+    add_source(rt, &mut sources, Kind::Login, zeros);
     let mut out = Closing::new(fails);
-    let outcome = run(
-        rt,
-        rt.alloc(),
-        keys,
-        &Clock::utc(rt.alloc()),
-        &job,
-        sources,
-        &OpenGate,
-        &mut out,
-    );
-    Ok(Ended {
+    let job = text_job(Report::All, 1, 0);
+    let outcome = run_over(rt, &job, sources, &OpenGate, &mut out);
+    Ended {
         outcome,
         out,
         takes: [first.load(Ordering::SeqCst), second.load(Ordering::SeqCst)],
-    })
+    }
 }
 
 #[test]
-fn an_output_is_finished_once_after_the_last_section(rt: HostRuntime) -> Result<(), Fail> {
-    let ended = all_over(&rt, RandomState::new(&rt)?, [384, 0], false)?;
-    assert!(rt; ended.outcome.is_ok() && ended.out.finished == 1);
-    assert!(rt; ended.out.bytes > 0 && ended.out.bytes_then == ended.out.bytes);
-    Ok(())
+fn an_output_is_finished_once_after_the_last_section(rt: HostRuntime) {
+    let ended = all_over(&rt, [384, 0], false);
+    let out = &ended.out;
+    expect_that(&rt, "the run ends well", ended.outcome.is_ok());
+    expect_that(&rt, "finished once", out.finished == 1);
+    expect_that(&rt, "bytes are written", out.bytes > 0);
+    expect_that(&rt, "finished last", out.bytes_then == out.bytes);
 }
 
 #[test]
-fn an_output_that_fails_at_its_end_fails_the_run(rt: HostRuntime) -> Result<(), Fail> {
-    let ended = all_over(&rt, RandomState::new(&rt)?, [384, 0], true)?;
-    assert!(rt; ended.outcome == Err(RunFault::Write) && ended.out.finished == 1);
-    Ok(())
+fn an_output_that_fails_at_its_end_fails_the_run(rt: HostRuntime) {
+    let ended = all_over(&rt, [384, 0], true);
+    expect_fault(&rt, &ended.outcome, &RunFault::Write);
+    expect_that(&rt, "finished once", ended.out.finished == 1);
 }
 
 #[test]
-fn a_feeder_stops_at_its_first_file_that_fails(rt: HostRuntime) -> Result<(), Fail> {
-    let ended = all_over(&rt, RandomState::new(&rt)?, [385, 384], false)?;
-    assert!(rt; ended.outcome == Err(torn(0)));
-    assert!(rt; ended.takes[0] > 0 && ended.takes[1] == 0 && ended.out.bytes == 0);
-    Ok(())
+fn a_feeder_stops_at_its_first_file_that_fails(rt: HostRuntime) {
+    let ended = all_over(&rt, [385, 384], false);
+    expect_torn(&rt, &ended.outcome, 0);
+    let [first, second] = ended.takes;
+    expect_that(&rt, "the first file is read", first > 0);
+    expect_that(&rt, "the second file is not", second == 0);
+    expect_that(&rt, "nothing is written", ended.out.bytes == 0);
 }
 
 /// An output that takes so many bytes, one by one, and then fails.
@@ -178,23 +171,13 @@ impl Output for Narrow {
 }
 
 #[test]
-fn an_output_that_fails_ends_the_run(rt: HostRuntime) -> Result<(), Fail> {
-    let bytes = one_hour(rt.alloc(), 768)?;
-    let sources = source_of(rt.alloc(), Kind::Login, bytes)?;
+fn an_output_that_fails_ends_the_run(rt: HostRuntime) {
+    let sources = source_of(&rt, Kind::Login, one_hour(&rt, 768));
     let mut out = Narrow {
         room: 5,
         failures: 0,
     };
-    let outcome = run(
-        &rt,
-        rt.alloc(),
-        RandomState::new(&rt)?,
-        &Clock::utc(rt.alloc()),
-        &text_job(TOTAL, 4, 0),
-        sources,
-        &OpenGate,
-        &mut out,
-    );
-    assert!(rt; outcome == Err(RunFault::Write) && out.room == 0);
-    Ok(())
+    let outcome = run_over(&rt, &text_job(TOTAL, 4, 0), sources, &OpenGate, &mut out);
+    expect_fault(&rt, &outcome, &RunFault::Write);
+    expect_that(&rt, "five bytes are taken", out.room == 0);
 }

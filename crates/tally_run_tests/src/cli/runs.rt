@@ -1,16 +1,20 @@
 //! What runs over small files write.
 ghost use Rattle.std.specs.Prelude.{◌≤◌};
+ghost use Rattle.std.specs.List.{All};
+ghost use Rattle.tally_cli.specs.Runs.{IsReadable};
 ghost use Rattle.tally_line.specs.Jobs.{IsRunnable};
+ghost use Rattle.tally_print.specs.Output.{IsWritable};
 
-use std::alloc::{AllocError, Global};
+use crate::cli::expect::{expect_that, with_room};
 use std::hash::RandomState;
+use std::process::Abort;
+use std::random::RandomSource;
 use std::sync::Wait;
-use std::test::Fail;
 use std::thread::Threads;
 use tally_cli::{Form, Job, Report, RunFault, Source, run};
 use tally_clock::Clock;
-use tally_desk::{Bytes, FeedFault, OpenGate};
-use tally_print::Kept;
+use tally_desk::{Bytes, FeedFault, Gate, Input, OpenGate};
+use tally_print::{Kept, Output};
 use tally_records::Kind;
 use tally_usage::Order;
 
@@ -35,7 +39,7 @@ pub(crate) fn text_job(report: Report, feeders: u32, askers: u32) -> Job
 }
 
 // Writes a text into bytes.
-pub(crate) fn put_at(bytes: &mut [u8], at: usize, text: &[u8]) {
+fn put_at(bytes: &mut [u8], at: usize, text: &[u8]) {
     for (index, byte) in text.iter().enumerate() {
         if let Some(place) = bytes.get_mut(at.saturating_add(index)) {
             *place = *byte;
@@ -43,168 +47,192 @@ pub(crate) fn put_at(bytes: &mut [u8], at: usize, text: &[u8]) {
     }
 }
 
+// Zeros, over which texts are written at their places.
+pub(crate) fn bytes_with<R: AllocGlobal + Abort>(
+    rt: &R,
+    length: usize,
+    texts: &[(usize, &[u8])],
+) -> Vec<u8> {
+    let mut bytes = with_room(rt, vec![in rt.alloc(); 0u8; length]);
+    for (at, text) in texts {
+        put_at(bytes.as_mut_slice(), *at, text);
+    }
+    bytes
+}
+
 // The file of one hour: a login of ann on tty1 at 1000000, a logout at 1003600.
-pub(crate) fn one_hour(alloc: Global, rest: usize) -> Result<Vec<u8>, AllocError> {
-    let mut bytes = vec![in alloc; 0u8; 768]?;
-    put_at(bytes.as_mut_slice(), 0, &[7]);
-    put_at(bytes.as_mut_slice(), 8, b"tty1");
-    put_at(bytes.as_mut_slice(), 44, b"ann");
-    put_at(bytes.as_mut_slice(), 340, &[0x40, 0x42, 0x0F, 0]);
-    put_at(bytes.as_mut_slice(), 384, &[8]);
-    put_at(bytes.as_mut_slice(), 392, b"tty1");
-    put_at(bytes.as_mut_slice(), 724, &[0x50, 0x50, 0x0F, 0]);
+pub(crate) fn one_hour<R: AllocGlobal + Abort>(rt: &R, rest: usize) -> Vec<u8> {
+    let texts: [(usize, &[u8]); 7] = [
+        (0, &[7]),
+        (8, b"tty1"),
+        (44, b"ann"),
+        (340, &[0x40, 0x42, 0x0F, 0]),
+        (384, &[8]),
+        (392, b"tty1"),
+        (724, &[0x50, 0x50, 0x0F, 0]),
+    ];
+    let mut bytes = bytes_with(rt, 768, &texts);
     bytes.truncate(rest);
-    Ok(bytes)
+    bytes
+}
+
+// Puts a source after the others.
+pub(crate) fn add_source<I: Drop>(
+    rt: &impl Abort,
+    sources: &mut Vec<Source<I>>,
+    kind: Kind,
+    input: I,
+) {
+    with_room(rt, sources.push(Source { kind, input }));
 }
 
 // The one source of these bytes.
-pub(crate) fn source_of(
-    alloc: Global,
+pub(crate) fn source_of<R: AllocGlobal + Abort>(
+    rt: &R,
     kind: Kind,
     bytes: Vec<u8>,
-) -> Result<Vec<Source<Bytes>>, AllocError> {
-    let mut sources = Vec::new(alloc);
-    let input = Bytes::new(bytes);
-    sources.push(Source { kind, input })?;
-    Ok(sources)
+) -> Vec<Source<Bytes>> {
+    let mut sources = Vec::new(rt.alloc());
+    add_source(rt, &mut sources, kind, Bytes::new(bytes));
+    sources
 }
 
-// The fault of the file with this number, whose second record has one byte.
-pub(crate) fn torn(host: u32) -> RunFault {
+// How a run over these sources ends, at UTC.
+pub(crate) fn run_over<
+    R: AllocGlobal + Abort + RandomSource + Threads + Wait + Sync,
+    I: Input + Send,
+    G: Gate + Sync,
+    O: Output,
+>(rt: &R, job: &Job, sources: Vec<Source<I>>, gate: &G, out: &mut O) -> Result<(), RunFault>
+    requires runnable { IsRunnable job.now }
+    requires readable { All (IsReadable I.failures) sources.items }
+    requires writable { IsWritable (O.state out.old) }
+{
+    let keys = with_room(rt, RandomState::new(rt));
+    let clock = Clock::utc(rt.alloc());
+    run(rt, rt.alloc(), keys, &clock, job, sources, gate, out)
+}
+
+// Asserts that a run failed by this fault.
+pub(crate) fn expect_fault(rt: &impl Abort, outcome: &Result<(), RunFault>, wanted: &RunFault) {
+    let fails = match outcome {
+        Ok(()) => false,
+        Err(fault) => fault == wanted,
+    };
+    expect_that(rt, "the run fails by its fault", fails);
+}
+
+// Asserts that the file with this number failed, whose second record has one byte.
+pub(crate) fn expect_torn(rt: &impl Abort, outcome: &Result<(), RunFault>, host: u32) {
     let fault = FeedFault::Torn {
         records: 1,
         rest: 1,
     };
-    RunFault::File { host, fault }
+    expect_fault(rt, outcome, &RunFault::File { host, fault });
 }
 
 // What a report on these sources writes, and how it ends.
-fn run_over<R: AllocGlobal + Threads + Wait + Sync>(
+fn report_on<R: AllocGlobal + Abort + RandomSource + Threads + Wait + Sync>(
     rt: &R,
-    keys: RandomState,
     report: Report,
     sources: Vec<Source<Bytes>>,
 ) -> (Result<(), RunFault>, Kept) {
-    let job = text_job(report, 4, 0);
     let mut out = Kept::new(rt.alloc());
-    let outcome = run(
-        rt,
-        rt.alloc(),
-        keys,
-        &Clock::utc(rt.alloc()),
-        &job,
-        sources,
-        &OpenGate,
-        &mut out,
-    );
+    let outcome = run_over(rt, &text_job(report, 4, 0), sources, &OpenGate, &mut out);
     (outcome, out)
 }
 
-// Whether a report on a file of these bytes ends well and is this text.
-fn writes<R: AllocGlobal + Threads + Wait + Sync>(
+// Asserts that a report on these sources ends well and is this text.
+fn expect_text<R: AllocGlobal + Abort + RandomSource + Threads + Wait + Sync>(
     rt: &R,
-    keys: RandomState,
     report: Report,
-    kind: Kind,
-    bytes: Vec<u8>,
+    sources: Vec<Source<Bytes>>,
     text: &[u8],
-) -> Result<bool, AllocError> {
-    let sources = source_of(rt.alloc(), kind, bytes)?;
-    let (outcome, out) = run_over(rt, keys, report, sources);
-    Ok(outcome.is_ok() && out.bytes() == text)
+) {
+    let (outcome, out) = report_on(rt, report, sources);
+    expect_that(rt, "the run ends well", outcome.is_ok());
+    expect_that(rt, "the output is the text", out.bytes() == text);
+}
+
+// Asserts that a report writes nothing, since the file with this number is torn.
+fn expect_nothing<R: AllocGlobal + Abort + RandomSource + Threads + Wait + Sync>(
+    rt: &R,
+    report: Report,
+    sources: Vec<Source<Bytes>>,
+    host: u32,
+) {
+    let (outcome, out) = report_on(rt, report, sources);
+    expect_torn(rt, &outcome, host);
+    expect_that(rt, "nothing is written", out.bytes().is_empty());
 }
 
 #[test]
-fn an_hour_is_its_total(rt: HostRuntime) -> Result<(), Fail> {
-    let bytes = one_hour(rt.alloc(), 768)?;
-    let text = b"total                        1.00\n".as_slice();
-    assert!(rt; writes(&rt, RandomState::new(&rt)?, TOTAL, Kind::Login, bytes, text)?);
-    Ok(())
+fn an_hour_is_its_total(rt: HostRuntime) {
+    let sources = source_of(&rt, Kind::Login, one_hour(&rt, 768));
+    expect_text(&rt, TOTAL, sources, b"total                        1.00\n");
 }
 
 #[test]
-fn an_hour_is_a_stay(rt: HostRuntime) -> Result<(), Fail> {
+fn an_hour_is_a_stay(rt: HostRuntime) {
     let report = Report::Last { limit: None };
-    let sources = source_of(rt.alloc(), Kind::Login, one_hour(rt.alloc(), 768)?)?;
-    let (outcome, out) = run_over(&rt, RandomState::new(&rt)?, report, sources);
-    assert!(rt; outcome.is_ok());
+    let sources = source_of(&rt, Kind::Login, one_hour(&rt, 768));
+    let (outcome, out) = report_on(&rt, report, sources);
+    expect_that(&rt, "the run ends well", outcome.is_ok());
     let stay =
         b"ann      tty1                          1970-01-12 13:46:40 - 1970-01-12 14:46:40 (01:00)\n".as_slice();
-    assert!(rt; out.bytes().starts_with(stay));
-    assert!(rt; out.bytes().len() == stay.len() + 33);
-    Ok(())
+    expect_that(&rt, "the stay is first", out.bytes().starts_with(stay));
+    expect_that(&rt, "33 bytes follow", out.bytes().len() == stay.len() + 33);
 }
 
 // A call of make by user 0 that took 2 seconds, and 1 second of cpu.
-fn one_call(alloc: Global) -> Result<Vec<u8>, AllocError> {
-    let mut bytes = vec![in alloc; 0u8; 64]?;
-    put_at(bytes.as_mut_slice(), 1, &[2]);
-    put_at(bytes.as_mut_slice(), 12, &[100]);
-    put_at(bytes.as_mut_slice(), 16, &[200]);
-    put_at(bytes.as_mut_slice(), 36, b"make");
-    Ok(bytes)
-}
-
-// Whether a report on a file of that call ends well and is this text.
-fn call_writes<R: AllocGlobal + Threads + Wait + Sync>(
-    rt: &R,
-    keys: RandomState,
-    report: Report,
-    text: &[u8],
-) -> Result<bool, AllocError> {
-    writes(rt, keys, report, Kind::Proc, one_call(rt.alloc())?, text)
+fn one_call<R: AllocGlobal + Abort>(rt: &R) -> Vec<u8> {
+    let texts: [(usize, &[u8]); 4] = [(1, &[2]), (12, &[100]), (16, &[200]), (36, b"make")];
+    bytes_with(rt, 64, &texts)
 }
 
 #[test]
-fn a_call_is_a_row_of_its_own(rt: HostRuntime) -> Result<(), Fail> {
+fn a_call_is_a_row_of_its_own(rt: HostRuntime) {
     let report = Report::Commands {
         order: Order::Cpu,
         reverse: false,
         all: true,
     };
     let text =
-        b"       1         0.03re         0.02cp          0avio          0k\n       1         0.03re         0.02cp          0avio          0k make\n".as_slice();
-    assert!(rt; call_writes(&rt, RandomState::new(&rt)?, report, text)?);
-    Ok(())
+        b"       1         0.03re         0.02cp          0avio          0k\n       1         0.03re         0.02cp          0avio          0k make\n";
+    expect_text(&rt, report, source_of(&rt, Kind::Proc, one_call(&rt)), text);
 }
 
 #[test]
-fn a_call_is_counted_for_its_user(rt: HostRuntime) -> Result<(), Fail> {
+fn a_call_is_counted_for_its_user(rt: HostRuntime) {
     let report = Report::Users {
         order: Order::Cpu,
         reverse: false,
     };
     let text =
-        b"total             1         0.03re         0.02cp          0avio          0k\n0                 1         0.03re         0.02cp          0avio          0k\n".as_slice();
-    assert!(rt; call_writes(&rt, RandomState::new(&rt)?, report, text)?);
-    Ok(())
+        b"total             1         0.03re         0.02cp          0avio          0k\n0                 1         0.03re         0.02cp          0avio          0k\n";
+    expect_text(&rt, report, source_of(&rt, Kind::Proc, one_call(&rt)), text);
 }
 
 #[test]
-fn an_empty_file_has_the_total_zero(rt: HostRuntime) -> Result<(), Fail> {
-    let bytes = Vec::new(rt.alloc());
-    let text = b"total                        0.00\n".as_slice();
-    assert!(rt; writes(&rt, RandomState::new(&rt)?, TOTAL, Kind::Login, bytes, text)?);
-    Ok(())
+fn an_empty_file_has_the_total_zero(rt: HostRuntime) {
+    let sources = source_of(&rt, Kind::Login, Vec::new(rt.alloc()));
+    expect_text(&rt, TOTAL, sources, b"total                        0.00\n");
 }
 
 #[test]
-fn a_torn_file_writes_nothing(rt: HostRuntime) -> Result<(), Fail> {
-    let sources = source_of(rt.alloc(), Kind::Login, one_hour(rt.alloc(), 385)?)?;
-    let (outcome, out) = run_over(&rt, RandomState::new(&rt)?, TOTAL, sources);
-    assert!(rt; outcome == Err(torn(0)));
-    assert!(rt; out.bytes().is_empty());
-    Ok(())
+fn a_torn_file_writes_nothing(rt: HostRuntime) {
+    let sources = source_of(&rt, Kind::Login, one_hour(&rt, 385));
+    expect_nothing(&rt, TOTAL, sources, 0);
 }
 
 #[test]
-fn a_torn_second_file_is_named(rt: HostRuntime) -> Result<(), Fail> {
-    let kind = Kind::Login;
-    let mut sources = source_of(rt.alloc(), kind, one_hour(rt.alloc(), 768)?)?;
-    let input = Bytes::new(one_hour(rt.alloc(), 385)?);
-    sources.push(Source { kind, input })?;
-    let (outcome, out) = run_over(&rt, RandomState::new(&rt)?, Report::All, sources);
-    assert!(rt; outcome == Err(torn(1)));
-    assert!(rt; out.bytes().is_empty());
-    Ok(())
+fn a_torn_second_file_is_named(rt: HostRuntime) {
+    let mut sources = source_of(&rt, Kind::Login, one_hour(&rt, 768));
+    add_source(
+        &rt,
+        &mut sources,
+        Kind::Login,
+        Bytes::new(one_hour(&rt, 385)),
+    );
+    expect_nothing(&rt, Report::All, sources, 1);
 }

@@ -1,16 +1,15 @@
 //! Files that are read while an asker asks, and the same files one after the other.
 ghost use Rattle.std.specs.Prelude.{◌≤◌};
 
-use crate::cli::runs::{put_at, text_job};
-use std::alloc::{AllocError, Global};
-use std::hash::RandomState;
+use crate::cli::expect::expect_that;
+use crate::cli::runs::{add_source, bytes_with, run_over, source_of, text_job};
+use std::process::Abort;
+use std::random::RandomSource;
 use std::sync::Wait;
 use std::sync::atomic::{AtomicU64, Ordering};
-use std::test::Fail;
 use std::thread;
 use std::thread::Threads;
-use tally_cli::{Report, Source, run};
-use tally_clock::Clock;
+use tally_cli::{Report, Source};
 use tally_desk::{Bytes, Gate, OpenGate};
 use tally_print::Kept;
 use tally_records::Kind;
@@ -53,33 +52,25 @@ impl Gate for Meeting {
 }
 
 // A login file of two blocks: a login at 0, 1,023 empty records, a logout.
-fn two_blocks(alloc: Global, user: &[u8], logout: &[u8]) -> Result<Vec<u8>, AllocError> {
-    let mut bytes = vec![in alloc; 0u8; 393_600]?;
-    put_at(bytes.as_mut_slice(), 0, &[7]);
-    put_at(bytes.as_mut_slice(), 8, b"tty1");
-    put_at(bytes.as_mut_slice(), 44, user);
-    put_at(bytes.as_mut_slice(), 393_216, &[8]);
-    put_at(bytes.as_mut_slice(), 393_224, b"tty1");
-    put_at(bytes.as_mut_slice(), 393_556, logout);
-    Ok(bytes)
-}
-
-// The source of such a file.
-fn source_of_two_blocks(
-    alloc: Global,
-    user: &[u8],
-    logout: &[u8],
-) -> Result<Source<Bytes>, AllocError> {
-    let input = Bytes::new(two_blocks(alloc, user, logout)?);
-    let kind = Kind::Login;
-    Ok(Source { kind, input })
+fn two_blocks<'a, R: AllocGlobal + Abort>(rt: &R, user: &'a [u8], logout: &'a [u8]) -> Vec<u8> {
+    let texts: [(usize, &'a [u8]); 6] = [
+        (0, &[7]),
+        (8, b"tty1"),
+        (44, user),
+        (393_216, &[8]),
+        (393_224, b"tty1"),
+        (393_556, logout),
+    ];
+    bytes_with(rt, 393_600, &texts)
 }
 
 // The sources of both files.
-fn both_sources(alloc: Global) -> Result<Vec<Source<Bytes>>, AllocError> {
-    let ann = source_of_two_blocks(alloc, b"ann", &[0x10, 0x0E])?;
-    let bob = source_of_two_blocks(alloc, b"bob", &[0x20, 0x1C])?;
-    Ok(Vec::from_array(alloc, [ann, bob])?)
+fn both_sources<R: AllocGlobal + Abort>(rt: &R) -> Vec<Source<Bytes>> {
+    let ann = two_blocks(rt, b"ann", &[0x10, 0x0E]);
+    let mut sources = source_of(rt, Kind::Login, ann);
+    let bob = two_blocks(rt, b"bob", &[0x20, 0x1C]);
+    add_source(rt, &mut sources, Kind::Login, Bytes::new(bob));
+    sources
 }
 
 const ALL_OF_TWO: &[u8] = b"\
@@ -97,48 +88,36 @@ total                        3.00
 ";
 
 // Whether all reports on both files, by so many feeders and askers that pass this gate, are this text.
-fn gives_all_of_two<R: AllocGlobal + Threads + Wait + Sync, G: Gate + Sync>(
-    rt: &R,
-    keys: RandomState,
-    feeders: u32,
-    askers: u32,
-    gate: &G,
-) -> Result<bool, AllocError>
+fn gives_all_of_two<R, G: Gate + Sync>(rt: &R, feeders: u32, askers: u32, gate: &G) -> bool
+where
+    R: AllocGlobal + Abort + RandomSource + Threads + Wait + Sync,
     requires { (1 ≤ feeders) × (feeders ≤ 64) × (askers ≤ 128) }
 {
-    let alloc = rt.alloc();
-    let sources = both_sources(alloc)?;
+    let mut out = Kept::new(rt.alloc());
     let job = text_job(Report::All, feeders, askers);
-    let mut out = Kept::new(alloc);
-    let outcome = run(
-        rt,
-        alloc,
-        keys,
-        &Clock::utc(alloc),
-        &job,
-        sources,
-        gate,
-        &mut out,
-    );
-    Ok(outcome.is_ok() && out.bytes() == ALL_OF_TWO)
+    let outcome = run_over(rt, &job, both_sources(rt), gate, &mut out);
+    outcome.is_ok() && out.bytes() == ALL_OF_TWO
+}
+
+// Asserts that two feeders and so many askers meet, and what they give.
+fn expect_meeting<R>(rt: &R, askers: u32, callers: u64, case: &str)
+where
+    R: AllocGlobal + Abort + RandomSource + Threads + Wait + Sync,
+    requires { askers ≤ 128 }
+{
+    let gate = Meeting::of(callers);
+    expect_that(rt, case, gives_all_of_two(rt, 2, askers, &gate));
+    expect_that(rt, case, gate.late.load(Ordering::SeqCst) == 0);
 }
 
 #[test]
-fn two_feeders_go_on_together_and_with_an_asker(rt: HostRuntime) -> Result<(), Fail> {
-    let keys = RandomState::new(&rt)?;
-    for (askers, callers) in [(0, 2), (1, 3)] {
-        let gate = Meeting::of(callers);
-        assert!(rt;
-            gives_all_of_two(&rt, keys, 2, askers, &gate)?,
-            "{askers} askers"
-        );
-        assert!(rt; gate.late.load(Ordering::SeqCst) == 0, "{askers} askers");
-    }
-    Ok(())
+fn two_feeders_go_on_together_and_with_an_asker(rt: HostRuntime) {
+    expect_meeting(&rt, 0, 2, "0 askers");
+    expect_meeting(&rt, 1, 3, "1 askers");
 }
 
 #[test]
-fn one_feeder_alone_gives_the_same(rt: HostRuntime) -> Result<(), Fail> {
-    assert!(rt; gives_all_of_two(&rt, RandomState::new(&rt)?, 1, 0, &OpenGate)?);
-    Ok(())
+fn one_feeder_alone_gives_the_same(rt: HostRuntime) {
+    let same = gives_all_of_two(&rt, 1, 0, &OpenGate);
+    expect_that(&rt, "one feeder alone", same);
 }

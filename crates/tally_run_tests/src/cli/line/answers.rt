@@ -1,0 +1,135 @@
+//! What a command line is read as, compared with what is wanted by one function that owns it.
+
+use crate::cli::expect::{expect_that, with_room};
+use std::process::Abort;
+use tally_cli::{Form, Job, Line, LineFault, Report, job_of};
+use tally_usage::Order;
+
+/// What a command line is read as.
+pub(crate) type Answer = Result<Line, LineFault>;
+
+/// What a command line is to ask for. A report has the default of each option but of those named.
+#[derive(Clone, Copy)]
+pub(crate) enum Wanted<'a> {
+    /// The latest stays, up to a limit.
+    Last(Option<u32>),
+    /// Connect time, by day or not, and by user or not.
+    Connect(bool, bool),
+    /// Commands in an order, reversed or not, and all of them or not.
+    Commands(Order, bool, bool),
+    /// Users in an order, reversed or not.
+    Users(Order, bool),
+    /// A report with stays counted up to a moment.
+    Until(Report, i32),
+    /// All reports by so many feeders and askers, at an offset.
+    All(u32, u32, i32),
+    /// Any report as a table.
+    Csv,
+    /// Any report in the zone of this word.
+    Zone(Option<&'a str>),
+    Help,
+    Usage,
+    /// The first file without a prefix.
+    Prefix(usize),
+}
+
+/// The words of a command line, parted by blanks.
+pub(crate) fn words_of<R: AllocGlobal + Abort>(rt: &R, line: &str) -> Vec<String> {
+    let mut words = Vec::new(rt.alloc());
+    for word in line.split(' ') {
+        let word = with_room(rt, String::from_str(rt.alloc(), word));
+        with_room(rt, words.push(word));
+    }
+    words
+}
+
+/// The answer to the words of a command line.
+pub(crate) fn read<R: AllocGlobal + Abort>(rt: &R, line: &str) -> Answer {
+    let words = words_of(rt, line);
+    job_of(rt.alloc(), words.as_slice())
+}
+
+// The job of a report, with the default of each option.
+fn plain(report: Report) -> Job {
+    Job {
+        report,
+        form: Form::Text,
+        feeders: 4,
+        askers: 0,
+        offset: 0,
+        until: None,
+    }
+}
+
+// The job that is wanted, where a whole one is.
+fn job_wanted(wanted: Wanted<'_>) -> Option<Job> {
+    let mut job = plain(Report::All);
+    match wanted {
+        Wanted::Last(limit) => job.report = Report::Last { limit },
+        Wanted::Connect(by_day, by_user) => job.report = Report::Connect { by_day, by_user },
+        Wanted::Commands(order, reverse, all) => {
+            job.report = Report::Commands {
+                order,
+                reverse,
+                all,
+            }
+        }
+        Wanted::Users(order, reverse) => job.report = Report::Users { order, reverse },
+        Wanted::Until(report, until) => {
+            job.report = report;
+            job.until = Some(until);
+        }
+        Wanted::All(feeders, askers, offset) => {
+            job.feeders = feeders;
+            job.askers = askers;
+            job.offset = offset;
+        }
+        _ => return None,
+    }
+    Some(job)
+}
+
+fn is_zone(zone: &Option<String>, wanted: Option<&str>) -> bool {
+    match (zone, wanted) {
+        (Some(zone), Some(wanted)) => zone.as_str() == wanted,
+        (zone, wanted) => zone.is_none() && wanted.is_none(),
+    }
+}
+
+fn is_run(job: &Job, zone: &Option<String>, wanted: Wanted<'_>) -> bool {
+    match wanted {
+        Wanted::Csv => job.form == Form::Csv,
+        Wanted::Zone(word) => is_zone(zone, word),
+        _ => matches!(job_wanted(wanted), Some(wanted) if wanted == *job),
+    }
+}
+
+fn is_wanted(answer: &Answer, wanted: Wanted<'_>) -> bool {
+    match answer {
+        Ok(Line::Run { job, zone, .. }) => is_run(job, zone, wanted),
+        Ok(Line::Help { .. }) => matches!(wanted, Wanted::Help),
+        Err(LineFault::Usage { .. }) => matches!(wanted, Wanted::Usage),
+        Err(LineFault::Prefix { index }) => matches!(wanted, Wanted::Prefix(at) if at == *index),
+        Err(LineFault::Memory) => false,
+    }
+}
+
+/// Asserts what a command line asks for.
+pub(crate) fn expect_line<R: AllocGlobal + Abort>(rt: &R, line: &str, wanted: Wanted<'_>) {
+    let answer = read(rt, line);
+    expect_that(rt, line, is_wanted(&answer, wanted));
+}
+
+/// Asserts what each command line asks for.
+pub(crate) fn expect_each<R: AllocGlobal + Abort>(rt: &R, rows: &[(&str, Wanted<'_>)]) {
+    for (line, wanted) in rows {
+        expect_line(rt, line, *wanted);
+    }
+}
+
+/// Asserts that all command lines ask for the same.
+pub(crate) fn expect_all<R: AllocGlobal + Abort>(rt: &R, lines: &[&str], wanted: Wanted<'_>) {
+    for line in lines {
+        expect_line(rt, line, wanted);
+    }
+}
