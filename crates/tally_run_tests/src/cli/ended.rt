@@ -3,7 +3,7 @@ ghost use Rattle.std.specs.Prelude.{◌≡◌, None, [], false};
 
 use crate::cli::expect::expect_that;
 use crate::cli::runs::{
-    TOTAL, add_source, expect_fault, expect_torn, one_hour, run_over, source_of, text_job,
+    TOTAL, add_source, expect_end, one_hour, run_over, source_of, text_job, torn,
 };
 use std::process::Abort;
 use std::random::RandomSource;
@@ -123,7 +123,7 @@ fn all_over<R: AllocGlobal + Abort + RandomSource + Threads + Wait + Sync>(
 fn an_output_is_finished_once_after_the_last_section(rt: HostRuntime) {
     let ended = all_over(&rt, [384, 0], false);
     let out = &ended.out;
-    expect_that(&rt, "the run ends well", ended.outcome.is_ok());
+    expect_end(&rt, "the run ends well", &ended.outcome, &Ok(()));
     expect_that(&rt, "finished once", out.finished == 1);
     expect_that(&rt, "bytes are written", out.bytes > 0);
     expect_that(&rt, "finished last", out.bytes_then == out.bytes);
@@ -132,14 +132,14 @@ fn an_output_is_finished_once_after_the_last_section(rt: HostRuntime) {
 #[test]
 fn an_output_that_fails_at_its_end_fails_the_run(rt: HostRuntime) {
     let ended = all_over(&rt, [384, 0], true);
-    expect_fault(&rt, &ended.outcome, &RunFault::Write);
+    expect_end(&rt, "the end fails", &ended.outcome, &Err(RunFault::Write));
     expect_that(&rt, "finished once", ended.out.finished == 1);
 }
 
 #[test]
 fn a_feeder_stops_at_its_first_file_that_fails(rt: HostRuntime) {
     let ended = all_over(&rt, [385, 384], false);
-    expect_torn(&rt, &ended.outcome, 0);
+    expect_end(&rt, "the first file is torn", &ended.outcome, &torn(0));
     let [first, second] = ended.takes;
     expect_that(&rt, "the first file is read", first > 0);
     expect_that(&rt, "the second file is not", second == 0);
@@ -178,6 +178,6 @@ fn an_output_that_fails_ends_the_run(rt: HostRuntime) {
         failures: 0,
     };
     let outcome = run_over(&rt, &text_job(TOTAL, 4, 0), sources, &OpenGate, &mut out);
-    expect_fault(&rt, &outcome, &RunFault::Write);
+    expect_end(&rt, "a write fails", &outcome, &Err(RunFault::Write));
     expect_that(&rt, "five bytes are taken", out.room == 0);
 }

@@ -21,14 +21,13 @@ fn ac_sums_by_day_and_by_user(rt: HostRuntime) {
 
 #[test]
 fn a_report_may_be_csv(rt: HostRuntime) {
-    let lines = [
-        "last --csv f",
-        "ac f --csv",
-        "ac -dp --csv f",
-        "sa --csv f",
-        "sa -m f --csv",
-    ];
-    expect_all(&rt, &lines, Wanted::Csv);
+    let lines = "\
+last --csv f
+ac f --csv
+ac -dp --csv f
+sa --csv f
+sa -m f --csv";
+    expect_all(&rt, lines, Wanted::Csv);
 }
 
 #[test]
@@ -97,41 +96,39 @@ fn feeders_askers_and_the_offset_are_set(rt: HostRuntime) {
 
 #[test]
 fn other_words_are_refused(rt: HostRuntime) {
-    let lines = [
-        "",
-        "x",
-        "ac",
-        "ac --east 1440 f",
-        "ac --east -1 f",
-        "--east 1 ac f",
-        "last -n 0 f",
-        "last -n 1048577 f",
-        "last -n x f",
-        "last --feeders 0 f",
-        "last --feeders 65 f",
-        "ac --feeders 1 --feeders 2 f",
-        "ac --askers 1 f",
-        "all --askers 65 w:f",
-        "sa -d f",
-        "sa -a -a f",
-        "all --csv w:f",
-        "ac --csv --csv f",
-        "ac --csv=1 f",
-    ];
-    expect_all(&rt, &lines, Wanted::Usage);
+    let lines = "\
+x
+
+ac
+ac --east 1440 f
+ac --east -1 f
+--east 1 ac f
+last -n 0 f
+last -n 1048577 f
+last -n x f
+last --feeders 0 f
+last --feeders 65 f
+ac --feeders 1 --feeders 2 f
+ac --askers 1 f
+all --askers 65 w:f
+sa -d f
+sa -a -a f
+all --csv w:f
+ac --csv --csv f
+ac --csv=1 f";
+    expect_all(&rt, lines, Wanted::Usage);
 }
 
 #[test]
 fn help_is_an_answer(rt: HostRuntime) {
-    let lines = [
-        "--help",
-        "-h",
-        "ac -h",
-        "all --help f",
-        "help",
-        "help ac",
-        "--version",
-        "-V",
-    ];
-    expect_all(&rt, &lines, Wanted::Help);
+    let lines = "\
+--help
+-h
+ac -h
+all --help f
+help
+help ac
+--version
+-V";
+    expect_all(&rt, lines, Wanted::Help);
 }

@@ -113,33 +113,44 @@ pub(crate) fn run_over<
     run(rt, rt.alloc(), keys, &clock, job, sources, gate, out)
 }
 
-// Asserts that a run failed by this fault.
-pub(crate) fn expect_fault(rt: &impl Abort, outcome: &Result<(), RunFault>, wanted: &RunFault) {
-    let fails = match outcome {
-        Ok(()) => false,
-        Err(fault) => fault == wanted,
-    };
-    expect_that(rt, "the run fails by its fault", fails);
-}
-
-// Asserts that the file with this number failed, whose second record has one byte.
-pub(crate) fn expect_torn(rt: &impl Abort, outcome: &Result<(), RunFault>, host: u32) {
+/// The end of a run whose file with this number has one byte of its second record.
+pub(crate) fn torn(host: u32) -> Result<(), RunFault> {
     let fault = FeedFault::Torn {
         records: 1,
         rest: 1,
     };
-    expect_fault(rt, outcome, &RunFault::File { host, fault });
+    Err(RunFault::File { host, fault })
 }
 
-// What a report on these sources writes, and how it ends.
-fn report_on<R: AllocGlobal + Abort + RandomSource + Threads + Wait + Sync>(
+/// Asserts how a run ends.
+pub(crate) fn expect_end(
+    rt: &impl Abort,
+    case: &str,
+    outcome: &Result<(), RunFault>,
+    wanted: &Result<(), RunFault>,
+) {
+    expect_that(rt, case, outcome == wanted);
+}
+
+/// Asserts how a run over these sources ends, and what it writes.
+pub(crate) fn expect_run<
+    R: AllocGlobal + Abort + RandomSource + Threads + Wait + Sync,
+    G: Gate + Sync,
+>(
     rt: &R,
-    report: Report,
+    case: &str,
+    job: &Job,
     sources: Vec<Source<Bytes>>,
-) -> (Result<(), RunFault>, Kept) {
+    gate: &G,
+    wanted: &Result<(), RunFault>,
+    text: &[u8],
+)
+    requires { IsRunnable job.now }
+{
     let mut out = Kept::new(rt.alloc());
-    let outcome = run_over(rt, &text_job(report, 4, 0), sources, &OpenGate, &mut out);
-    (outcome, out)
+    let outcome = run_over(rt, job, sources, gate, &mut out);
+    expect_end(rt, case, &outcome, wanted);
+    expect_that(rt, case, out.bytes() == text);
 }
 
 // Asserts that a report on these sources ends well and is this text.
@@ -149,9 +160,8 @@ fn expect_text<R: AllocGlobal + Abort + RandomSource + Threads + Wait + Sync>(
     sources: Vec<Source<Bytes>>,
     text: &[u8],
 ) {
-    let (outcome, out) = report_on(rt, report, sources);
-    expect_that(rt, "the run ends well", outcome.is_ok());
-    expect_that(rt, "the output is the text", out.bytes() == text);
+    let job = text_job(report, 4, 0);
+    expect_run(rt, "whole", &job, sources, &OpenGate, &Ok(()), text);
 }
 
 // Asserts that a report writes nothing, since the file with this number is torn.
@@ -161,9 +171,8 @@ fn expect_nothing<R: AllocGlobal + Abort + RandomSource + Threads + Wait + Sync>
     sources: Vec<Source<Bytes>>,
     host: u32,
 ) {
-    let (outcome, out) = report_on(rt, report, sources);
-    expect_torn(rt, &outcome, host);
-    expect_that(rt, "nothing is written", out.bytes().is_empty());
+    let job = text_job(report, 4, 0);
+    expect_run(rt, "torn", &job, sources, &OpenGate, &torn(host), b"");
 }
 
 #[test]
@@ -176,12 +185,9 @@ fn an_hour_is_its_total(rt: HostRuntime) {
 fn an_hour_is_a_stay(rt: HostRuntime) {
     let report = Report::Last { limit: None };
     let sources = source_of(&rt, Kind::Login, one_hour(&rt, 768));
-    let (outcome, out) = report_on(&rt, report, sources);
-    expect_that(&rt, "the run ends well", outcome.is_ok());
-    let stay =
-        b"ann      tty1                          1970-01-12 13:46:40 - 1970-01-12 14:46:40 (01:00)\n".as_slice();
-    expect_that(&rt, "the stay is first", out.bytes().starts_with(stay));
-    expect_that(&rt, "33 bytes follow", out.bytes().len() == stay.len() + 33);
+    let text =
+        b"ann      tty1                          1970-01-12 13:46:40 - 1970-01-12 14:46:40 (01:00)\n\nwtmp begins 1970-01-12 13:46:40\n";
+    expect_text(&rt, report, sources, text);
 }
 
 // A call of make by user 0 that took 2 seconds, and 1 second of cpu.

@@ -2,7 +2,7 @@
 ghost use Rattle.std.specs.Prelude.{◌≤◌};
 
 use crate::cli::expect::expect_that;
-use crate::cli::runs::{add_source, bytes_with, run_over, source_of, text_job};
+use crate::cli::runs::{add_source, bytes_with, expect_run, source_of, text_job};
 use std::process::Abort;
 use std::random::RandomSource;
 use std::sync::Wait;
@@ -11,7 +11,6 @@ use std::thread;
 use std::thread::Threads;
 use tally_cli::{Report, Source};
 use tally_desk::{Bytes, Gate, OpenGate};
-use tally_print::Kept;
 use tally_records::Kind;
 
 /// The most turns of the processor that a caller gives up while it waits for the others.
@@ -87,37 +86,34 @@ total                        3.00
        0         0.00re         0.00cp          0avio          0k
 ";
 
-// Whether all reports on both files, by so many feeders and askers that pass this gate, are this text.
-fn gives_all_of_two<R, G: Gate + Sync>(rt: &R, feeders: u32, askers: u32, gate: &G) -> bool
+// Asserts what all reports on both files are, by so many feeders and askers that pass this gate.
+fn expect_all_of_two<R, G: Gate + Sync>(rt: &R, case: &str, feeders: u32, askers: u32, gate: &G)
 where
     R: AllocGlobal + Abort + RandomSource + Threads + Wait + Sync,
     requires { (1 ≤ feeders) × (feeders ≤ 64) × (askers ≤ 128) }
 {
-    let mut out = Kept::new(rt.alloc());
     let job = text_job(Report::All, feeders, askers);
-    let outcome = run_over(rt, &job, both_sources(rt), gate, &mut out);
-    outcome.is_ok() && out.bytes() == ALL_OF_TWO
+    expect_run(rt, case, &job, both_sources(rt), gate, &Ok(()), ALL_OF_TWO);
 }
 
 // Asserts that two feeders and so many askers meet, and what they give.
-fn expect_meeting<R>(rt: &R, askers: u32, callers: u64, case: &str)
+fn expect_meeting<R>(rt: &R, case: &str, askers: u32, callers: u64)
 where
     R: AllocGlobal + Abort + RandomSource + Threads + Wait + Sync,
     requires { askers ≤ 128 }
 {
     let gate = Meeting::of(callers);
-    expect_that(rt, case, gives_all_of_two(rt, 2, askers, &gate));
+    expect_all_of_two(rt, case, 2, askers, &gate);
     expect_that(rt, case, gate.late.load(Ordering::SeqCst) == 0);
 }
 
 #[test]
 fn two_feeders_go_on_together_and_with_an_asker(rt: HostRuntime) {
-    expect_meeting(&rt, 0, 2, "0 askers");
-    expect_meeting(&rt, 1, 3, "1 askers");
+    expect_meeting(&rt, "0 askers", 0, 2);
+    expect_meeting(&rt, "1 askers", 1, 3);
 }
 
 #[test]
 fn one_feeder_alone_gives_the_same(rt: HostRuntime) {
-    let same = gives_all_of_two(&rt, 1, 0, &OpenGate);
-    expect_that(&rt, "one feeder alone", same);
+    expect_all_of_two(&rt, "one feeder", 1, 0, &OpenGate);
 }

@@ -2,11 +2,9 @@
 
 use crate::cli::expect::{expect_that, with_room};
 use std::process::Abort;
-use tally_cli::{Form, Job, Line, LineFault, Report, job_of};
+use tally_cli::{FileArg, Form, Job, Line, LineFault, Report, job_of};
+use tally_records::Kind;
 use tally_usage::Order;
-
-/// What a command line is read as.
-pub(crate) type Answer = Result<Line, LineFault>;
 
 /// What a command line is to ask for. A report has the default of each option but of those named.
 #[derive(Clone, Copy)]
@@ -27,6 +25,8 @@ pub(crate) enum Wanted<'a> {
     Csv,
     /// Any report in the zone of this word.
     Zone(Option<&'a str>),
+    /// Any report on these files, and no other.
+    Files(&'a [(Kind, &'a str)]),
     Help,
     Usage,
     /// The first file without a prefix.
@@ -41,12 +41,6 @@ pub(crate) fn words_of<R: AllocGlobal + Abort>(rt: &R, line: &str) -> Vec<String
         with_room(rt, words.push(word));
     }
     words
-}
-
-/// The answer to the words of a command line.
-pub(crate) fn read<R: AllocGlobal + Abort>(rt: &R, line: &str) -> Answer {
-    let words = words_of(rt, line);
-    job_of(rt.alloc(), words.as_slice())
 }
 
 // The job of a report, with the default of each option.
@@ -96,17 +90,26 @@ fn is_zone(zone: &Option<String>, wanted: Option<&str>) -> bool {
     }
 }
 
-fn is_run(job: &Job, zone: &Option<String>, wanted: Wanted<'_>) -> bool {
+fn are_files(files: &[FileArg], wanted: &[(Kind, &str)]) -> bool {
+    let mut same = files.len() == wanted.len();
+    for (file, (kind, path)) in files.iter().zip(wanted) {
+        same = same && file.kind == *kind && file.path.as_str() == *path;
+    }
+    same
+}
+
+fn is_run(job: &Job, zone: &Option<String>, files: &[FileArg], wanted: Wanted<'_>) -> bool {
     match wanted {
         Wanted::Csv => job.form == Form::Csv,
         Wanted::Zone(word) => is_zone(zone, word),
+        Wanted::Files(wanted) => are_files(files, wanted),
         _ => matches!(job_wanted(wanted), Some(wanted) if wanted == *job),
     }
 }
 
-fn is_wanted(answer: &Answer, wanted: Wanted<'_>) -> bool {
+fn is_wanted(answer: &Result<Line, LineFault>, wanted: Wanted<'_>) -> bool {
     match answer {
-        Ok(Line::Run { job, zone, .. }) => is_run(job, zone, wanted),
+        Ok(Line::Run { job, zone, files }) => is_run(job, zone, files.as_slice(), wanted),
         Ok(Line::Help { .. }) => matches!(wanted, Wanted::Help),
         Err(LineFault::Usage { .. }) => matches!(wanted, Wanted::Usage),
         Err(LineFault::Prefix { index }) => matches!(wanted, Wanted::Prefix(at) if at == *index),
@@ -116,7 +119,9 @@ fn is_wanted(answer: &Answer, wanted: Wanted<'_>) -> bool {
 
 /// Asserts what a command line asks for.
 pub(crate) fn expect_line<R: AllocGlobal + Abort>(rt: &R, line: &str, wanted: Wanted<'_>) {
-    let answer = read(rt, line);
+    let words = words_of(rt, line);
+    let answer = job_of(rt.alloc(), words.as_slice());
+    drop(words);
     expect_that(rt, line, is_wanted(&answer, wanted));
 }
 
@@ -127,9 +132,9 @@ pub(crate) fn expect_each<R: AllocGlobal + Abort>(rt: &R, rows: &[(&str, Wanted<
     }
 }
 
-/// Asserts that all command lines ask for the same.
-pub(crate) fn expect_all<R: AllocGlobal + Abort>(rt: &R, lines: &[&str], wanted: Wanted<'_>) {
-    for line in lines {
+/// Asserts that command lines, one a line of the text, all ask for the same.
+pub(crate) fn expect_all<R: AllocGlobal + Abort>(rt: &R, lines: &str, wanted: Wanted<'_>) {
+    for line in lines.split('\n') {
         expect_line(rt, line, wanted);
     }
 }

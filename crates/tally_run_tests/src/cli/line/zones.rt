@@ -23,13 +23,12 @@ fn a_zone_is_its_word_as_given(rt: HostRuntime) {
 
 #[test]
 fn no_zone_is_taken_with_an_offset_or_without_a_word(rt: HostRuntime) {
-    let lines = [
-        "ac --zone local --east 60 f",
-        "last --west 0 --zone UTC f",
-        "all --zone UTC --east 0 --west 0 w:f",
-        "sa --zone= f",
-        "ac --zone",
-        "ac --zone UTC --zone UTC f",
-    ];
-    expect_all(&rt, &lines, Wanted::Usage);
+    let lines = "\
+ac --zone local --east 60 f
+last --west 0 --zone UTC f
+all --zone UTC --east 0 --west 0 w:f
+sa --zone= f
+ac --zone
+ac --zone UTC --zone UTC f";
+    expect_all(&rt, lines, Wanted::Usage);
 }
