@@ -1,4 +1,4 @@
-//! The assertions of the tests, each in one function: where one stands it is proved anew.
+//! What the tests assert, in two functions: each `assert!` is proved anew where it stands.
 use std::process::Abort;
 
 /// Asserts what is said to hold.
@@ -6,10 +6,10 @@ pub(crate) fn expect_that(rt: &impl Abort, what: &str, holds: bool) {
     assert!(rt; holds, "{what}");
 }
 
-/// The value, where there was memory for it.
-pub(crate) fn with_room<T, E: Drop>(rt: &impl Abort, made: Result<T, E>) -> T {
-    match made {
+/// The value, where it could be made.
+pub(crate) fn made<T, E: Drop>(rt: &impl Abort, value: Result<T, E>) -> T {
+    match value {
         Ok(value) => value,
-        Err(_) => panic!(rt; "out of memory"),
+        Err(_) => panic!(rt; "could not be made"),
     }
 }

@@ -5,7 +5,7 @@ ghost use Rattle.tally_cli.specs.Runs.{IsReadable};
 ghost use Rattle.tally_line.specs.Jobs.{IsRunnable};
 ghost use Rattle.tally_print.specs.Output.{IsWritable};
 
-use crate::cli::expect::{expect_that, with_room};
+use crate::cli::expect::{expect_that, made};
 use std::hash::RandomState;
 use std::process::Abort;
 use std::random::RandomSource;
@@ -53,7 +53,7 @@ pub(crate) fn bytes_with<R: AllocGlobal + Abort>(
     length: usize,
     texts: &[(usize, &[u8])],
 ) -> Vec<u8> {
-    let mut bytes = with_room(rt, vec![in rt.alloc(); 0u8; length]);
+    let mut bytes = made(rt, vec![in rt.alloc(); 0u8; length]);
     for (at, text) in texts {
         put_at(bytes.as_mut_slice(), *at, text);
     }
@@ -83,7 +83,7 @@ pub(crate) fn add_source<I: Drop>(
     kind: Kind,
     input: I,
 ) {
-    with_room(rt, sources.push(Source { kind, input }));
+    made(rt, sources.push(Source { kind, input }));
 }
 
 // The one source of these bytes.
@@ -108,7 +108,7 @@ pub(crate) fn run_over<
     requires readable { All (IsReadable I.failures) sources.items }
     requires writable { IsWritable (O.state out.old) }
 {
-    let keys = with_room(rt, RandomState::new(rt));
+    let keys = made(rt, RandomState::new(rt));
     let clock = Clock::utc(rt.alloc());
     run(rt, rt.alloc(), keys, &clock, job, sources, gate, out)
 }

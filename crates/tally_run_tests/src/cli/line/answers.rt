@@ -1,6 +1,6 @@
 //! What a command line is read as, compared with what is wanted by one function that owns it.
 
-use crate::cli::expect::{expect_that, with_room};
+use crate::cli::expect::{expect_that, made};
 use std::process::Abort;
 use tally_cli::{FileArg, Form, Job, Line, LineFault, Report, job_of};
 use tally_records::Kind;
@@ -37,8 +37,8 @@ pub(crate) enum Wanted<'a> {
 pub(crate) fn words_of<R: AllocGlobal + Abort>(rt: &R, line: &str) -> Vec<String> {
     let mut words = Vec::new(rt.alloc());
     for word in line.split(' ') {
-        let word = with_room(rt, String::from_str(rt.alloc(), word));
-        with_room(rt, words.push(word));
+        let word = made(rt, String::from_str(rt.alloc(), word));
+        made(rt, words.push(word));
     }
     words
 }

@@ -1,7 +1,7 @@
 //! Which files the words of a command line name.
 
 use super::answers::{Wanted, expect_line, words_of};
-use crate::cli::expect::{expect_that, with_room};
+use crate::cli::expect::{expect_that, made};
 use std::process::Abort;
 use tally_cli::file_word;
 use tally_records::Kind;
@@ -35,7 +35,7 @@ fn a_report_tells_the_kind_of_its_files(rt: HostRuntime) {
 fn expect_bare<R: AllocGlobal + Abort>(rt: &R, line: &str, at: usize, bare: &str) {
     expect_line(rt, line, Wanted::Prefix(at));
     let words = words_of(rt, line);
-    let word = with_room(rt, file_word(rt.alloc(), words.as_slice(), at));
+    let word = made(rt, file_word(rt.alloc(), words.as_slice(), at));
     expect_that(rt, line, word.as_str() == bare);
 }
 
