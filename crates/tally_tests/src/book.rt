@@ -4,10 +4,10 @@ ghost use Rattle.tally_book.specs.Answers.{IsAskable, HasDays};
 
 use crate::bytes::{logins, make_record, procs, put, session};
 use crate::held::{Held, held_by, holds};
-use crate::printing::{print_receipt, print_served};
-use crate::stopped::{Stopped, after};
+use crate::printing::{print_receipt, print_refusal, print_served};
+use crate::stopped::{Stopped, both, see, stop};
 use crate::window::{grant_growths, refuse_growths};
-use std::alloc::Global;
+use std::alloc::{AllocError, Global};
 use std::hash::RandomState;
 use tally_book::{AskFault, Book, PostFault, Question, Receipt, Served};
 use tally_records::{Batch, Memory};
@@ -30,8 +30,8 @@ fn post_to(book: &mut Book, before: &Held, caller: u32, batch: &Batch) -> Result
 {
     match book.post(caller, batch) {
         Err(PostFault::Memory) if !holds(book, before) => Err(Stopped::Changed("the book")),
-        Err(PostFault::Memory) => Ok(book.post(caller, batch)?),
-        posted => Ok(posted?),
+        Err(PostFault::Memory) => stop(book.post(caller, batch)),
+        posted => stop(posted),
     }
 }
 
@@ -40,13 +40,15 @@ pub(crate) fn post(
     alloc: Global,
     book: &mut Book,
     caller: u32,
-    batch: &Batch,
+    batch: Result<Batch, Stopped>,
 ) -> Result<Receipt, Stopped>
     requires { caller < book.old.callers }
     ensures { book.new.callers ≡ book.old.callers }
 {
-    let before = held_by(alloc, book)?;
-    post_to(book, &before, caller, batch)
+    let (batch, before) = both(batch, stop(held_by(alloc, book)))?;
+    let posted = post_to(book, &before, caller, &batch);
+    drop((batch, before));
+    posted
 }
 
 /// Posts a batch, and prints what the post answered.
@@ -54,12 +56,12 @@ fn print_post<R: Print + AllocGlobal>(
     rt: &R,
     book: &mut Book,
     caller: u32,
-    batch: Batch,
+    batch: Result<Batch, Stopped>,
 ) -> Result<(), Stopped>
     requires { caller < book.old.callers }
     ensures { book.new.callers ≡ book.old.callers }
 {
-    print_receipt(rt, post(rt.alloc(), book, caller, &batch)?)
+    print_receipt(rt, post(rt.alloc(), book, caller, batch))
 }
 
 /// Asks a book that holds this, and asks again where memory was refused.
@@ -77,8 +79,8 @@ fn ask_of(
 {
     match book.ask(alloc, caller, question) {
         Err(AskFault::Memory) if !holds(book, before) => Err(Stopped::Changed("the book")),
-        Err(AskFault::Memory) => Ok(book.ask(alloc, caller, question)?),
-        asked => Ok(asked?),
+        Err(AskFault::Memory) => stop(book.ask(alloc, caller, question)),
+        asked => stop(asked),
     }
 }
 
@@ -90,12 +92,14 @@ fn ask(alloc: Global, book: &mut Book, caller: u32, question: &Question) -> Resu
     ensures days { IfOk result (λ served. HasDays served.answer) }
 {
     let before = held_by(alloc, book)?;
-    ask_of(alloc, book, &before, caller, question)
+    let asked = ask_of(alloc, book, &before, caller, question);
+    drop(before);
+    asked
 }
 
 /// A session of one hour.
 pub(crate) fn hour(alloc: Global) -> Result<Batch, Stopped> {
-    Ok(logins(alloc, &session("ann", 1_000_000, 1_003_600))?)
+    stop(logins(alloc, &session("ann", 1_000_000, 1_003_600)))
 }
 
 /// One run of make that executed, and two that only forked, as bytes.
@@ -112,9 +116,18 @@ pub(crate) fn make_bytes() -> [u8; 192] {
     bytes
 }
 
+/// These bytes in memory, made again where it was refused.
+pub(crate) fn make_vec(alloc: Global) -> Result<Vec<u8>, AllocError> {
+    let made = match Vec::from_array(alloc, make_bytes()) {
+        Err(_) => Vec::from_array(alloc, make_bytes()),
+        made => made,
+    };
+    Ok(made?)
+}
+
 /// The batch of these runs.
 pub(crate) fn makes(alloc: Global) -> Result<Batch, Stopped> {
-    Ok(procs(alloc, &make_bytes())?)
+    stop(procs(alloc, &make_bytes()))
 }
 
 /// Asks, and prints a copy of the answer.
@@ -128,7 +141,7 @@ pub(crate) fn report<R: Print + AllocGlobal>(
     requires askable { IsAskable question.now }
     ensures { book.new.callers ≡ book.old.callers }
 {
-    print_served(rt, &ask(rt.alloc(), book, caller, question)?)
+    print_served(rt, ask(rt.alloc(), book, caller, question))
 }
 
 /// Connect time in all.
@@ -156,23 +169,24 @@ fn ask_of_nobody<R: Print + AllocGlobal>(rt: &R, book: &mut Book) -> Result<(), 
         limit: None,
         until: None,
     };
-    match book.ask(rt.alloc(), 1, &question) {
-        Err(AskFault::NoSuchHost(host)) => {
-            println!(rt; "no host {host}, {} calls", book.calls().len())?;
-            Ok(())
-        }
-        _ => Err(Stopped::Changed("a refusal")),
-    }
+    let asked = book.ask(rt.alloc(), 1, &question);
+    print_refusal(rt, asked, book.calls().len() as u64)
 }
 
 /// How many entries of both kinds and how many calls a book hands out.
 pub(crate) fn count_parts(book: Book) -> (usize, usize, usize) {
-    let (logins, procs, calls) = book.into_parts();
-    (logins.len(), procs.len(), calls.len())
+    let parts = book.into_parts();
+    let counts = (parts.0.len(), parts.1.len(), parts.2.len());
+    drop(parts);
+    counts
 }
 
-/// Prints what a book holds, which takes no memory to see and to hand out.
-fn print_parts<R: Print + AllocGlobal>(rt: &R, book: Book) -> Result<(), Stopped> {
+/// Prints what a book holds after a script, which takes no memory to see and to hand out.
+fn print_parts<R: Print + AllocGlobal>(
+    rt: &R,
+    printed: Result<(), Stopped>,
+    book: Book,
+) -> Result<(), Stopped> {
     refuse_growths(rt.alloc());
     let seen = (
         book.callers(),
@@ -182,21 +196,19 @@ fn print_parts<R: Print + AllocGlobal>(rt: &R, book: Book) -> Result<(), Stopped
     );
     let given = count_parts(book);
     grant_growths(rt.alloc());
-    if seen != (2, given.0, given.1, given.2) {
-        return Err(Stopped::Changed("a closed book"));
-    }
-    println!(rt; "book: {} {} in {} calls", given.0, given.1, given.2)?;
-    Ok(())
+    let is_same = seen == (2, given.0, given.1, given.2);
+    printed.and(see(is_same, "a closed book"))?;
+    stop(println!(rt; "book: {} {} in {} calls", given.0, given.1, given.2))
 }
 
 /// Prints what each call answers.
 fn print_calls<R: Print + AllocGlobal>(rt: &R, book: &mut Book) -> Result<(), Stopped>
     requires { book.old.callers ≡ 2 }
 {
-    print_post(rt, book, 0, hour(rt.alloc())?)?;
+    print_post(rt, book, 0, hour(rt.alloc()))?;
     report(rt, book, 1, &TOTAL)?;
     ask_of_nobody(rt, book)?;
-    print_post(rt, book, 1, makes(rt.alloc())?)?;
+    print_post(rt, book, 1, makes(rt.alloc()))?;
     report(rt, book, 0, &COMMANDS)
 }
 
@@ -204,5 +216,5 @@ fn print_calls<R: Print + AllocGlobal>(rt: &R, book: &mut Book) -> Result<(), St
 pub(crate) fn script<R: Print + AllocGlobal>(rt: &R, keys: RandomState) -> Result<(), Stopped> {
     let mut book = new_book(rt.alloc(), keys)?;
     let printed = print_calls(rt, &mut book);
-    print_parts(rt, after(printed, book)?)
+    print_parts(rt, printed, book)
 }

@@ -1,7 +1,7 @@
 //! Users on days that are summed without a table: with days too far apart for one, with a session that has a row
 //! of the clock whole, which a table meets only when it is filled, and with a longer one, for which none is made.
 use crate::sessions::print_both;
-use crate::stopped::Stopped;
+use crate::stopped::{Stopped, stop};
 use std::alloc::Global;
 use tally_clock::{Clock, RuleFault};
 use tally_records::{List, Memory};
@@ -23,7 +23,7 @@ fn two_days(alloc: Global) -> Result<Clock, Stopped> {
         Err(RuleFault::Memory) => Clock::of_rule(alloc, TWO_DAYS),
         made => made,
     };
-    Ok(made?)
+    stop(made)
 }
 
 /// The rows up to a moment, asked for again where memory was refused.
@@ -52,26 +52,32 @@ fn print_sum<R: Print>(rt: &R, rows: &[DayUserTime]) -> Result<(), Stopped> {
     Ok(())
 }
 
-/// Prints the sum of the rows up to a day.
-fn print_sum_until<R: Print + AllocGlobal>(
+/// Prints the rows up to a day, or their sum.
+fn print_until<R: Print + AllocGlobal>(
     rt: &R,
     sessions: &Sessions,
     clock: &Clock,
     until: i32,
+    is_sum: bool,
 ) -> Result<(), Stopped> {
     let rows = rows_until(rt.alloc(), sessions, clock, until)?;
-    print_sum(rt, rows.as_slice())
+    let printed = if is_sum {
+        print_sum(rt, rows.as_slice())
+    } else {
+        print_both(rt, rows.as_slice())
+    };
+    drop(rows);
+    printed
 }
 
-/// Prints the rows up to a day.
-fn print_rows_until<R: Print + AllocGlobal>(
+/// Prints the rows of a clock up to ten days, and the sum of those up to twenty.
+fn print_twice<R: Print + AllocGlobal>(
     rt: &R,
     sessions: &Sessions,
     clock: &Clock,
-    until: i32,
 ) -> Result<(), Stopped> {
-    let rows = rows_until(rt.alloc(), sessions, clock, until)?;
-    print_both(rt, rows.as_slice())
+    print_until(rt, sessions, clock, TEN_DAYS, false)?;
+    print_until(rt, sessions, clock, TWENTY_DAYS, true)
 }
 
 /// Prints the rows of sessions of which one has not ended, up to these days.
@@ -79,8 +85,12 @@ pub(crate) fn print_days<R: Print + AllocGlobal>(
     rt: &R,
     sessions: &Sessions,
 ) -> Result<(), Stopped> {
-    print_sum_until(rt, sessions, &Clock::utc(rt.alloc()), MANY_DAYS)?;
+    let utc = Clock::utc(rt.alloc());
+    let printed = print_until(rt, sessions, &utc, MANY_DAYS, true);
+    drop(utc);
+    printed?;
     let clock = two_days(rt.alloc())?;
-    print_rows_until(rt, sessions, &clock, TEN_DAYS)?;
-    print_sum_until(rt, sessions, &clock, TWENTY_DAYS)
+    let printed = print_twice(rt, sessions, &clock);
+    drop(clock);
+    printed
 }

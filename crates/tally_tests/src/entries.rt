@@ -3,7 +3,7 @@ ghost use Rattle.std.specs.Prelude.{IfOk};
 ghost use Rattle.tally_records.specs.Records.{IsProcs};
 
 use crate::bytes::{make_record, procs};
-use crate::stopped::{Stopped, after};
+use crate::stopped::{Stopped, stop};
 use crate::window::{grant_growths, refuse_growths};
 use std::alloc::{AllocError, Global};
 use std::hash::RandomState;
@@ -51,18 +51,30 @@ fn batch(alloc: Global, first: usize) -> Result<Batch, Stopped>
         Err(_) => batch_bytes(alloc, first),
         made => made,
     };
-    Ok(procs(alloc, bytes?.as_slice())?)
+    let bytes = bytes?;
+    let made = procs(alloc, bytes.as_slice());
+    drop(bytes);
+    stop(made)
+}
+
+/// Whether the entries in order are those that are made.
+fn are_made_in_order(entries: ProcEntries<'_>) -> bool {
+    for (place, entry) in entries.iter().enumerate() {
+        if Some(entry) != made(place) {
+            return false;
+        }
+    }
+    true
 }
 
 /// Whether the entries are the first of those that are made, at each place and in order.
 fn are_made(entries: ProcEntries<'_>, count: usize) -> bool {
-    entries.len() == count
-        && (0..count).all(|place| entries.get(place) == made(place))
-        && entries.get(count).is_none()
-        && entries
-            .iter()
-            .enumerate()
-            .all(|(place, entry)| Some(entry) == made(place))
+    for place in 0..count {
+        if entries.get(place) != made(place) {
+            return false;
+        }
+    }
+    entries.len() == count && entries.get(count).is_none() && are_made_in_order(entries)
 }
 
 /// Adds a batch, made ready again where memory was refused, which left the entries as they were; to add it takes none.
@@ -91,25 +103,38 @@ fn hand_out(summary: Summary) -> (usize, bool, bool) {
     let entries = summary.into_entries();
     let are_given = are_made(entries.as_entries(), count);
     let last = entries.get(count - 1) == made(count - 1);
-    (entries.len(), are_given, last)
+    let given = (entries.len(), are_given, last);
+    drop(entries);
+    given
 }
 
-/// Prints whether the entries are those that are made, lent and handed out.
-fn print_entries<R: Print + AllocGlobal>(rt: &R, summary: Summary) -> Result<(), Stopped> {
+/// Prints whether the entries are those that are made, lent and handed out, once all are added.
+fn print_entries<R: Print + AllocGlobal>(
+    rt: &R,
+    added: Result<(), Stopped>,
+    summary: Summary,
+) -> Result<(), Stopped> {
     let alloc = rt.alloc();
     refuse_growths(alloc);
     let are_lent = are_made(summary.entries(), BATCHES * BATCH_LIMIT);
     let (count, are_given, last) = hand_out(summary);
     grant_growths(alloc);
-    println!(rt; "entries: {count} {are_lent} {are_given} {last}")?;
-    Ok(())
+    added?;
+    stop(println!(rt; "entries: {count} {are_lent} {are_given} {last}"))
+}
+
+/// Adds the batch whose first record has a number.
+fn add_from(alloc: Global, summary: &mut Summary, first: usize) -> Result<(), Stopped> {
+    let batch = batch(alloc, first)?;
+    let added = add(alloc, summary, host_of(first), &batch);
+    drop(batch);
+    added
 }
 
 /// Adds all batches.
 fn add_all(alloc: Global, summary: &mut Summary) -> Result<(), Stopped> {
     for number in 0..BATCHES {
-        let first = number * BATCH_LIMIT;
-        add(alloc, summary, host_of(first), &batch(alloc, first)?)?;
+        add_from(alloc, summary, number * BATCH_LIMIT)?;
     }
     Ok(())
 }
@@ -118,5 +143,5 @@ fn add_all(alloc: Global, summary: &mut Summary) -> Result<(), Stopped> {
 pub(crate) fn script<R: Print + AllocGlobal>(rt: &R, keys: RandomState) -> Result<(), Stopped> {
     let mut summary = Summary::new(rt.alloc(), keys);
     let added = add_all(rt.alloc(), &mut summary);
-    print_entries(rt, after(added, summary)?)
+    print_entries(rt, added, summary)
 }

@@ -1,23 +1,24 @@
 //! An input that is fed to a desk, and a question that is asked of it in rounds.
 ghost use Rattle.std.specs.Prelude.{◌≡◌};
 
-use crate::book::{TOTAL, hour, make_bytes};
-use crate::desk::{close, open, post};
-use crate::stopped::Stopped;
-use std::alloc::{AllocError, Global};
-use std::hash::RandomState;
+use crate::book::{TOTAL, hour, make_vec};
+use crate::desk::{post, print_stored};
+use crate::stopped::{Stopped, stop};
+use std::alloc::Global;
 use std::sync::Wait;
 use tally_book::{Answer, AskFault, Book, Call};
 use tally_desk::{Bytes, Desk, Fed, FeedFault, OpenGate, Pass, ask_rounds, feed};
 use tally_records::Kind;
 
-/// The process records of three runs of make, made again where memory was refused.
-fn make_input(alloc: Global) -> Result<Bytes, AllocError> {
-    let bytes = match Vec::from_array(alloc, make_bytes()) {
-        Err(_) => Vec::from_array(alloc, make_bytes()),
-        made => made,
-    };
-    Ok(Bytes::new(bytes?))
+/// Feeds the process records of three runs of make.
+fn feed_once<R: Wait>(rt: &R, alloc: Global, desk: &Desk, pass: &mut Pass) -> Result<Fed, FeedFault>
+    requires { pass.old.desk ≡ desk.now.id }
+    ensures { pass.new.desk ≡ pass.old.desk }
+{
+    let mut input = Bytes::new(make_vec(alloc)?);
+    let fed = feed(rt, alloc, desk, pass, Kind::Proc, &mut input, &OpenGate);
+    drop(input);
+    fed
 }
 
 /// Feeds the process records, and feeds them again where memory was refused.
@@ -26,16 +27,14 @@ fn feed_makes<R: Wait>(rt: &R, alloc: Global, desk: &Desk, pass: &mut Pass) -> R
     ensures { pass.new.desk ≡ pass.old.desk }
 {
     let before = desk.stored(pass);
-    let mut input = make_input(alloc)?;
-    match feed(rt, alloc, desk, pass, Kind::Proc, &mut input, &OpenGate) {
+    match feed_once(rt, alloc, desk, pass) {
         Err(FeedFault::Memory) => {}
-        fed => return Ok(fed?),
+        fed => return stop(fed),
     }
     if desk.stored(pass) != before {
         return Err(Stopped::Changed("the desk"));
     }
-    let mut again = make_input(alloc)?;
-    Ok(feed(rt, alloc, desk, pass, Kind::Proc, &mut again, &OpenGate)?)
+    stop(feed_once(rt, alloc, desk, pass))
 }
 
 /// Asks for the connect time three times, and three times again where memory was refused.
@@ -45,9 +44,9 @@ fn ask_thrice<R: Wait>(rt: &R, alloc: Global, desk: &Desk, pass: &mut Pass) -> R
 {
     match ask_rounds(rt, alloc, desk, pass, &[TOTAL], 3, &OpenGate) {
         Err(AskFault::Memory) => {}
-        asked => return Ok(asked?),
+        asked => return stop(asked),
     }
-    Ok(ask_rounds(rt, alloc, desk, pass, &[TOTAL], 3, &OpenGate)?)
+    stop(ask_rounds(rt, alloc, desk, pass, &[TOTAL], 3, &OpenGate))
 }
 
 /// Prints the totals of the last three calls, where these are reports on connect time.
@@ -64,15 +63,6 @@ fn print_last_totals<R: Print>(rt: &R, book: &Book) -> Result<(), Stopped> {
     Ok(())
 }
 
-/// Posts an hour.
-fn post_hour<R: AllocGlobal + Wait>(rt: &R, desk: &Desk, pass: &mut Pass) -> Result<(), Stopped>
-    requires { pass.old.desk ≡ desk.now.id }
-    ensures { pass.new.desk ≡ pass.old.desk }
-{
-    post(rt, desk, pass, &hour(rt.alloc())?)?;
-    Ok(())
-}
-
 /// Prints what was fed.
 fn print_fed<R: Print + AllocGlobal + Wait>(
     rt: &R,
@@ -83,8 +73,7 @@ fn print_fed<R: Print + AllocGlobal + Wait>(
     ensures { pass.new.desk ≡ pass.old.desk }
 {
     let Fed { records, batches } = feed_makes(rt, rt.alloc(), desk, pass)?;
-    println!(rt; "fed: {records} records in {batches} batches")?;
-    Ok(())
+    stop(println!(rt; "fed: {records} records in {batches} batches"))
 }
 
 /// Prints how many calls there were, and how many questions are answered.
@@ -96,14 +85,14 @@ fn print_asked<R: Print + AllocGlobal + Wait>(
     requires { pass.old.desk ≡ desk.now.id }
     ensures { pass.new.desk ≡ pass.old.desk }
 {
-    println!(rt; "stored {}", desk.stored(pass))?;
+    print_stored(rt, desk, pass)?;
     let asked = ask_thrice(rt, rt.alloc(), desk, pass)?;
-    println!(rt; "asked: {asked} answers")?;
-    Ok(())
+    stop(println!(rt; "asked: {asked} answers"))
 }
 
-/// Prints what was fed and how many questions were answered after an hour was posted.
-fn print_calls<R: Print + AllocGlobal + Wait>(
+/// Prints what was fed and how many questions were answered after an hour was posted. A refused round
+/// leaves those before it, so the number of calls is not printed.
+pub(crate) fn print_calls<R: Print + AllocGlobal + Wait>(
     rt: &R,
     desk: &Desk,
     first: &mut Pass,
@@ -114,21 +103,13 @@ fn print_calls<R: Print + AllocGlobal + Wait>(
     ensures first { first.new.desk ≡ first.old.desk }
     ensures second { second.new.desk ≡ second.old.desk }
 {
-    post_hour(rt, desk, first)?;
+    post(rt, desk, first, hour(rt.alloc()))?;
     print_fed(rt, desk, second)?;
     print_asked(rt, desk, first)
 }
 
-/// Prints what was fed, how many questions were answered and what was answered. A refused round
-/// leaves those before it, so the number of calls is not printed.
-pub(crate) fn script<R: Print + AllocGlobal + Wait>(
-    rt: &R,
-    keys: RandomState,
-) -> Result<(), Stopped> {
-    let (desk, mut first, mut second) = open(rt.alloc(), keys)?;
-    let printed = print_calls(rt, &desk, &mut first, &mut second);
-    let closed = close(rt.alloc(), desk, first, second);
-    let book = printed.and(closed)?;
+/// Prints what was answered.
+pub(crate) fn print_book<R: Print>(rt: &R, book: Book) -> Result<(), Stopped> {
     let printed = print_last_totals(rt, &book);
     drop(book);
     printed

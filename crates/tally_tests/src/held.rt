@@ -70,8 +70,15 @@ pub(crate) fn copy_of_entries(
 
 /// Whether the entries are these.
 fn are_entries(entries: ProcEntries<'_>, others: &[ProcEntry]) -> bool {
-    entries.len() == others.len()
-        && (0..entries.len()).all(|place| entries.get(place) == others.get(place).copied())
+    if entries.len() != others.len() {
+        return false;
+    }
+    for (place, other) in others.iter().enumerate() {
+        if entries.get(place) != Some(*other) {
+            return false;
+        }
+    }
+    true
 }
 
 fn copy(alloc: Global, book: &Book) -> Result<Held, Memory> {
@@ -156,15 +163,21 @@ fn is_same_call(a: &Call, b: &Call) -> bool {
     }
 }
 
+fn are_same_calls(calls: &[Call], others: &[Call]) -> bool {
+    if calls.len() != others.len() {
+        return false;
+    }
+    for (call, other) in calls.iter().zip(others) {
+        if !is_same_call(call, other) {
+            return false;
+        }
+    }
+    true
+}
+
 /// Whether the book holds just this.
 pub(crate) fn holds(book: &Book, held: &Held) -> bool {
-    let calls = held.calls.as_slice();
     are_same(book.logins(), held.logins.as_slice())
         && are_entries(book.procs(), held.procs.as_slice())
-        && book.calls().len() == calls.len()
-        && book
-            .calls()
-            .iter()
-            .zip(calls)
-            .all(|(a, b)| is_same_call(a, b))
+        && are_same_calls(book.calls(), held.calls.as_slice())
 }

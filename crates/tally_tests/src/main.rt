@@ -23,6 +23,7 @@ mod watched;
 mod window;
 mod words;
 
+use crate::desk::Calls;
 use crate::stopped::Stopped;
 use std::hash::RandomState;
 use std::process::ExitCode;
@@ -30,23 +31,79 @@ use std::random::RandomSource;
 use std::sync::Wait;
 use std::thread::Threads;
 
-/// Runs the scripts, each of which prints what its calls answer.
+/// The scripts, each of which prints what its calls answer.
+#[derive(Clone, Copy)]
+enum Script {
+    Sessions,
+    Summary,
+    Entries,
+    Book,
+    Work,
+    Nights,
+    Sections,
+    Desk(Calls),
+    List,
+    Batches,
+    Input,
+    Output,
+    Runs,
+    Words,
+}
+
+/// The scripts in their order.
+const SCRIPTS: [Script; 16] = [
+    Script::Sessions,
+    Script::Summary,
+    Script::Entries,
+    Script::Book,
+    Script::Work,
+    Script::Nights,
+    Script::Sections,
+    Script::Desk(Calls::All),
+    Script::Desk(Calls::Feeds),
+    Script::List,
+    Script::Batches,
+    Script::Input,
+    Script::Output,
+    Script::Desk(Calls::Numbers),
+    Script::Runs,
+    Script::Words,
+];
+
+fn print<R: Print + AllocGlobal + Threads + Wait + Sync>(
+    rt: &R,
+    keys: RandomState,
+    script: Script,
+) -> Result<(), Stopped> {
+    match script {
+        Script::Sessions => sessions::script(rt, keys),
+        Script::Summary => summary::script(rt, keys),
+        Script::Entries => entries::script(rt, keys),
+        Script::Book => book::script(rt, keys),
+        Script::Work => reports::script(rt, keys),
+        Script::Nights => reports::nights(rt, keys),
+        Script::Sections => sections::script(rt, keys),
+        Script::Desk(calls) => desk::script(rt, keys, calls),
+        Script::List => quiet::print_list(rt),
+        Script::Batches => quiet::print_batches(rt),
+        Script::Input => quiet::print_input(rt),
+        Script::Output => quiet::print_output(rt),
+        Script::Runs => runs::script(rt, keys),
+        Script::Words => words::script(rt),
+    }
+}
+
+/// Runs the scripts.
 fn scripts<R: Print + AllocGlobal + RandomSource + Threads + Wait + Sync>(
     rt: &R,
 ) -> Result<(), Stopped> {
-    let keys = RandomState::new(rt).map_err(|_| Stopped::Refused("random bytes"))?;
-    sessions::script(rt, keys)?;
-    summary::script(rt, keys)?;
-    entries::script(rt, keys)?;
-    book::script(rt, keys)?;
-    reports::script(rt, keys)?;
-    reports::nights(rt, keys)?;
-    sections::script(rt, keys)?;
-    desk::script(rt, keys)?;
-    feeds::script(rt, keys)?;
-    quiet::script(rt, keys)?;
-    runs::script(rt, keys)?;
-    words::script(rt)
+    let Ok(keys) = RandomState::new(rt) else {
+        return Err(Stopped::Refused("random bytes"));
+    };
+    for script in SCRIPTS {
+        print(rt, keys, script)?;
+    }
+    Ok(())
 }
 
 fn main(rt: HostRuntime) -> ExitCode {

@@ -1,33 +1,22 @@
 //! Calls that take no memory, while each growth is refused.
 
-use crate::book::{hour, make_bytes, makes};
-use crate::desk::{close, open};
-use crate::stopped::Stopped;
+use crate::book::{hour, make_vec, makes};
+use crate::stopped::{Stopped, both, stop};
 use crate::window::{grant_growths, refuse_growths};
-use std::alloc::{AllocError, Global};
-use std::hash::RandomState;
+use std::alloc::Global;
 use std::sync::Arc;
 use tally_desk::{Bytes, Desk, Input, Pass};
 use tally_print::{Kept, Output};
 use tally_records::{Batch, List, Logins, Memory, PackedProc, comp};
 
-/// The bytes of three records, made again where memory was refused.
-fn bytes(alloc: Global) -> Result<Vec<u8>, AllocError> {
-    let made = match Vec::from_array(alloc, make_bytes()) {
-        Err(_) => Vec::from_array(alloc, make_bytes()),
-        made => made,
-    };
-    Ok(made?)
-}
-
 /// Prints what an empty list answers.
-fn print_list<R: Print + AllocGlobal>(rt: &R) -> Result<(), Stopped> {
+pub(crate) fn print_list<R: Print + AllocGlobal>(rt: &R) -> Result<(), Stopped> {
     refuse_growths(rt.alloc());
     let list: List<u64> = List::new(rt.alloc());
     let (count, first, slice) = (list.len(), list.get(0), list.as_slice().len());
+    drop(list);
     grant_growths(rt.alloc());
-    println!(rt; "list: {count} {slice} {}", first.is_some())?;
-    Ok(())
+    stop(println!(rt; "list: {count} {slice} {}", first.is_some()))
 }
 
 /// Prints what both batches answer, and the number that a word of acct(5) stands for.
@@ -35,19 +24,14 @@ fn print_both<R: Print + AllocGlobal>(rt: &R, hour: &Batch, makes: &Batch) -> Re
     refuse_growths(rt.alloc());
     let is_one_kind = hour.kind() == makes.kind();
     let (logins, procs) = (hour.len(), makes.len());
-    let logout = hour.login_at(1).map(|login| login.time);
-    let cpu = makes.proc_at(0).map(|process| process.user_ticks);
+    let records = (hour.login_at(1), makes.proc_at(0));
     let number = comp(0x2001);
     grant_growths(rt.alloc());
     println!(rt; "batches: {logins} {procs} {is_one_kind} {number}")?;
-    println!(rt; "records: {} {}", logout.unwrap_or(0), cpu.unwrap_or(0))?;
-    Ok(())
-}
-
-/// Prints what batches answer.
-fn print_batches<R: Print + AllocGlobal>(rt: &R) -> Result<(), Stopped> {
-    let hour = hour(rt.alloc())?;
-    print_both(rt, &hour, &makes(rt.alloc())?)
+    let (Some(logout), Some(run)) = records else {
+        return Err(Stopped::Changed("a batch"));
+    };
+    stop(println!(rt; "records: {} {}", logout.time, run.user_ticks))
 }
 
 /// The process records of a batch, shared again where memory was refused.
@@ -89,8 +73,8 @@ fn print_shared_logins<R: Print + AllocGlobal>(rt: &R, batch: &Batch) -> Result<
     refuse_growths(rt.alloc());
     let (count, are_texts) = (logins.len(), are_texts(&logins));
     grant_growths(rt.alloc());
-    println!(rt; "shared: {count} {are_texts}")?;
-    Ok(())
+    drop(logins);
+    stop(println!(rt; "shared: {count} {are_texts}"))
 }
 
 /// Prints how many process records a batch shares, and whether they are the same.
@@ -99,36 +83,53 @@ fn print_shared_procs<R: Print + AllocGlobal>(rt: &R, batch: &Batch) -> Result<(
         return Err(Stopped::Changed("a batch"));
     };
     refuse_growths(rt.alloc());
-    let are_same = procs.as_slice() == batch.packed_procs();
+    let (count, are_same) = (procs.len(), procs.as_slice() == batch.packed_procs());
     grant_growths(rt.alloc());
-    println!(rt; "shared: {} {are_same}", procs.len())?;
-    Ok(())
+    drop(procs);
+    stop(println!(rt; "shared: {count} {are_same}"))
 }
 
-/// Prints what batches share.
-fn print_shared<R: Print + AllocGlobal>(rt: &R) -> Result<(), Stopped> {
-    print_shared_logins(rt, &hour(rt.alloc())?)?;
-    print_shared_procs(rt, &makes(rt.alloc())?)
+/// Prints what two batches answer and share.
+fn print_two<R: Print + AllocGlobal>(rt: &R, hour: &Batch, makes: &Batch) -> Result<(), Stopped> {
+    print_both(rt, hour, makes)?;
+    print_shared_logins(rt, hour)?;
+    print_shared_procs(rt, makes)
 }
 
-/// Prints what an input and an output over memory answer.
-fn print_bytes<R: Print + AllocGlobal>(rt: &R) -> Result<(), Stopped> {
-    let bytes = bytes(rt.alloc())?;
+/// Prints what batches answer and share.
+pub(crate) fn print_batches<R: Print + AllocGlobal>(rt: &R) -> Result<(), Stopped> {
+    let batches = both(hour(rt.alloc()), makes(rt.alloc()))?;
+    let printed = print_two(rt, &batches.0, &batches.1);
+    drop(batches);
+    printed
+}
+
+/// Prints how many bytes an input over memory gives.
+pub(crate) fn print_input<R: Print + AllocGlobal>(rt: &R) -> Result<(), Stopped> {
+    let bytes = make_vec(rt.alloc())?;
     let mut buffer = [0; 100];
     refuse_growths(rt.alloc());
     let mut input = Bytes::new(bytes);
-    let (first, second) = (input.take(&mut buffer), input.take(&mut buffer));
+    let first = input.take(&mut buffer).unwrap_or(0);
+    let second = input.take(&mut buffer).unwrap_or(0);
+    drop(input);
+    grant_growths(rt.alloc());
+    stop(println!(rt; "input: {first} {second}"))
+}
+
+/// Prints what an output over memory answers to which nothing was written.
+pub(crate) fn print_output<R: Print + AllocGlobal>(rt: &R) -> Result<(), Stopped> {
+    refuse_growths(rt.alloc());
     let mut kept = Kept::new(rt.alloc());
     let is_finished = kept.finish().is_ok();
     let written = kept.bytes().len();
+    drop(kept);
     grant_growths(rt.alloc());
-    println!(rt; "input: {} {}", first.unwrap_or(0), second.unwrap_or(0))?;
-    println!(rt; "output: {written} {is_finished}")?;
-    Ok(())
+    stop(println!(rt; "output: {written} {is_finished}"))
 }
 
 /// Prints the numbers of a desk and its passes.
-fn print_desk<R: Print + AllocGlobal>(
+pub(crate) fn print_desk<R: Print + AllocGlobal>(
     rt: &R,
     desk: &Desk,
     first: &Pass,
@@ -137,24 +138,5 @@ fn print_desk<R: Print + AllocGlobal>(
     refuse_growths(rt.alloc());
     let (callers, least, greatest) = (desk.callers(), first.number(), second.number());
     grant_growths(rt.alloc());
-    println!(rt; "desk: {callers} callers, {least} to {greatest}")?;
-    Ok(())
-}
-
-/// Prints them for a desk that is opened and closed.
-fn print_numbers<R: Print + AllocGlobal>(rt: &R, keys: RandomState) -> Result<(), Stopped> {
-    let (desk, first, second) = open(rt.alloc(), keys)?;
-    let printed = print_desk(rt, &desk, &first, &second);
-    let closed = close(rt.alloc(), desk, first, second);
-    drop(printed.and(closed)?);
-    Ok(())
-}
-
-/// Prints what the calls answer.
-pub(crate) fn script<R: Print + AllocGlobal>(rt: &R, keys: RandomState) -> Result<(), Stopped> {
-    print_list(rt)?;
-    print_batches(rt)?;
-    print_shared(rt)?;
-    print_bytes(rt)?;
-    print_numbers(rt, keys)
+    stop(println!(rt; "desk: {callers} callers, {least} to {greatest}"))
 }

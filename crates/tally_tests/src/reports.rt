@@ -3,7 +3,7 @@ ghost use Rattle.std.specs.Prelude.{◌≡◌};
 
 use crate::book::{hour, makes, new_book, post, report};
 use crate::bytes::{login_record, logins, put, session};
-use crate::stopped::Stopped;
+use crate::stopped::{Stopped, stop};
 use std::alloc::Global;
 use std::hash::RandomState;
 use tally_book::{Book, Question};
@@ -62,12 +62,12 @@ fn reboots(alloc: Global) -> Result<Batch, Stopped> {
     put(&mut bytes, 768, &login_record(1, "~", "runlevel", 300));
     put(&mut bytes, 1152, &login_record(1, "~", "shutdown", 1000));
     put(&mut bytes, 1536, &login_record(2, "~", "reboot", 1100));
-    Ok(logins(alloc, &bytes)?)
+    stop(logins(alloc, &bytes))
 }
 
 /// A session over midnight.
 fn night(alloc: Global) -> Result<Batch, Stopped> {
-    Ok(logins(alloc, &session("ann", 84_600, 88_200))?)
+    stop(logins(alloc, &session("ann", 84_600, 88_200)))
 }
 
 /// Posts running times and a night.
@@ -75,8 +75,8 @@ pub(crate) fn post_nights(alloc: Global, book: &mut Book) -> Result<(), Stopped>
     requires { book.old.callers ≡ 2 }
     ensures { book.new.callers ≡ 2 }
 {
-    post(alloc, book, 0, &reboots(alloc)?)?;
-    post(alloc, book, 1, &night(alloc)?)?;
+    post(alloc, book, 0, reboots(alloc))?;
+    post(alloc, book, 1, night(alloc))?;
     Ok(())
 }
 
@@ -85,8 +85,8 @@ fn post_work(alloc: Global, book: &mut Book) -> Result<(), Stopped>
     requires { book.old.callers ≡ 2 }
     ensures { book.new.callers ≡ 2 }
 {
-    post(alloc, book, 0, &hour(alloc)?)?;
-    post(alloc, book, 1, &makes(alloc)?)?;
+    post(alloc, book, 0, hour(alloc))?;
+    post(alloc, book, 1, makes(alloc))?;
     Ok(())
 }
 

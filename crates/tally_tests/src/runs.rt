@@ -2,11 +2,10 @@
 ghost use Rattle.std.specs.Prelude.{◌≡◌, IfOk};
 
 use crate::bytes::{login_record, put};
-use crate::stopped::Stopped;
-use crate::watched::Watched;
+use crate::stopped::{Stopped, after};
+use crate::watched::{Watched, print_watched};
 use std::alloc::{AllocError, Global};
 use std::hash::RandomState;
-use std::io::{self, Write};
 use std::sync::Wait;
 use std::thread::Threads;
 use tally_book::AskFault;
@@ -47,28 +46,28 @@ fn two_files(alloc: Global) -> Result<Vec<Source<Bytes>>, AllocError> {
     Ok(files)
 }
 
-/// Runs once over the files, which are made again where memory was refused.
+/// The files, made again where memory was refused.
+fn files(alloc: Global) -> Result<Vec<Source<Bytes>>, AllocError> {
+    match two_files(alloc) {
+        Err(_) => two_files(alloc),
+        made => made,
+    }
+}
+
+/// Runs once over the files.
 fn run_once<R: Threads + Wait + Sync>(
     rt: &R,
     alloc: Global,
     keys: RandomState,
-) -> Result<(Result<(), RunFault>, Watched), AllocError> {
-    let files = match two_files(alloc) {
-        Err(_) => two_files(alloc)?,
-        Ok(files) => files,
-    };
-    let mut out = Watched::new(alloc);
-    let outcome = run(
-        rt,
-        alloc,
-        keys,
-        &Clock::utc(alloc),
-        &JOB,
-        files,
-        &OpenGate,
-        &mut out,
-    );
-    Ok((outcome, out))
+    out: &mut Watched,
+) -> Result<(), RunFault>
+    requires { out.old.kept.failures ≡ 0 }
+{
+    let files = files(alloc)?;
+    let clock = Clock::utc(alloc);
+    let outcome = run(rt, alloc, keys, &clock, &JOB, files, &OpenGate, out);
+    drop(clock);
+    outcome
 }
 
 /// Whether a run may end so that was refused memory, having written this part of its output.
@@ -89,23 +88,59 @@ fn is_refusal(fault: RunFault, out: &Watched, whole: &Watched) -> bool {
     }
 }
 
-/// Prints what a run writes, begun again where memory was refused.
+/// Sees that a run that was refused memory ended as it may, having written a first part of what it wrote when it was
+/// begun again.
+fn see_refusal(
+    again: Result<(), RunFault>,
+    fault: RunFault,
+    part: &Watched,
+    whole: &Watched,
+) -> Result<(), Stopped> {
+    if again.is_err() {
+        return Err(Stopped::Memory);
+    }
+    if is_refusal(fault, part, whole) {
+        Ok(())
+    } else {
+        Err(Stopped::Refused("run"))
+    }
+}
+
+/// What a run writes that is begun again, of which this part was written before memory was refused.
+fn text_after<R: Threads + Wait + Sync>(
+    rt: &R,
+    alloc: Global,
+    keys: RandomState,
+    fault: RunFault,
+    part: &Watched,
+) -> Result<Watched, Stopped> {
+    let mut whole = Watched::new(alloc);
+    let again = run_once(rt, alloc, keys, &mut whole);
+    let seen = see_refusal(again, fault, part, &whole);
+    after(seen, whole)
+}
+
+/// What a run writes, begun again where memory was refused.
+fn text<R: Threads + Wait + Sync>(
+    rt: &R,
+    alloc: Global,
+    keys: RandomState,
+) -> Result<Watched, Stopped> {
+    let mut first = Watched::new(alloc);
+    match run_once(rt, alloc, keys, &mut first) {
+        Ok(()) => Ok(first),
+        Err(fault) => {
+            let whole = text_after(rt, alloc, keys, fault, &first);
+            drop(first);
+            whole
+        }
+    }
+}
+
+/// Prints what a run writes.
 pub(crate) fn script<R: Print + AllocGlobal + Threads + Wait + Sync>(
     rt: &R,
     keys: RandomState,
 ) -> Result<(), Stopped> {
-    let (first, out) = run_once(rt, rt.alloc(), keys)?;
-    let Err(fault) = first else {
-        io::writer(rt).write_all(out.kept.bytes())?;
-        return Ok(());
-    };
-    let (second, whole) = run_once(rt, rt.alloc(), keys)?;
-    if second.is_err() {
-        return Err(Stopped::Memory);
-    }
-    if !is_refusal(fault, &out, &whole) {
-        return Err(Stopped::Refused("run"));
-    }
-    io::writer(rt).write_all(whole.kept.bytes())?;
-    Ok(())
+    print_watched(rt, text(rt, rt.alloc(), keys)?)
 }

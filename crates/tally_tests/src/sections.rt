@@ -5,7 +5,7 @@ ghost use Rattle.tally_print.specs.Section.{NamesHostBelow, answer_in};
 
 use crate::book::new_book;
 use crate::reports::post_nights;
-use crate::stopped::{Stopped, after};
+use crate::stopped::{Stopped, after, stop};
 use crate::watched::{Watched, print_watched, see_part};
 use crate::window::{grant_growths, refuse_growths};
 use std::alloc::Global;
@@ -23,17 +23,27 @@ fn book(alloc: Global, keys: RandomState) -> Result<Book, Stopped>
 {
     let mut book = new_book(alloc, keys)?;
     let posted = post_nights(alloc, &mut book);
-    Ok(after(posted, book)?)
+    after(posted, book)
 }
 
-/// Its sessions, of a book that is made again where memory was refused.
+/// Its sessions.
+fn sessions_once<R: AllocGlobal + Threads + Sync>(
+    rt: &R,
+    keys: RandomState,
+) -> Result<Sessions, Stopped>
+    ensures { IfOk result (λ s. s.hosts ≡ 2) }
+{
+    stop(book(rt.alloc(), keys)?.into_sessions(rt, rt.alloc(), 2))
+}
+
+/// The same, of a book that is made again where memory was refused.
 fn sessions<R: AllocGlobal + Threads + Sync>(rt: &R, keys: RandomState) -> Result<Sessions, Stopped>
     ensures { IfOk result (λ s. s.hosts ≡ 2) }
 {
-    if let Ok(sessions) = book(rt.alloc(), keys)?.into_sessions(rt, rt.alloc(), 2) {
-        return Ok(sessions);
+    match sessions_once(rt, keys) {
+        Err(Stopped::Memory) => sessions_once(rt, keys),
+        made => made,
     }
-    Ok(book(rt.alloc(), keys)?.into_sessions(rt, rt.alloc(), 2)?)
 }
 
 /// The stays of a host, asked for again where memory was refused.
@@ -74,14 +84,14 @@ fn print_count<R: Print + AllocGlobal>(
 {
     let stays = stays(rt.alloc(), sessions, host)?;
     refuse_growths(rt.alloc());
-    let are_same = are_stays(sessions, host, stays.as_slice());
+    let (count, are_same) = (stays.len(), are_stays(sessions, host, stays.as_slice()));
     grant_growths(rt.alloc());
-    println!(rt; "stays: {} {are_same}", stays.len())?;
-    Ok(())
+    drop(stays);
+    stop(println!(rt; "stays: {count} {are_same}"))
 }
 
-/// Prints the sections as lines or as one table.
-fn print(
+/// Writes sections as lines or as one table.
+fn put_sections(
     alloc: Global,
     sessions: &Sessions,
     sections: &[Section],
@@ -93,69 +103,24 @@ fn print(
     requires days { All (λ s. HasDays (answer_in sessions.now.entries s)) sections.now }
 {
     let clock = Clock::utc(alloc);
-    if is_table {
+    let printed = if is_table {
         print_section_table(alloc, &clock, sessions, Table::Stays, sections, 0, out)
     } else {
         print_all_sections(alloc, &clock, sessions, sections, 0, out, None)
-    }
+    };
+    drop(clock);
+    printed
 }
 
-/// Their text, of which a part was printed before memory was refused. Refused again, either fault is want of memory.
-fn text_after(
+/// Writes the stays of both hosts, of one only the latest, and a total.
+fn put(
     alloc: Global,
     sessions: &Sessions,
-    sections: &[Section],
     is_table: bool,
-    fault: PrintFault,
-    part: &Watched,
-) -> Result<Watched, Stopped>
-    requires hosts { All (NamesHostBelow sessions.now.hosts) sections.now }
-    requires days { All (λ s. HasDays (answer_in sessions.now.entries s)) sections.now }
-{
-    let mut whole = Watched::new(alloc);
-    match print(alloc, sessions, sections, is_table, &mut whole) {
-        Ok(()) => after(see_part(fault, part, &whole), whole),
-        Err(_) => Err(Stopped::Memory),
-    }
-}
-
-/// Their text, printed again where memory was refused.
-fn text(
-    alloc: Global,
-    sessions: &Sessions,
-    sections: &[Section],
-    is_table: bool,
-) -> Result<Watched, Stopped>
-    requires hosts { All (NamesHostBelow sessions.now.hosts) sections.now }
-    requires days { All (λ s. HasDays (answer_in sessions.now.entries s)) sections.now }
-{
-    let mut first = Watched::new(alloc);
-    match print(alloc, sessions, sections, is_table, &mut first) {
-        Ok(()) => Ok(first),
-        Err(fault) => text_after(alloc, sessions, sections, is_table, fault, &first),
-    }
-}
-
-/// Prints the sections.
-fn print_text<R: Print + AllocGlobal>(
-    rt: &R,
-    sessions: &Sessions,
-    sections: &[Section],
-    is_table: bool,
-) -> Result<(), Stopped>
-    requires hosts { All (NamesHostBelow sessions.now.hosts) sections.now }
-    requires days { All (λ s. HasDays (answer_in sessions.now.entries s)) sections.now }
-{
-    print_watched(rt, &text(rt.alloc(), sessions, sections, is_table)?)
-}
-
-/// Prints the stays of both hosts, of one only the latest, and a total.
-fn print_sections<R: Print + AllocGlobal>(
-    rt: &R,
-    sessions: &Sessions,
-    is_table: bool,
-) -> Result<(), Stopped>
-    requires { sessions.now.hosts ≡ 2 }
+    out: &mut Watched,
+) -> Result<(), PrintFault>
+    requires failures { out.old.kept.failures ≡ 0 }
+    requires hosts { sessions.now.hosts ≡ 2 }
 {
     let sections = [
         Section::Stays {
@@ -169,21 +134,57 @@ fn print_sections<R: Print + AllocGlobal>(
             until: None,
         },
         Section::Answered(Answer::Connect {
-            rows: List::new(rt.alloc()),
+            rows: List::new(alloc),
             total: 3600,
         }),
     ];
-    print_text(rt, sessions, &sections, is_table)
+    let printed = put_sections(alloc, sessions, &sections, is_table, out);
+    drop(sections);
+    printed
+}
+
+/// Their text, of which a part was printed before memory was refused.
+fn text_after(
+    alloc: Global,
+    sessions: &Sessions,
+    is_table: bool,
+    fault: PrintFault,
+    part: &Watched,
+) -> Result<Watched, Stopped>
+    requires { sessions.now.hosts ≡ 2 }
+{
+    let mut whole = Watched::new(alloc);
+    let again = put(alloc, sessions, is_table, &mut whole);
+    let seen = see_part(again, fault, part, &whole);
+    after(seen, whole)
+}
+
+/// Their text, printed again where memory was refused.
+fn text(alloc: Global, sessions: &Sessions, is_table: bool) -> Result<Watched, Stopped>
+    requires { sessions.now.hosts ≡ 2 }
+{
+    let mut first = Watched::new(alloc);
+    match put(alloc, sessions, is_table, &mut first) {
+        Ok(()) => Ok(first),
+        Err(fault) => {
+            let whole = text_after(alloc, sessions, is_table, fault, &first);
+            drop(first);
+            whole
+        }
+    }
 }
 
 /// Prints what the sessions have, as sections too.
 fn print_all<R: Print + AllocGlobal>(rt: &R, sessions: &Sessions) -> Result<(), Stopped>
     requires { sessions.now.hosts ≡ 2 }
 {
-    print_count(rt, sessions, 0)?;
-    print_count(rt, sessions, 1)?;
-    print_sections(rt, sessions, false)?;
-    print_sections(rt, sessions, true)
+    for host in 0..2 {
+        print_count(rt, sessions, host)?;
+    }
+    for is_table in [false, true] {
+        print_watched(rt, text(rt.alloc(), sessions, is_table)?)?;
+    }
+    Ok(())
 }
 
 /// Prints what the sessions of a book have.
@@ -192,5 +193,7 @@ pub(crate) fn script<R: Print + AllocGlobal + Threads + Sync>(
     keys: RandomState,
 ) -> Result<(), Stopped> {
     let sessions = sessions(rt, keys)?;
-    print_all(rt, &sessions)
+    let printed = print_all(rt, &sessions);
+    drop(sessions);
+    printed
 }

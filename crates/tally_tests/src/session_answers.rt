@@ -1,6 +1,7 @@
 //! All that sessions of two hosts answer, to be compared.
 ghost use Rattle.std.specs.Prelude.{◌≡◌};
 
+use crate::stopped::both;
 use std::alloc::Global;
 use tally_clock::Clock;
 use tally_records::{List, Memory, Name};
@@ -44,14 +45,6 @@ pub(crate) fn seen_of(sessions: &Sessions) -> Seen
         of_ann: sessions.connect(&name("ann"), None),
         first: sessions.first(1),
     }
-}
-
-/// Both, where memory was refused to neither.
-fn both<A: Drop, B: Drop>(
-    first: Result<A, Memory>,
-    second: Result<B, Memory>,
-) -> Result<(A, B), Memory> {
-    Ok((first?, second?))
 }
 
 fn ask_all(alloc: Global, sessions: &Sessions) -> Result<Answers, Memory>

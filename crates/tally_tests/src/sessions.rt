@@ -5,7 +5,7 @@ ghost use Rattle.tally_records.specs.Records.{IsLogins, logins_in, record_count}
 use crate::bytes::{login_record, logins, put, session};
 use crate::days;
 use crate::session_answers::{Answers, Seen, answers_of, are_same, seen_of};
-use crate::stopped::Stopped;
+use crate::stopped::{Stopped, see, stop};
 use crate::window::{grant_growths, refuse_growths};
 use std::alloc::Global;
 use std::hash::RandomState;
@@ -34,16 +34,6 @@ fn are_still(alloc: Global, sessions: &Sessions, before: &Answers) -> Result<boo
     Ok(are_still)
 }
 
-/// Sees that a refused call left the sessions as they were.
-fn see_unchanged(alloc: Global, sessions: &Sessions, before: &Answers) -> Result<(), Stopped>
-    requires { sessions.now.hosts ≡ 2 }
-{
-    if are_still(alloc, sessions, before)? {
-        return Ok(());
-    }
-    Err(Stopped::Changed("sessions"))
-}
-
 /// Sees that a call left the sessions as they were, where it was refused.
 fn see_answered(
     alloc: Global,
@@ -53,13 +43,13 @@ fn see_answered(
 ) -> Result<(), Stopped>
     requires { sessions.now.hosts ≡ 2 }
 {
-    let seen = if is_answered {
-        Ok(())
+    let are_kept = if is_answered {
+        Ok(true)
     } else {
-        see_unchanged(alloc, sessions, &before)
+        are_still(alloc, sessions, &before)
     };
     drop(before);
-    seen
+    see(are_kept?, "sessions")
 }
 
 /// Makes sessions ready for a batch, and again where memory was refused.
@@ -149,22 +139,39 @@ pub(crate) fn print_both<R: Print>(rt: &R, times: &[DayUserTime]) -> Result<(), 
     Ok(())
 }
 
+/// Adds a batch that was made.
+fn add_made(
+    alloc: Global,
+    sessions: &mut Sessions,
+    host: u32,
+    made: Result<Batch, BatchFault>,
+) -> Result<Seen, Stopped>
+    requires hosts { sessions.old.hosts ≡ 2 }
+    requires host { host < 2 }
+    requires kind { IfOk made IsLogins }
+    ensures { sessions.new.hosts ≡ 2 }
+{
+    let batch = made?;
+    let added = add(alloc, sessions, host, &batch);
+    drop(batch);
+    added
+}
+
 /// Adds a batch under each host.
 fn add_both(alloc: Global, sessions: &mut Sessions) -> Result<Seen, Stopped>
     requires { sessions.old.hosts ≡ 2 }
     ensures { sessions.new.hosts ≡ 2 }
 {
-    add(alloc, sessions, 0, &hour(alloc)?)?;
-    add(alloc, sessions, 1, &three(alloc)?)
+    add_made(alloc, sessions, 0, hour(alloc))?;
+    add_made(alloc, sessions, 1, three(alloc))
 }
 
 /// Prints what takes no memory to ask.
 fn print_seen<R: Print>(rt: &R, seen: Seen) -> Result<(), Stopped> {
-    println!(rt;
+    stop(println!(rt;
         "sessions: {} entries, {} and {} seconds",
         seen.entries, seen.total, seen.of_ann
-    )?;
-    Ok(())
+    ))
 }
 
 /// Prints the lists among the answers.
@@ -197,5 +204,7 @@ fn print_all<R: Print + AllocGlobal>(rt: &R, sessions: &mut Sessions) -> Result<
 /// Prints what the sessions answer once both batches are added.
 pub(crate) fn script<R: Print + AllocGlobal>(rt: &R, keys: RandomState) -> Result<(), Stopped> {
     let mut sessions = new_sessions(rt.alloc(), keys)?;
-    print_all(rt, &mut sessions)
+    let printed = print_all(rt, &mut sessions);
+    drop(sessions);
+    printed
 }

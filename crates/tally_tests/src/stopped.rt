@@ -1,4 +1,4 @@
-ghost use Rattle.std.specs.Prelude.{◌≡◌, IfOk};
+ghost use Rattle.std.specs.Prelude.{◌≡◌, IfOk, Ok};
 
 use std::alloc::AllocError;
 use std::io;
@@ -6,7 +6,6 @@ use tally_book::{AskFault, PostFault};
 use tally_cli::LineFault;
 use tally_clock::RuleFault;
 use tally_desk::{FeedFault, OpenFault};
-use tally_print::PrintFault;
 use tally_records::{BatchFault, Memory};
 
 /// Why a script stopped.
@@ -114,19 +113,37 @@ impl From<LineFault> for Stopped {
     }
 }
 
-impl From<PrintFault> for Stopped {
-    fn from(fault: PrintFault) -> Stopped {
-        match fault {
-            PrintFault::Memory => Stopped::Memory,
-            PrintFault::Write => Stopped::Write,
-        }
+/// What a call answered, with its fault as a reason to stop.
+pub(crate) fn stop<T, E: Into<Stopped>>(answered: Result<T, E>) -> Result<T, Stopped>
+    ensures { IfOk result (λ value. answered ≡ Ok value) }
+{
+    match answered {
+        Ok(value) => Ok(value),
+        Err(fault) => Err(fault.into()),
+    }
+}
+
+/// Sees that a refused call left this as it was.
+pub(crate) fn see(is_same: bool, what: &'static str) -> Result<(), Stopped> {
+    if is_same {
+        Ok(())
+    } else {
+        Err(Stopped::Changed(what))
     }
 }
 
 /// The value, where what was done with it went well.
-pub(crate) fn after<T: Drop>(done: Result<(), Stopped>, value: T) -> Result<T, Stopped>
+pub(crate) fn after<T: Drop, E: Drop>(done: Result<(), E>, value: T) -> Result<T, E>
     ensures { IfOk result (λ same. same ≡ value) }
 {
     done?;
     Ok(value)
+}
+
+/// Both, where neither call failed.
+pub(crate) fn both<A: Drop, B: Drop, E: Drop>(
+    first: Result<A, E>,
+    second: Result<B, E>,
+) -> Result<(A, B), E> {
+    Ok((first?, second?))
 }

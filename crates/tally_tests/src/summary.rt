@@ -5,7 +5,7 @@ ghost use Rattle.tally_records.specs.Records.{IsProcs, procs_in, record_count};
 use crate::book::make_bytes;
 use crate::bytes::procs;
 use crate::held::copy_of_entries;
-use crate::stopped::{Stopped, after};
+use crate::stopped::{Stopped, both, see, stop};
 use crate::window::{grant_growths, refuse_growths};
 use std::alloc::Global;
 use std::hash::RandomState;
@@ -26,12 +26,21 @@ struct Answers {
 }
 
 fn ask_all(alloc: Global, summary: &Summary) -> Result<Answers, Memory> {
+    let commands = both(
+        summary.by_command(alloc, Order::Cpu, false, false),
+        summary.by_command(alloc, Order::Calls, true, true),
+    );
+    let others = both(
+        copy_of_entries(alloc, summary.entries()),
+        summary.by_user(alloc, Order::Cpu, false),
+    );
+    let ((by_cpu, by_calls), (entries, users)) = both(commands, others)?;
     Ok(Answers {
-        entries: copy_of_entries(alloc, summary.entries())?,
+        entries,
         total: summary.total(),
-        by_cpu: summary.by_command(alloc, Order::Cpu, false, false)?,
-        by_calls: summary.by_command(alloc, Order::Calls, true, true)?,
-        users: summary.by_user(alloc, Order::Cpu, false)?,
+        by_cpu,
+        by_calls,
+        users,
     })
 }
 
@@ -60,14 +69,6 @@ fn are_still(alloc: Global, summary: &Summary, before: &Answers) -> Result<bool,
     Ok(are_still)
 }
 
-/// Sees that a refused call left the summary as it was.
-fn see_unchanged(alloc: Global, summary: &Summary, before: &Answers) -> Result<(), Stopped> {
-    if are_still(alloc, summary, before)? {
-        return Ok(());
-    }
-    Err(Stopped::Changed("a summary"))
-}
-
 /// Sees that a call left the summary as it was, where it was refused.
 fn see_answered(
     alloc: Global,
@@ -75,13 +76,13 @@ fn see_answered(
     before: Answers,
     is_answered: bool,
 ) -> Result<(), Stopped> {
-    let seen = if is_answered {
-        Ok(())
+    let are_kept = if is_answered {
+        Ok(true)
     } else {
-        see_unchanged(alloc, summary, &before)
+        are_still(alloc, summary, &before)
     };
     drop(before);
-    seen
+    see(are_kept?, "a summary")
 }
 
 /// Makes a summary ready for a batch, and again where memory was refused.
@@ -135,17 +136,23 @@ fn print_users<R: Print>(rt: &R, rows: &[UidRow]) -> Result<(), Stopped> {
 /// How many entries a summary hands out.
 fn count_given(summary: Summary) -> usize {
     let entries = summary.into_entries();
-    entries.len()
+    let count = entries.len();
+    drop(entries);
+    count
 }
 
-/// Prints how many entries the summary hands out, which takes no memory.
-fn print_entries<R: Print + AllocGlobal>(rt: &R, summary: Summary) -> Result<(), Stopped> {
+/// Prints how many entries the summary hands out after a script, which takes no memory.
+fn print_entries<R: Print + AllocGlobal>(
+    rt: &R,
+    printed: Result<(), Stopped>,
+    summary: Summary,
+) -> Result<(), Stopped> {
     let alloc = rt.alloc();
     refuse_growths(alloc);
     let count = count_given(summary);
     grant_growths(alloc);
-    println!(rt; "summary: {count} entries handed out")?;
-    Ok(())
+    printed?;
+    stop(println!(rt; "summary: {count} entries handed out"))
 }
 
 /// Prints the lists among the answers.
@@ -170,15 +177,19 @@ fn print_growth<R: Print + AllocGlobal>(
 ) -> Result<(), Stopped>
     requires { IsProcs batch.now }
 {
-    println!(rt; "summary: {} entries", add(rt.alloc(), summary, 0, batch)?)?;
-    println!(rt; "summary: {} entries", add(rt.alloc(), summary, 1, batch)?)?;
+    for host in 0..2 {
+        let entries = add(rt.alloc(), summary, host, batch)?;
+        println!(rt; "summary: {entries} entries")?;
+    }
     Ok(())
 }
 
 /// Adds both batches, and prints what the summary answers then.
 fn print_all<R: Print + AllocGlobal>(rt: &R, summary: &mut Summary) -> Result<(), Stopped> {
     let makes = procs(rt.alloc(), &make_bytes())?;
-    print_growth(rt, summary, &makes)?;
+    let printed = print_growth(rt, summary, &makes);
+    drop(makes);
+    printed?;
     print_answers(rt, summary)
 }
 
@@ -186,5 +197,5 @@ fn print_all<R: Print + AllocGlobal>(rt: &R, summary: &mut Summary) -> Result<()
 pub(crate) fn script<R: Print + AllocGlobal>(rt: &R, keys: RandomState) -> Result<(), Stopped> {
     let mut summary = Summary::new(rt.alloc(), keys);
     let printed = print_all(rt, &mut summary);
-    print_entries(rt, after(printed, summary)?)
+    print_entries(rt, printed, summary)
 }

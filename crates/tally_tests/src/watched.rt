@@ -1,7 +1,7 @@
 //! An output over memory that shows whether one of its own growths was refused.
 ghost use Rattle.std.specs.Prelude.{◌≡◌};
 
-use crate::stopped::Stopped;
+use crate::stopped::{Stopped, stop};
 use std::alloc::Global;
 use std::io::{self, Write};
 use tally_print::{Kept, Output, OutputFault, PrintFault};
@@ -25,8 +25,16 @@ impl Watched {
 }
 
 /// Sees that a print that was refused memory, by the printer or by its output, which the fault tells apart, wrote a
-/// first part of the text.
-pub(crate) fn see_part(fault: PrintFault, part: &Watched, whole: &Watched) -> Result<(), Stopped> {
+/// first part of the text that was printed again. Refused again, either fault is want of memory.
+pub(crate) fn see_part(
+    again: Result<(), PrintFault>,
+    fault: PrintFault,
+    part: &Watched,
+    whole: &Watched,
+) -> Result<(), Stopped> {
+    if again.is_err() {
+        return Err(Stopped::Memory);
+    }
     if (fault == PrintFault::Write) != part.failed {
         return Err(Stopped::Changed("a fault of the output"));
     }
@@ -37,9 +45,10 @@ pub(crate) fn see_part(fault: PrintFault, part: &Watched, whole: &Watched) -> Re
 }
 
 /// Prints what was written.
-pub(crate) fn print_watched<R: Print>(rt: &R, written: &Watched) -> Result<(), Stopped> {
-    io::writer(rt).write_all(written.kept.bytes())?;
-    Ok(())
+pub(crate) fn print_watched<R: Print>(rt: &R, written: Watched) -> Result<(), Stopped> {
+    let printed = io::writer(rt).write_all(written.kept.bytes());
+    drop(written);
+    stop(printed)
 }
 
 impl Output for Watched {

@@ -1,8 +1,15 @@
 //! Command lines: one that is good, one with a file without its prefix, and one with a number out of range.
 
-use crate::stopped::Stopped;
+use crate::stopped::{Stopped, stop};
 use std::alloc::{AllocError, Global};
 use tally_cli::{Line, LineFault, file_word, job_of};
+
+/// The command lines.
+const LINES: [&[&str]; 3] = [
+    &["ac", "-p", "--feeders", "2", "f", "g"],
+    &["all", "w:f", "x:g"],
+    &["last", "--feeders", "0", "f"],
+];
 
 fn words_of(alloc: Global, given: &[&str]) -> Result<Vec<String>, AllocError> {
     let mut words = Vec::new(alloc);
@@ -35,8 +42,9 @@ fn print_prefix<R: Print + AllocGlobal>(
     index: usize,
 ) -> Result<(), Stopped> {
     let found = word(rt.alloc(), words, index)?;
-    println!(rt; "words: no prefix in {} at {index}", found.as_str())?;
-    Ok(())
+    let printed = println!(rt; "words: no prefix in {} at {index}", found.as_str());
+    drop(found);
+    stop(printed)
 }
 
 /// Prints what the words were read as.
@@ -52,34 +60,37 @@ fn print_read<R: Print + AllocGlobal>(
                 zone: _,
                 files,
             },
-        ) => { println!(rt; "words: {} files, {} feeders", files.len(), job.feeders)? }
-        Ok(Line::Help { text: _ }) => println!(rt; "words: help")?,
-        Err(LineFault::Usage { text: _ }) => println!(rt; "words: refused")?,
-        Err(LineFault::Prefix { index }) => print_prefix(rt, words, *index)?,
-        Err(LineFault::Memory) => return Err(Stopped::Memory),
+        ) => stop(println!(rt; "words: {} files, {} feeders", files.len(), job.feeders)),
+        Ok(Line::Help { text: _ }) => stop(println!(rt; "words: help")),
+        Err(LineFault::Usage { text: _ }) => stop(println!(rt; "words: refused")),
+        Err(LineFault::Prefix { index }) => print_prefix(rt, words, *index),
+        Err(LineFault::Memory) => Err(Stopped::Memory),
     }
-    Ok(())
 }
 
 /// Prints what the words are read as, read again where memory was refused.
-fn print_line<R: Print + AllocGlobal>(rt: &R, words: &[String]) -> Result<(), Stopped> {
+fn print_words<R: Print + AllocGlobal>(rt: &R, words: &[String]) -> Result<(), Stopped> {
     let read = match job_of(rt.alloc(), words) {
         Err(LineFault::Memory) => job_of(rt.alloc(), words),
         read => read,
     };
-    print_read(rt, words, &read)
+    let printed = print_read(rt, words, &read);
+    drop(read);
+    printed
+}
+
+/// Prints what a command line is read as.
+fn print_line<R: Print + AllocGlobal>(rt: &R, given: &[&str]) -> Result<(), Stopped> {
+    let words = words(rt.alloc(), given)?;
+    let printed = print_words(rt, words.as_slice());
+    drop(words);
+    printed
 }
 
 /// Prints what each command line is read as.
 pub(crate) fn script<R: Print + AllocGlobal>(rt: &R) -> Result<(), Stopped> {
-    let alloc = rt.alloc();
-    print_line(
-        rt,
-        words(alloc, &["ac", "-p", "--feeders", "2", "f", "g"])?.as_slice(),
-    )?;
-    print_line(rt, words(alloc, &["all", "w:f", "x:g"])?.as_slice())?;
-    print_line(
-        rt,
-        words(alloc, &["last", "--feeders", "0", "f"])?.as_slice(),
-    )
+    for given in LINES {
+        print_line(rt, given)?;
+    }
+    Ok(())
 }
