@@ -1,10 +1,10 @@
 //! Worked examples, and each growth refused in turn.
+use crate::equal::expect_equal;
 use std::alloc::Global;
 use std::hash::RandomState;
 use std::process::Abort;
 use std::random::RandomSource;
-use std::test::Fail;
-use tally_records::{Batch, BatchFault, Comm, Kind, List, Memory, PROC_SIZE};
+use tally_records::{Batch, Comm, Kind, List, PROC_SIZE};
 use tally_usage::{CommandRow, ENTRY_LIMIT, Order, ProcList, Summary, UidRow, Usage};
 
 mod commands;
@@ -50,33 +50,29 @@ fn makes() -> [[u8; PROC_SIZE]; 3] {
 }
 
 /// The batch of these records, tried twice.
-fn batch_of(alloc: Global, records: &[[u8; PROC_SIZE]]) -> Result<Batch, BatchFault> {
-    match Batch::procs(alloc, records.as_flattened()) {
-        Err(BatchFault::Memory) => Batch::procs(alloc, records.as_flattened()),
-        batch => batch,
+fn batch_of(rt: &impl Abort, alloc: Global, records: &[[u8; PROC_SIZE]]) -> Batch {
+    let bytes = records.as_flattened();
+    match Batch::procs(alloc, bytes) {
+        Ok(batch) => batch,
+        Err(_) => Batch::procs(alloc, bytes).expect(rt, "process records"),
     }
 }
 
 /// Posts a batch of the host. Where `prepare` is refused once, the entries and the total are as
 /// before, and the same `prepare` then succeeds.
-fn post_batch(
-    rt: &impl Abort,
-    summary: &mut Summary,
-    host: u32,
-    batch: &Batch,
-) -> Result<(), Fail> {
+fn post_batch(rt: &impl Abort, summary: &mut Summary, host: u32, batch: &Batch) {
     let Kind::Proc = batch.kind() else {
-        return Ok(());
+        panic!(rt; "process records")
     };
     let stored = summary.entries().len();
     let total = summary.total();
     assert!(rt; stored + batch.len() <= ENTRY_LIMIT);
     if summary.prepare(host, batch).is_err() {
-        assert!(rt; summary.entries().len() == stored && summary.total() == total);
-        summary.prepare(host, batch)?;
+        expect_equal(rt, &summary.entries().len(), &stored);
+        expect_equal(rt, &summary.total(), &total);
+        summary.prepare(host, batch).expect(rt, "memory");
     }
     summary.add(host, batch);
-    Ok(())
 }
 
 /// Posts the records as a batch of the host.
@@ -86,35 +82,44 @@ fn post(
     summary: &mut Summary,
     host: u32,
     records: &[[u8; PROC_SIZE]],
-) -> Result<(), Fail> {
-    let batch = batch_of(alloc, records)?;
-    post_batch(rt, summary, host, &batch)
+) {
+    let batch = batch_of(rt, alloc, records);
+    post_batch(rt, summary, host, &batch);
+    drop(batch);
 }
 
 /// The rows by command, tried twice.
 fn commands_of(
+    rt: &impl Abort,
     alloc: Global,
     summary: &Summary,
     order: Order,
     flags: [bool; 2],
-) -> Result<List<CommandRow>, Memory> {
+) -> List<CommandRow> {
     let [all, reverse] = flags;
     match summary.by_command(alloc, order, all, reverse) {
-        Ok(rows) => Ok(rows),
-        Err(_) => summary.by_command(alloc, order, all, reverse),
+        Ok(rows) => rows,
+        Err(_) => {
+            let again = summary.by_command(alloc, order, all, reverse);
+            again.expect(rt, "memory")
+        }
     }
 }
 
 /// The rows by user, tried twice.
 fn users_of(
+    rt: &impl Abort,
     alloc: Global,
     summary: &Summary,
     order: Order,
     reverse: bool,
-) -> Result<List<UidRow>, Memory> {
+) -> List<UidRow> {
     match summary.by_user(alloc, order, reverse) {
-        Ok(rows) => Ok(rows),
-        Err(_) => summary.by_user(alloc, order, reverse),
+        Ok(rows) => rows,
+        Err(_) => {
+            let again = summary.by_user(alloc, order, reverse);
+            again.expect(rt, "memory")
+        }
     }
 }
 
@@ -128,45 +133,40 @@ enum Wanted<'a> {
 }
 
 /// Asserts that these rows were found.
-fn expect_rows<T: Copy + Drop + PartialEq>(
-    rt: &impl Abort,
-    found: Result<List<T>, Memory>,
-    rows: &[T],
-) -> Result<(), Fail> {
-    let found = found?;
+fn expect_rows<T: Copy + Drop + PartialEq>(rt: &impl Abort, found: List<T>, rows: &[T]) {
     assert!(rt; found.as_slice() == rows);
-    Ok(())
+    drop(found);
 }
 
-/// Posts the records by host 1, and asserts that the summary answers so.
-fn expect_after(
-    rt: &impl Abort,
-    alloc: Global,
-    summary: &mut Summary,
-    records: &[[u8; PROC_SIZE]],
-    wanted: Wanted,
-) -> Result<(), Fail> {
-    post(rt, alloc, summary, 1, records)?;
+/// Asserts that the summary answers so.
+fn expect_answer(rt: &impl Abort, alloc: Global, summary: &Summary, wanted: Wanted) {
     match wanted {
         Wanted::Commands(order, flags, rows) => {
-            expect_rows(rt, commands_of(alloc, summary, order, flags), rows)
+            expect_rows(rt, commands_of(rt, alloc, summary, order, flags), rows);
         }
         Wanted::Users(total, rows) => {
-            assert!(rt; summary.total() == *total);
-            expect_rows(rt, users_of(alloc, summary, Order::Cpu, false), rows)
+            expect_equal(rt, &summary.total(), total);
+            expect_rows(rt, users_of(rt, alloc, summary, Order::Cpu, false), rows);
         }
     }
 }
 
-/// The same of a new summary.
+/// A summary of no records.
+fn new_summary<R: Abort + RandomSource>(rt: &R, alloc: Global) -> Summary {
+    Summary::new(alloc, RandomState::new(rt).expect(rt, "random bytes"))
+}
+
+/// Posts the records by host 1 to a new summary, and asserts that it answers so.
 fn expect<R: Abort + RandomSource>(
     rt: &R,
     alloc: Global,
     records: &[[u8; PROC_SIZE]],
     wanted: Wanted,
-) -> Result<(), Fail> {
-    let mut summary = Summary::new(alloc, RandomState::new(rt)?);
-    expect_after(rt, alloc, &mut summary, records, wanted)
+) {
+    let mut summary = new_summary(rt, alloc);
+    post(rt, alloc, &mut summary, 1, records);
+    expect_answer(rt, alloc, &summary, wanted);
+    drop(summary);
 }
 
 const NONE: Usage = Usage {
@@ -202,50 +202,49 @@ const TOTAL: Usage = Usage {
 };
 
 #[test]
-fn a_user_has_the_sum_of_all_commands(rt: HostRuntime) -> Result<(), Fail> {
+fn a_user_has_the_sum_of_all_commands(rt: HostRuntime) {
     let rows = [UidRow {
         uid: 100,
         usage: TOTAL,
     }];
-    expect(&rt, rt.alloc(), &makes(), Wanted::Users(&TOTAL, &rows))
+    expect(&rt, rt.alloc(), &makes(), Wanted::Users(&TOTAL, &rows));
 }
 
 #[test]
-fn no_records_have_no_rows(rt: HostRuntime) -> Result<(), Fail> {
+fn no_records_have_no_rows(rt: HostRuntime) {
+    let rt = &rt;
+    let alloc = rt.alloc();
     let commands = Wanted::Commands(Order::Cpu, [false, false], &[]);
-    expect(&rt, rt.alloc(), &[], commands)?;
-    expect(&rt, rt.alloc(), &[], Wanted::Users(&NONE, &[]))
+    expect(rt, alloc, &[], commands);
+    expect(rt, alloc, &[], Wanted::Users(&NONE, &[]));
 }
 
 /// Posts the three runs of make as host 1, as the last host, and as host 1 again.
-fn post_thrice(rt: &impl Abort, alloc: Global, summary: &mut Summary) -> Result<(), Fail> {
+fn post_thrice(rt: &impl Abort, alloc: Global, summary: &mut Summary) {
     for host in [1, 4_294_967_295, 1] {
-        post(rt, alloc, summary, host, &makes())?;
+        post(rt, alloc, summary, host, &makes());
     }
-    assert!(rt; summary.entries().len() == 9);
-    Ok(())
+    expect_equal(rt, &summary.entries().len(), &9);
 }
 
 /// Asserts that the entries are those of the three posts, in order.
-fn expect_three_posts(
-    rt: &impl Abort,
-    posted: Result<(), Fail>,
-    entries: &ProcList,
-) -> Result<(), Fail> {
-    posted?;
+fn expect_three_posts(rt: &impl Abort, entries: &ProcList) {
     assert!(rt; entries.len() == 9);
     for i in 0..entries.len() {
-        let entry = entries.get(i).ok_or("an entry at each place")?;
+        let entry = entries.get(i).expect(rt, "an entry at each place");
         let host = if i / 3 == 1 { 4_294_967_295 } else { 1 };
         let flag = if i % 3 == 0 { 0 } else { 1 };
         assert!(rt; entry.host == host && entry.item.flag == flag, "at {i}");
     }
-    Ok(())
 }
 
 #[test]
-fn entries_are_the_batches_in_order(rt: HostRuntime) -> Result<(), Fail> {
-    let mut summary = Summary::new(rt.alloc(), RandomState::new(&rt)?);
-    let posted = post_thrice(&rt, rt.alloc(), &mut summary);
-    expect_three_posts(&rt, posted, &summary.into_entries())
+fn entries_are_the_batches_in_order(rt: HostRuntime) {
+    let rt = &rt;
+    let alloc = rt.alloc();
+    let mut summary = new_summary(rt, alloc);
+    post_thrice(rt, alloc, &mut summary);
+    let entries = summary.into_entries();
+    expect_three_posts(rt, &entries);
+    drop(entries);
 }

@@ -1,6 +1,5 @@
 //! The rows by command, worked by hand.
 use super::{BELL, EXECUTED, FORKED, MAKE, OTHER, Wanted, expect, makes, proc_record, row};
-use std::test::Fail;
 use tally_usage::{CommandRow, Order, Usage};
 
 /// The rows of the three runs of make, where a command of one run is joined to the others.
@@ -12,40 +11,40 @@ fn joined() -> [CommandRow; 2] {
 }
 
 #[test]
-fn a_command_of_one_run_is_joined_to_the_others(rt: HostRuntime) -> Result<(), Fail> {
+fn a_command_of_one_run_is_joined_to_the_others(rt: HostRuntime) {
     let rows = joined();
     let wanted = Wanted::Commands(Order::Cpu, [false, false], &rows);
-    expect(&rt, rt.alloc(), &makes(), wanted)
+    expect(&rt, rt.alloc(), &makes(), wanted);
 }
 
 #[test]
-fn the_command_of_most_calls_comes_first(rt: HostRuntime) -> Result<(), Fail> {
+fn the_command_of_most_calls_comes_first(rt: HostRuntime) {
     let [executed, forked] = joined();
     let rows = [forked, executed];
     let wanted = Wanted::Commands(Order::Calls, [false, false], &rows);
-    expect(&rt, rt.alloc(), &makes(), wanted)
+    expect(&rt, rt.alloc(), &makes(), wanted);
 }
 
 #[test]
-fn a_reversed_answer_is_the_reversed_list(rt: HostRuntime) -> Result<(), Fail> {
+fn a_reversed_answer_is_the_reversed_list(rt: HostRuntime) {
     let [executed, forked] = joined();
     let rows = [forked, executed];
     let wanted = Wanted::Commands(Order::Cpu, [false, true], &rows);
-    expect(&rt, rt.alloc(), &makes(), wanted)
+    expect(&rt, rt.alloc(), &makes(), wanted);
 }
 
 #[test]
-fn all_commands_keep_their_names(rt: HostRuntime) -> Result<(), Fail> {
+fn all_commands_keep_their_names(rt: HostRuntime) {
     let rows = [
         row(MAKE, false, false, EXECUTED),
         row(MAKE, true, false, FORKED),
     ];
     let wanted = Wanted::Commands(Order::Cpu, [true, false], &rows);
-    expect(&rt, rt.alloc(), &makes(), wanted)
+    expect(&rt, rt.alloc(), &makes(), wanted);
 }
 
 #[test]
-fn commands_that_do_not_print_are_joined(rt: HostRuntime) -> Result<(), Fail> {
+fn commands_that_do_not_print_are_joined(rt: HostRuntime) {
     let bell = proc_record(0, 0, [0, 0, 1, 7, 2], BELL);
     let usage = Usage {
         count: 2,
@@ -56,5 +55,5 @@ fn commands_that_do_not_print_are_joined(rt: HostRuntime) -> Result<(), Fail> {
     };
     let rows = [row(OTHER, false, true, usage)];
     let wanted = Wanted::Commands(Order::Cpu, [false, false], &rows);
-    expect(&rt, rt.alloc(), &[bell, bell], wanted)
+    expect(&rt, rt.alloc(), &[bell, bell], wanted);
 }

@@ -1,11 +1,13 @@
 //! The rows by plain filters over the list of entries, compared with those of a summary.
-use super::{BELL, MAKE, NONE, OTHER, commands_of, expect_rows, post, proc_record, row, users_of};
-use std::alloc::{AllocError, Global};
+use super::{
+    BELL, MAKE, NONE, OTHER, commands_of, expect_rows, new_summary, post, proc_record, row,
+    users_of,
+};
+use crate::equal::expect_equal;
+use std::alloc::Global;
 use std::cmp::Ordering;
-use std::hash::RandomState;
 use std::process::Abort;
 use std::random::RandomSource;
-use std::test::Fail;
 use tally_records::{Comm, PROC_SIZE, ProcRecord};
 use tally_usage::{CommandRow, Order, ProcEntry, Summary, UidRow, Usage};
 
@@ -21,13 +23,14 @@ fn add(usage: &mut Usage, process: &ProcRecord) {
 }
 
 /// The stored entries.
-fn entries_of(alloc: Global, summary: &Summary) -> Result<Vec<ProcEntry>, Fail> {
+fn entries_of(rt: &impl Abort, alloc: Global, summary: &Summary) -> Vec<ProcEntry> {
     let stored = summary.entries();
     let mut entries = Vec::new(alloc);
     for i in 0..stored.len() {
-        entries.push(stored.get(i).ok_or("an entry at each place")?)?;
+        let entry = stored.get(i).expect(rt, "an entry at each place");
+        entries.push(entry).expect(rt, "memory");
     }
-    Ok(entries)
+    entries
 }
 
 fn total_of(entries: &[ProcEntry]) -> Usage {
@@ -78,12 +81,24 @@ fn by_number(order: Order, a: &Usage, b: &Usage) -> Ordering {
     }
 }
 
+fn by_command(order: Order, a: &CommandRow, b: &CommandRow) -> Ordering {
+    by_number(order, &a.usage, &b.usage)
+        .then(a.name.cmp(&b.name))
+        .then(a.forked.cmp(&b.forked))
+        .then(a.other.cmp(&b.other))
+}
+
+fn by_user(order: Order, a: &UidRow, b: &UidRow) -> Ordering {
+    by_number(order, &a.usage, &b.usage).then(a.uid.cmp(&b.uid))
+}
+
 fn command_rows(
+    rt: &impl Abort,
     alloc: Global,
     entries: &[ProcEntry],
     order: Order,
     all: bool,
-) -> Result<Vec<CommandRow>, Fail> {
+) -> Vec<CommandRow> {
     let mut rows = Vec::new(alloc);
     let mut others = NONE;
     for entry in entries {
@@ -91,30 +106,29 @@ fn command_rows(
         if !all && (row.usage.count == 1 || !prints(&row.name)) {
             add(&mut others, &entry.item);
         } else if !rows.as_slice().contains(&row) {
-            rows.push(row)?;
+            rows.push(row).expect(rt, "memory");
         }
     }
     if others.count > 0 {
-        rows.push(row(OTHER, false, true, others))?;
+        let row = row(OTHER, false, true, others);
+        rows.push(row).expect(rt, "memory");
     }
-    rows.sort_by(|a, b| {
-        by_number(order, &a.usage, &b.usage).then(
-            (a.name, a.forked, a.other).cmp(&(b.name, b.forked, b.other)),
-        )
-    })?;
-    Ok(rows)
+    rows.sort_by(|a, b| by_command(order, a, b))
+        .expect(rt, "memory");
+    rows
 }
 
-fn user_rows(alloc: Global, entries: &[ProcEntry], order: Order) -> Result<Vec<UidRow>, Fail> {
+fn user_rows(rt: &impl Abort, alloc: Global, entries: &[ProcEntry], order: Order) -> Vec<UidRow> {
     let mut rows = Vec::new(alloc);
     for entry in entries {
         let row = user_row(entries, entry.item.uid);
         if !rows.as_slice().contains(&row) {
-            rows.push(row)?;
+            rows.push(row).expect(rt, "memory");
         }
     }
-    rows.sort_by(|a, b| by_number(order, &a.usage, &b.usage).then(a.uid.cmp(&b.uid)))?;
-    Ok(rows)
+    rows.sort_by(|a, b| by_user(order, a, b))
+        .expect(rt, "memory");
+    rows
 }
 
 /// Asserts that the rows by command are those of the filters, and the same in reverse.
@@ -125,13 +139,14 @@ fn expect_commands(
     entries: &[ProcEntry],
     order: Order,
     all: bool,
-) -> Result<(), Fail> {
-    let mut rows = command_rows(alloc, entries, order, all)?;
-    let found = commands_of(alloc, summary, order, [all, false]);
-    expect_rows(rt, found, rows.as_slice())?;
+) {
+    let mut rows = command_rows(rt, alloc, entries, order, all);
+    let found = commands_of(rt, alloc, summary, order, [all, false]);
+    expect_rows(rt, found, rows.as_slice());
     rows.reverse();
-    let reversed = commands_of(alloc, summary, order, [all, true]);
-    expect_rows(rt, reversed, rows.as_slice())
+    let reversed = commands_of(rt, alloc, summary, order, [all, true]);
+    expect_rows(rt, reversed, rows.as_slice());
+    drop(rows);
 }
 
 /// The same of the rows by user.
@@ -141,32 +156,29 @@ fn expect_users(
     summary: &Summary,
     entries: &[ProcEntry],
     order: Order,
-) -> Result<(), Fail> {
-    let mut rows = user_rows(alloc, entries, order)?;
-    expect_rows(rt, users_of(alloc, summary, order, false), rows.as_slice())?;
+) {
+    let mut rows = user_rows(rt, alloc, entries, order);
+    let found = users_of(rt, alloc, summary, order, false);
+    expect_rows(rt, found, rows.as_slice());
     rows.reverse();
-    expect_rows(rt, users_of(alloc, summary, order, true), rows.as_slice())
+    let reversed = users_of(rt, alloc, summary, order, true);
+    expect_rows(rt, reversed, rows.as_slice());
+    drop(rows);
 }
 
 /// Asserts that the summary of these entries answers as the filters do, in each order and with each flag.
-fn expect_filtered(
-    rt: &impl Abort,
-    alloc: Global,
-    summary: &Summary,
-    entries: &[ProcEntry],
-) -> Result<(), Fail> {
-    assert!(rt; summary.total() == total_of(entries));
+fn expect_filtered(rt: &impl Abort, alloc: Global, summary: &Summary, entries: &[ProcEntry]) {
+    expect_equal(rt, &summary.total(), &total_of(entries));
     for order in [Order::Cpu, Order::Calls] {
         for all in [false, true] {
-            expect_commands(rt, alloc, summary, entries, order, all)?;
+            expect_commands(rt, alloc, summary, entries, order, all);
         }
-        expect_users(rt, alloc, summary, entries, order)?;
+        expect_users(rt, alloc, summary, entries, order);
     }
-    Ok(())
 }
 
 /// Records of few names, users and numbers, so that many sums are equal.
-fn generated(alloc: Global, seed: u32, count: usize) -> Result<Vec<[u8; PROC_SIZE]>, Fail> {
+fn generated(rt: &impl Abort, alloc: Global, seed: u32, count: usize) -> Vec<[u8; PROC_SIZE]> {
     let mut records = Vec::new(alloc);
     let mut state = seed;
     for _ in 0..count {
@@ -184,42 +196,34 @@ fn generated(alloc: Global, seed: u32, count: usize) -> Result<Vec<[u8; PROC_SIZ
             1 => OTHER,
             _ => MAKE,
         };
-        records.push(proc_record(middle / 2 % 4, high / 4 % 3, numbers, name))?;
+        let record = proc_record(middle / 2 % 4, high / 4 % 3, numbers, name);
+        records.push(record).expect(rt, "memory");
     }
-    Ok(records)
+    records
 }
 
 /// Posts so many records of a seed, and asserts that the summary then answers as the filters do.
-fn post_generated(
-    rt: &impl Abort,
-    alloc: Global,
-    summary: &mut Summary,
-    seed: u32,
-    count: usize,
-) -> Result<(), Fail> {
-    let records = generated(alloc, seed, count)?;
-    post(rt, alloc, summary, seed, records.as_slice())?;
-    expect_filtered(rt, alloc, summary, entries_of(alloc, summary)?.as_slice())
+fn post_generated(rt: &impl Abort, alloc: Global, summary: &mut Summary, seed: u32, count: usize) {
+    let records = generated(rt, alloc, seed, count);
+    post(rt, alloc, summary, seed, records.as_slice());
+    drop(records);
+    let entries = entries_of(rt, alloc, summary);
+    expect_filtered(rt, alloc, summary, entries.as_slice());
+    drop(entries);
 }
 
-/// Posts batches of several lengths, each followed by a comparison.
-fn post_each(rt: &impl Abort, alloc: Global, summary: &mut Summary, seed: u32) -> Result<(), Fail> {
+/// Posts batches of several lengths to a new summary, each followed by a comparison.
+fn compare<R: Abort + RandomSource>(rt: &R, alloc: Global, seed: u32) {
+    let mut summary = new_summary(rt, alloc);
     for count in [0, 1, 2, 4, 9] {
-        post_generated(rt, alloc, summary, seed, count)?;
+        post_generated(rt, alloc, &mut summary, seed, count);
     }
-    Ok(())
-}
-
-/// The same to a new summary.
-fn compare<R: Abort + RandomSource>(rt: &R, alloc: Global, seed: u32) -> Result<(), Fail> {
-    let mut summary = Summary::new(alloc, RandomState::new(rt)?);
-    post_each(rt, alloc, &mut summary, seed)
+    drop(summary);
 }
 
 #[test]
-fn answers_are_those_of_plain_filters(rt: HostRuntime) -> Result<(), Fail> {
+fn answers_are_those_of_plain_filters(rt: HostRuntime) {
     for seed in 0..12 {
-        compare(&rt, rt.alloc(), seed)?;
+        compare(&rt, rt.alloc(), seed);
     }
-    Ok(())
 }
