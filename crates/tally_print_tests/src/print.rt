@@ -17,13 +17,15 @@ mod tables;
 mod usage;
 
 /// Whether all of the text was printed. Where a growth was refused, a first part of it was.
-fn is_printed(rt: &impl Abort, printed: Result<(), PrintFault>, out: &Kept, text: &[u8]) -> bool {
-    if printed.is_err() {
+fn is_printed(rt: &impl Abort, printed: Result<(), PrintFault>, out: Kept, text: &[u8]) -> bool {
+    let is_whole = printed.is_ok();
+    if is_whole {
+        assert_eq!(rt; out.bytes(), text);
+    } else {
         assert!(rt; text.starts_with(out.bytes()));
-        return false;
     }
-    assert_eq!(rt; out.bytes(), text);
-    true
+    drop(out);
+    is_whole
 }
 
 /// Berlin's clock by the rule that holds since 1996, unless a growth is refused.

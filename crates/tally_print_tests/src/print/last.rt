@@ -1,4 +1,6 @@
 //! The lines of last(1).
+ghost use Rattle.tally_sessions.specs.Days.{IsOffset};
+
 use super::{berlin, boot, is_printed, login};
 use std::alloc::Global;
 use std::process::Abort;
@@ -6,14 +8,9 @@ use tally_clock::Clock;
 use tally_print::{Kept, print_last};
 use tally_sessions::{End, Stay};
 
-/// Asserts that the stays of host 0 print this text.
-/// Where a growth is refused, the second try prints it.
-fn expect_last(rt: &impl Abort, alloc: Global, rows: &[Stay], first: Option<i32>, text: &[u8]) {
-    expect_until(rt, alloc, &Clock::utc(alloc), rows, first, None, text);
-}
-
-/// The same by a clock, with stays that nothing has ended counted up to a moment.
-fn expect_until(
+/// Whether the stays of host 0 print this text by a clock, with those that nothing has ended counted up to a moment.
+/// Where a growth is refused, they print a first part of it.
+fn is_last(
     rt: &impl Abort,
     alloc: Global,
     clock: &Clock,
@@ -21,15 +18,31 @@ fn expect_until(
     first: Option<i32>,
     until: Option<i32>,
     text: &[u8],
+) -> bool {
+    let mut out = Kept::new(alloc);
+    let printed = print_last(alloc, clock, rows, first, 0, &mut out, until);
+    is_printed(rt, printed, out, text)
+}
+
+/// Asserts that they do. Where a growth is refused, the second try prints it.
+fn expect_until(
+    rt: &impl Abort,
+    alloc: Global,
+    clock: Clock,
+    rows: &[Stay],
+    first: Option<i32>,
+    until: Option<i32>,
+    text: &[u8],
 ) {
-    for _ in 0..2 {
-        let mut out = Kept::new(alloc);
-        let printed = print_last(alloc, clock, rows, first, 0, &mut out, until);
-        if is_printed(rt, printed, &out, text) {
-            return;
-        }
-    }
-    assert!(rt; false, "refused twice");
+    let is_text = is_last(rt, alloc, &clock, rows, first, until, text)
+        || is_last(rt, alloc, &clock, rows, first, until, text);
+    assert!(rt; is_text, "refused twice");
+    drop(clock);
+}
+
+/// The same by the clock of UTC, with stays that nothing has ended counted up to the last record.
+fn expect_last(rt: &impl Abort, alloc: Global, rows: &[Stay], first: Option<i32>, text: &[u8]) {
+    expect_until(rt, alloc, Clock::utc(alloc), rows, first, None, text);
 }
 
 #[test]
@@ -86,7 +99,7 @@ ann      tty1                          1970-01-01 00:03:20 - down               
 wtmp begins 1970-01-01 00:03:20
 ";
     let utc = Clock::utc(rt.alloc());
-    expect_until(&rt, rt.alloc(), &utc, &rows, Some(200), Some(5000), text);
+    expect_until(&rt, rt.alloc(), utc, &rows, Some(200), Some(5000), text);
 }
 
 #[test]
@@ -118,17 +131,25 @@ wtmp begins 1970-01-01 00:01:00
     expect_last(&rt, rt.alloc(), &[stay], Some(60), text);
 }
 
+/// Asserts that no stays, of a host whose first record has this time, print this text at an offset.
+fn expect_beginning(rt: &impl Abort, alloc: Global, first: i32, offset: i32, text: &[u8])
+    requires { IsOffset offset }
+{
+    let mut out = Kept::new(alloc);
+    let utc = Clock::utc(alloc);
+    let printed = print_last(alloc, &utc, &[], Some(first), offset, &mut out, None);
+    drop(utc);
+    is_printed(rt, printed, out, text);
+}
+
 #[test]
 fn an_offset_moves_dates_to_the_ends_of_time(rt: HostRuntime) {
-    for (first, offset, text) in [
-        (i32::MIN, -1439, b"\nwtmp begins 1901-12-12 20:46:52\n"),
-        (i32::MAX, 1439, b"\nwtmp begins 2038-01-20 03:13:07\n"),
-    ] {
-        let mut out = Kept::new(rt.alloc());
-        let utc = Clock::utc(rt.alloc());
-        let printed = print_last(rt.alloc(), &utc, &[], Some(first), offset, &mut out, None);
-        assert!(rt; printed.is_err() || out.bytes() == text.as_slice());
-    }
+    let rt = &rt;
+    let alloc = rt.alloc();
+    let text = b"\nwtmp begins 1901-12-12 20:46:52\n";
+    expect_beginning(rt, alloc, i32::MIN, -1439, text);
+    let text = b"\nwtmp begins 2038-01-20 03:13:07\n";
+    expect_beginning(rt, alloc, i32::MAX, 1439, text);
 }
 
 #[test]
@@ -143,5 +164,5 @@ ann      tty1                          2026-03-29 01:59:59 - 2026-03-29 03:00:00
 wtmp begins 2026-03-29 01:59:59
 ";
     let first = Some(1_774_745_999);
-    expect_until(&rt, rt.alloc(), &berlin, &[ann], first, None, text);
+    expect_until(&rt, rt.alloc(), berlin, &[ann], first, None, text);
 }

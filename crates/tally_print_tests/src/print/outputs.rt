@@ -5,7 +5,6 @@ use super::{boot, login};
 use std::alloc::Global;
 use std::io::{self, ErrorKind, Write};
 use std::process::Abort;
-use std::test::Fail;
 use tally_clock::Clock;
 use tally_print::{Output, OutputFault, PrintFault, Writing, print_last};
 use tally_sessions::{End, Stay};
@@ -61,14 +60,15 @@ fn boots() -> [Stay; 3] {
     ]
 }
 
-/// What printing answers over an output that takes `step` bytes at a time and `room` in all.
-fn print_narrow(
+/// Asserts what printing answers over an output that takes `step` bytes at a time and `room` in all, and what it wrote.
+fn expect_narrow(
     rt: &impl Abort,
     alloc: Global,
     rows: &[Stay],
     step: usize,
     room: usize,
-) -> Result<(), PrintFault> {
+    wanted: Result<(), PrintFault>,
+) {
     let mut out = Narrow {
         bytes: Vec::new(alloc),
         step,
@@ -77,31 +77,32 @@ fn print_narrow(
     };
     let utc = Clock::utc(alloc);
     let printed = print_last(alloc, &utc, rows, Some(100), 0, &mut out, None);
+    drop(utc);
+    assert_eq!(rt; printed, wanted, "at {room}");
     let count = room.min(BOOTS.len());
     assert!(rt; out.bytes.as_slice() == BOOTS.split_at(count).0);
-    assert!(rt; out.failures == if printed.is_ok() { 0 } else { 1 });
-    printed
+    assert!(rt; out.failures == u64::from(printed.is_err()));
+    drop(out);
 }
 
 #[test]
 fn a_failed_write_leaves_the_bytes_before_it(rt: HostRuntime) {
+    let rt = &rt;
+    let alloc = rt.alloc();
     let rows = boots();
     for room in 0..BOOTS.len() {
-        let printed = print_narrow(&rt, rt.alloc(), &rows, 1, room);
-        assert_eq!(rt; printed, Err(PrintFault::Write), "at {room}");
+        expect_narrow(rt, alloc, &rows, 1, room, Err(PrintFault::Write));
     }
 }
 
 #[test]
 fn an_output_of_one_byte_at_a_time_takes_all(rt: HostRuntime) {
-    let printed = print_narrow(&rt, rt.alloc(), &boots(), 1, BOOTS.len());
-    assert_eq!(rt; printed, Ok(()));
+    expect_narrow(&rt, rt.alloc(), &boots(), 1, BOOTS.len(), Ok(()));
 }
 
 #[test]
 fn a_write_fails_in_mid_line(rt: HostRuntime) {
-    let printed = print_narrow(&rt, rt.alloc(), &boots(), 1000, 100);
-    assert_eq!(rt; printed, Err(PrintFault::Write));
+    expect_narrow(&rt, rt.alloc(), &boots(), 1000, 100, Err(PrintFault::Write));
 }
 
 /// A writer that takes all and fails where it is to be flushed.
@@ -126,18 +127,21 @@ fn the_writer_is_flushed_at_the_end(rt: HostRuntime) {
 }
 
 /// Prints the boots into bytes by way of a writer.
-fn write_boots(alloc: Global, held: &mut Vec<u8>) -> Result<(), Fail> {
+fn write_boots(rt: &impl Abort, alloc: Global, held: &mut Vec<u8>) {
     let mut out = Writing::new(held);
     let utc = Clock::utc(alloc);
-    print_last(alloc, &utc, &boots(), Some(100), 0, &mut out, None)?;
-    out.finish()?;
-    Ok(())
+    print_last(alloc, &utc, &boots(), Some(100), 0, &mut out, None).expect(rt, "the text");
+    drop(utc);
+    out.finish().expect(rt, "a flush");
+    drop(out);
 }
 
 #[test]
-fn any_writer_takes_the_text(rt: HostRuntime) -> Result<(), Fail> {
-    let mut held = Vec::new(rt.alloc());
-    write_boots(rt.alloc(), &mut held)?;
+fn any_writer_takes_the_text(rt: HostRuntime) {
+    let rt = &rt;
+    let alloc = rt.alloc();
+    let mut held = Vec::new(alloc);
+    write_boots(rt, alloc, &mut held);
     assert!(rt; held.as_slice() == BOOTS);
-    Ok(())
+    drop(held);
 }

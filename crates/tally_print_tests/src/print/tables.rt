@@ -11,7 +11,7 @@ use tally_clock::Clock;
 use tally_print::{Kept, Table, print_table};
 use tally_records::{List, Memory};
 use tally_sessions::{End, Stay};
-use tally_usage::{UidRow, Usage};
+use tally_usage::{CommandRow, UidRow, Usage};
 
 /// 30 calls, with sums that differ.
 const USAGE: Usage = Usage {
@@ -54,7 +54,49 @@ fn expect_table(
 {
     let mut out = Kept::new(alloc);
     let printed = print_table(alloc, clock, table, answers, offset, &mut out);
-    is_printed(rt, printed, &out, text);
+    is_printed(rt, printed, out, text);
+}
+
+/// The same of one answer, by a clock at an offset. Nothing is printed where it could not be made.
+fn expect_at(
+    rt: &impl Abort,
+    alloc: Global,
+    clock: Clock,
+    table: Table,
+    answer: Result<Answer, Memory>,
+    offset: i32,
+    text: &[u8],
+)
+    requires days { IfOk answer HasDays }
+    requires offset { IsOffset offset }
+{
+    if let Ok(answer) = answer {
+        let answers = [answer];
+        expect_table(rt, alloc, &clock, table, &answers, offset, text);
+        drop(answers);
+    }
+    drop(clock);
+}
+
+/// The same in UTC.
+fn expect_answer(
+    rt: &impl Abort,
+    alloc: Global,
+    table: Table,
+    answer: Result<Answer, Memory>,
+    text: &[u8],
+)
+    requires { IfOk answer HasDays }
+{
+    expect_at(rt, alloc, Clock::utc(alloc), table, answer, 0, text);
+}
+
+fn of_connect(alloc: Global, rows: &[ConnectRow]) -> Result<Answer, Memory>
+    requires { All HasDay rows.now }
+    ensures { IfOk result HasDays }
+{
+    let rows = list_of(alloc, rows)?;
+    Ok(Answer::Connect { rows, total: 600 })
 }
 
 /// The same of connect times.
@@ -68,19 +110,8 @@ fn expect_connect(
 )
     requires { All HasDay rows.now }
 {
-    let Ok(rows) = list_of(alloc, rows) else {
-        return;
-    };
-    let answer = Answer::Connect { rows, total: 600 };
-    expect_table(
-        rt,
-        alloc,
-        &Clock::utc(alloc),
-        Table::Connect { by_day, by_user },
-        &[answer],
-        0,
-        text,
-    );
+    let table = Table::Connect { by_day, by_user };
+    expect_answer(rt, alloc, table, of_connect(alloc, rows), text);
 }
 
 fn of_file(alloc: Global, stay: Stay) -> Result<Answer, Memory>
@@ -96,6 +127,20 @@ fn of_files(alloc: Global, first: Stay, second: Stay) -> Result<[Answer; 2], Mem
     let first = of_file(alloc, first)?;
     let second = of_file(alloc, second)?;
     Ok([first, second])
+}
+
+fn of_commands(alloc: Global, rows: &[CommandRow]) -> Result<Answer, Memory>
+    ensures { IfOk result HasDays }
+{
+    let rows = list_of(alloc, rows)?;
+    Ok(Answer::Commands { rows, total: USAGE })
+}
+
+fn of_users(alloc: Global, rows: &[UidRow]) -> Result<Answer, Memory>
+    ensures { IfOk result HasDays }
+{
+    let rows = list_of(alloc, rows)?;
+    Ok(Answer::Users { rows, total: USAGE })
 }
 
 #[test]
@@ -129,6 +174,7 @@ fn an_empty_report_is_its_header_and_a_total_stands_alone(rt: HostRuntime) {
 
 #[test]
 fn stays_of_two_files_stand_under_one_header(rt: HostRuntime) {
+    let rt = &rt;
     let alloc = rt.alloc();
     let ann = login(b"ann", -200, End::Down, 1000, 1200);
     let Ok(answers) = of_files(alloc, boot(1100, End::Still, 1100, 0), ann) else {
@@ -140,61 +186,56 @@ file,user,line,remote,start,start_at,begin,end,end_time,end_at,seconds
 1,ann,tty1,,-200,1969-12-31T18:26:40-05:30,-200,down,1000,1969-12-31T18:46:40-05:30,1200
 ";
     let utc = Clock::utc(alloc);
-    expect_table(&rt, alloc, &utc, Table::Stays, &answers, -330, text);
+    expect_table(rt, alloc, &utc, Table::Stays, &answers, -330, text);
+    drop(utc);
+    drop(answers);
 }
 
 #[test]
 fn the_offset_is_that_of_the_second(rt: HostRuntime) {
+    let rt = &rt;
     let alloc = rt.alloc();
     let Some(berlin) = berlin(alloc) else {
         return;
     };
     let ann = login(b"ann", 1_774_745_999, End::Logout, 1_774_746_000, 1);
-    let Ok(answer) = of_file(alloc, ann) else {
-        return;
-    };
+    let answer = of_file(alloc, ann);
     let text = b"\
 file,user,line,remote,start,start_at,begin,end,end_time,end_at,seconds
 1,ann,tty1,,1774745999,2026-03-29T01:29:59+00:30,1774745999,logout,1774746000,2026-03-29T02:30:00+01:30,1
 ";
-    expect_table(&rt, alloc, &berlin, Table::Stays, &[answer], -30, text);
+    expect_at(rt, alloc, berlin, Table::Stays, answer, -30, text);
 }
 
 #[test]
 fn usage_has_ticks_and_sums(rt: HostRuntime) {
+    let rt = &rt;
     let alloc = rt.alloc();
     let rows = [
         command(b"a\"b", true, false, USAGE),
         command(b"***other", false, true, USAGE),
     ];
-    let Ok(rows) = list_of(alloc, &rows) else {
-        return;
-    };
-    let answer = Answer::Commands { rows, total: USAGE };
+    let answer = of_commands(alloc, &rows);
     let text = b"\
 command,forked,other,calls,real_ticks,cpu_ticks,io,mem_cpu
 \"a\"\"b\",1,0,30,6001,180,1000,90000
 ***other,0,1,30,6001,180,1000,90000
 ";
-    let utc = Clock::utc(alloc);
-    expect_table(&rt, alloc, &utc, Table::Commands, &[answer], 0, text);
+    expect_answer(rt, alloc, Table::Commands, answer, text);
 }
 
 #[test]
 fn usage_of_users_has_their_numbers(rt: HostRuntime) {
+    let rt = &rt;
     let alloc = rt.alloc();
     let row = UidRow {
         uid: 4_294_967_295,
         usage: USAGE,
     };
-    let Ok(rows) = list_of(alloc, &[row]) else {
-        return;
-    };
-    let answer = Answer::Users { rows, total: USAGE };
+    let answer = of_users(alloc, &[row]);
     let text = b"\
 uid,calls,real_ticks,cpu_ticks,io,mem_cpu
 4294967295,30,6001,180,1000,90000
 ";
-    let utc = Clock::utc(alloc);
-    expect_table(&rt, alloc, &utc, Table::Users, &[answer], 0, text);
+    expect_answer(rt, alloc, Table::Users, answer, text);
 }
