@@ -2,13 +2,13 @@
 ghost use Rattle.tally_book.specs.Answers.{IsAskable};
 
 use crate::equal::expect_equal;
-use std::alloc::{AllocError, Global};
+use crate::makers::repeated;
+use std::alloc::Global;
 use std::hash::RandomState;
 use std::process::Abort;
 use std::random::RandomSource;
-use std::test::Fail;
 use tally_book::{AskFault, Book, Counts, PostFault, Question, Receipt, Served};
-use tally_records::{Batch, BatchFault, Memory};
+use tally_records::Batch;
 
 /// Posts as a caller, of which the book has some.
 fn post(book: &mut Book, caller: u32, batch: &Batch) -> Result<Receipt, PostFault> {
@@ -77,14 +77,17 @@ fn limits_in(alloc: Global, book: &mut Book, batch: &Batch, empty: &Batch) -> Li
 }
 
 /// The same of a new book.
-fn limits_of(
+fn limits_of<R: Abort + RandomSource>(
+    rt: &R,
     alloc: Global,
-    keys: RandomState,
     batch: &Batch,
     empty: &Batch,
-) -> Result<Limits, Memory> {
-    let mut book = Book::new(alloc, keys, 1)?;
-    Ok(limits_in(alloc, &mut book, batch, empty))
+) -> Limits {
+    let keys = RandomState::new(rt).expect(rt, "random bytes");
+    let mut book = Book::new(alloc, keys, 1).expect(rt, "a book");
+    let limits = limits_in(alloc, &mut book, batch, empty);
+    drop(book);
+    limits
 }
 
 /// Asserts why a book refuses the batch at last, and what is stored when an empty batch is posted then.
@@ -92,51 +95,65 @@ fn expect_full<R: Abort + RandomSource>(
     rt: &R,
     alloc: Global,
     batch: &Batch,
-    empty: Result<Batch, BatchFault>,
+    empty: &Batch,
     fault: PostFault,
     stored: Counts,
-) -> Result<(), Fail> {
-    let Limits { refused, then, .. } = limits_of(alloc, RandomState::new(rt)?, batch, &empty?)?;
+) {
+    let Limits { refused, then, .. } = limits_of(rt, alloc, batch, empty);
     expect_equal(rt, &refused, &Some(fault));
-    let receipt = then?;
-    expect_equal(rt, &(receipt.call, receipt.after), &(1025, stored));
-    Ok(())
+    let receipt = then.expect(rt, "a receipt");
+    expect_equal(rt, &receipt.call, &1025);
+    expect_equal(rt, &receipt.after, &stored);
 }
 
-/// The batch of these bytes, which are login records.
-fn logins_of(alloc: Global, bytes: Result<Vec<u8>, AllocError>) -> Result<Batch, Fail> {
-    Ok(Batch::logins(alloc, bytes?.as_slice())?)
+/// A batch of so many zeros, which are login records.
+fn logins_of(rt: &impl Abort, alloc: Global, count: usize) -> Batch {
+    let bytes = repeated(rt, alloc, 0, count);
+    let batch = Batch::logins(alloc, bytes.as_slice()).expect(rt, "login records");
+    drop(bytes);
+    batch
 }
 
 #[test]
-fn a_book_full_of_login_records_takes_an_empty_batch_alone(rt: HostRuntime) -> Result<(), Fail> {
-    let batch = logins_of(rt.alloc(), vec![in rt.alloc(); 0u8; 393_216])?;
-    let empty = Batch::logins(rt.alloc(), &[]);
+fn a_book_full_of_login_records_takes_an_empty_batch_alone(rt: HostRuntime) {
+    let rt = &rt;
+    let alloc = rt.alloc();
+    let batch = logins_of(rt, alloc, 393_216);
+    let empty = logins_of(rt, alloc, 0);
     let fault = PostFault::LoginsFull { stored: 1_048_576 };
-    let stored = counts(1_048_576, 0);
-    expect_full(&rt, rt.alloc(), &batch, empty, fault, stored)
+    expect_full(rt, alloc, &batch, &empty, fault, counts(1_048_576, 0));
+    drop(empty);
+    drop(batch);
 }
 
-/// The batch of these bytes, which are process records.
-fn procs_of(alloc: Global, bytes: Result<Vec<u8>, AllocError>) -> Result<Batch, Fail> {
-    Ok(Batch::procs(alloc, bytes?.as_slice())?)
+/// A batch of so many twos, which are process records.
+fn procs_of(rt: &impl Abort, alloc: Global, count: usize) -> Batch {
+    let bytes = repeated(rt, alloc, 2, count);
+    let batch = Batch::procs(alloc, bytes.as_slice()).expect(rt, "process records");
+    drop(bytes);
+    batch
 }
 
 #[test]
-fn a_book_full_of_process_records_takes_an_empty_batch_alone(rt: HostRuntime) -> Result<(), Fail> {
-    let batch = procs_of(rt.alloc(), vec![in rt.alloc(); 2u8; 65_536])?;
-    let empty = Batch::procs(rt.alloc(), &[]);
+fn a_book_full_of_process_records_takes_an_empty_batch_alone(rt: HostRuntime) {
+    let rt = &rt;
+    let alloc = rt.alloc();
+    let batch = procs_of(rt, alloc, 65_536);
+    let empty = procs_of(rt, alloc, 0);
     let fault = PostFault::ProcsFull { stored: 1_048_576 };
-    let stored = counts(0, 1_048_576);
-    expect_full(&rt, rt.alloc(), &batch, empty, fault, stored)
+    expect_full(rt, alloc, &batch, &empty, fault, counts(0, 1_048_576));
+    drop(empty);
+    drop(batch);
 }
 
 #[test]
-fn a_history_holds_65536_calls(rt: HostRuntime) -> Result<(), Fail> {
-    let empty = Batch::procs(rt.alloc(), &[])?;
-    let full = limits_of(rt.alloc(), RandomState::new(&rt)?, &empty, &empty)?;
-    expect_equal(&rt, &full.refused, &Some(PostFault::CallsFull));
-    expect_equal(&rt, &full.calls, &65_536);
-    expect_equal(&rt, &full.asked, &Some(AskFault::CallsFull));
-    Ok(())
+fn a_history_holds_65536_calls(rt: HostRuntime) {
+    let rt = &rt;
+    let alloc = rt.alloc();
+    let empty = procs_of(rt, alloc, 0);
+    let full = limits_of(rt, alloc, &empty, &empty);
+    drop(empty);
+    expect_equal(rt, &full.refused, &Some(PostFault::CallsFull));
+    expect_equal(rt, &full.calls, &65_536);
+    expect_equal(rt, &full.asked, &Some(AskFault::CallsFull));
 }

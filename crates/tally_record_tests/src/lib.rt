@@ -6,4 +6,6 @@ mod book;
 #[cfg(test)]
 mod equal;
 #[cfg(test)]
+mod makers;
+#[cfg(test)]
 mod records;
