@@ -1,13 +1,11 @@
 //! Lists that follow no rule, compared with the scan.
-ghost use Rattle.std.specs.Prelude.{◌≡◌, ◌<◌, OnOk};
+ghost use Rattle.std.specs.Prelude.{◌≡◌, ◌<◌};
 
-use crate::sessions::scripts::post_below;
+use crate::sessions::scripts::{opened, post_below};
 use crate::sessions::{login_record, scan};
 use std::alloc::Global;
-use std::hash::RandomState;
 use std::process::Abort;
 use std::random::RandomSource;
-use std::test::Fail;
 use tally_sessions::{Entry, Sessions};
 
 /// Numbers that follow no rule that a session knows.
@@ -61,101 +59,84 @@ impl Numbers {
 }
 
 /// Posts up to 60 records.
-fn post_drawn(alloc: Global, sessions: &mut Sessions, numbers: &mut Numbers) -> Result<(), Fail>
+fn post_drawn(rt: &impl Abort, alloc: Global, sessions: &mut Sessions, numbers: &mut Numbers)
     requires { sessions.old.hosts ≡ 3 }
-    ensures { OnOk result (sessions.new.hosts ≡ 3) }
+    ensures { sessions.new.hosts ≡ 3 }
 {
     let mut now = 0i32;
     for _record in 0..numbers.below(61) {
         now = numbers.time_after(now);
         let host = numbers.below(3);
-        post_below(alloc, sessions, &(host, numbers.record(now)))?;
+        post_below(rt, alloc, sessions, &(host, numbers.record(now)));
     }
-    Ok(())
 }
 
 /// Whether the stays of a host are those of the scan.
 fn agrees_at(
+    rt: &impl Abort,
     alloc: Global,
     sessions: &Sessions,
     entries: &[Entry],
     host: u32,
     until: Option<i32>,
-) -> Result<bool, Fail>
+) -> bool
     requires { host < sessions.now.hosts }
 {
-    let found = sessions.stays(alloc, host, None, until)?;
-    let wanted = scan::stays(alloc, entries, host, until)?;
-    Ok(found.as_slice() == wanted.as_slice())
+    let found = sessions
+        .stays(alloc, host, None, until)
+        .expect(rt, "memory");
+    let wanted = scan::stays(rt, alloc, entries, host, until);
+    let same = found.as_slice() == wanted.as_slice();
+    drop(found);
+    drop(wanted);
+    same
 }
 
 /// Whether the stays of each host, and the total, are those of the scan.
 fn agrees(
+    rt: &impl Abort,
     alloc: Global,
     sessions: &Sessions,
     entries: &[Entry],
     until: Option<i32>,
-) -> Result<bool, Fail>
+) -> bool
     requires { sessions.now.hosts ≡ 3 }
 {
     for host in 0..3 {
-        if !agrees_at(alloc, sessions, entries, host, until)? {
-            return Ok(false);
+        if !agrees_at(rt, alloc, sessions, entries, host, until) {
+            return false;
         }
     }
-    Ok(sessions.total(until) == scan::total(entries, until))
+    sessions.total(until) == scan::total(entries, until)
 }
 
 /// Asserts that the sessions of a list agree with the scan over their entries, up to some moments.
-fn expect_scanned(
-    rt: &impl Abort,
-    alloc: Global,
-    sessions: &Sessions,
-    entries: &[Entry],
-    list: u32,
-) -> Result<(), Fail>
+fn expect_scanned(rt: &impl Abort, alloc: Global, sessions: &Sessions, entries: &[Entry], list: u32)
     requires { sessions.now.hosts ≡ 3 }
 {
-    for until in [None, Some(i32::MIN), Some(1500)] {
+    for &until in &[None, Some(i32::MIN), Some(1500)] {
         assert!(rt;
-            agrees(alloc, sessions, entries, until)?,
+            agrees(rt, alloc, sessions, entries, until),
             "list {list} until {until:?}"
         );
     }
-    Ok(())
 }
 
-/// Posts the records of the next list, and asserts the same of its sessions.
-fn expect_next(
-    rt: &impl Abort,
-    alloc: Global,
-    sessions: &mut Sessions,
-    numbers: &mut Numbers,
-    list: u32,
-) -> Result<(), Fail>
-    requires { sessions.old.hosts ≡ 3 }
-{
-    post_drawn(alloc, sessions, numbers)?;
-    let entries: Vec<Entry> = sessions.entries().iter().collect(alloc)?;
-    expect_scanned(rt, alloc, sessions, &entries, list)
-}
-
-/// The same of new sessions.
-fn draw<R: Abort + RandomSource>(
-    rt: &R,
-    alloc: Global,
-    numbers: &mut Numbers,
-    list: u32,
-) -> Result<(), Fail> {
-    let mut sessions = Sessions::new(alloc, RandomState::new(rt)?, 3)?;
-    expect_next(rt, alloc, &mut sessions, numbers, list)
+/// Posts the records of the next list to new sessions, and asserts the same of them.
+fn draw<R: Abort + RandomSource>(rt: &R, alloc: Global, numbers: &mut Numbers, list: u32) {
+    let mut sessions = opened(rt, alloc);
+    post_drawn(rt, alloc, &mut sessions, numbers);
+    let entries = sessions.entries().iter().collect::<Vec<Entry>>(alloc);
+    let entries = entries.expect(rt, "memory");
+    expect_scanned(rt, alloc, &sessions, entries.as_slice(), list);
+    drop(entries);
+    drop(sessions);
 }
 
 #[test]
-fn sessions_are_those_of_a_scan_of_the_whole_list(rt: HostRuntime) -> Result<(), Fail> {
+fn sessions_are_those_of_a_scan_of_the_whole_list(rt: HostRuntime) {
     let mut numbers = Numbers { state: 1 };
     for list in 0..300 {
-        draw(&rt, rt.alloc(), &mut numbers, list)?;
+        draw(&rt, rt.alloc(), &mut numbers, list);
     }
-    Ok(())
 }

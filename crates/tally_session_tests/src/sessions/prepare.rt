@@ -1,89 +1,70 @@
 //! What a refused `prepare` leaves, and what `add` changes.
-ghost use Rattle.std.specs.Prelude.{◌<◌, IfOk};
+ghost use Rattle.std.specs.Prelude.{◌<◌};
 ghost use Rattle.tally_records.specs.Records.{IsLogins};
 
-use crate::sessions::name;
-use crate::sessions::scripts::{played, record_of};
+use crate::equal::expect_equal;
+use crate::sessions::scripts::played;
+use crate::sessions::{login_record, name};
 use std::alloc::Global;
-use std::hash::RandomState;
 use std::process::Abort;
-use std::random::RandomSource;
-use std::test::Fail;
 use tally_records::Batch;
 use tally_sessions::Sessions;
 
 /// What a refused `prepare` must leave as it is: count of entries, total, ann's time, users.
-fn answers(alloc: Global, sessions: &Sessions) -> Result<[u64; 4], Fail> {
-    let users = sessions.connect_by_user(alloc, None)?.len() as u64;
+fn answers(rt: &impl Abort, alloc: Global, sessions: &Sessions) -> [u64; 4] {
+    let rows = sessions.connect_by_user(alloc, None).expect(rt, "memory");
+    let users = rows.len() as u64;
+    drop(rows);
     let ann = sessions.connect(&name("ann"), None);
-    Ok([
+    [
         sessions.entries().len() as u64,
         sessions.total(None),
         ann,
         users,
-    ])
+    ]
 }
 
 /// A batch that ends ann's session, with logins of three users that have none.
-fn three_users(alloc: Global) -> Result<Batch, Fail>
-    ensures { IfOk result IsLogins }
+fn three_users(rt: &impl Abort, alloc: Global) -> Batch
+    ensures { IsLogins result }
 {
-    let mut bytes = Vec::new(alloc);
-    for line in "0 out tty1 - 60;0 in tty1 bob 60;0 in tty2 carl 70;0 in tty3 dora 90".split(';') {
-        let (_, record) = record_of(line)?;
-        bytes.extend_from_slice(&record)?;
-    }
-    Ok(Batch::logins(alloc, &bytes)?)
+    let records = [
+        login_record(8, "tty1", "-", 60),
+        login_record(7, "tty1", "bob", 60),
+        login_record(7, "tty2", "carl", 70),
+        login_record(7, "tty3", "dora", 90),
+    ];
+    Batch::logins(alloc, records.as_flattened()).expect(rt, "login records")
 }
 
 /// Asserts the answers.
-fn expect_answers(
-    rt: &impl Abort,
-    alloc: Global,
-    sessions: &Sessions,
-    wanted: [u64; 4],
-) -> Result<(), Fail> {
-    let found = answers(alloc, sessions)?;
-    assert_eq!(rt; found, wanted);
-    Ok(())
+fn expect_answers(rt: &impl Abort, alloc: Global, sessions: &Sessions, wanted: [u64; 4]) {
+    expect_equal(rt, &answers(rt, alloc, sessions), &wanted);
 }
 
 /// Asserts the answers after a `prepare`, which may be refused once, and after its `add`.
-fn expect_around_add(
-    rt: &impl Abort,
-    alloc: Global,
-    sessions: &mut Sessions,
-    batch: &Batch,
-) -> Result<(), Fail>
+fn expect_around_add(rt: &impl Abort, alloc: Global, sessions: &mut Sessions, batch: &Batch)
     requires host { 0 < sessions.old.hosts }
     requires logins { IsLogins batch.now }
 {
-    if batch.len() + sessions.entries().len() > 1000 {
-        return Err(Fail::new("too many"));
-    }
+    let count = batch.len() + sessions.entries().len();
+    assert!(rt; count <= 1000);
     if sessions.prepare(0, batch).is_err() {
-        expect_answers(rt, alloc, sessions, [1, 0, 0, 0])?;
-        sessions.prepare(0, batch)?;
+        expect_answers(rt, alloc, sessions, [1, 0, 0, 0]);
+        sessions.prepare(0, batch).expect(rt, "memory");
     }
-    expect_answers(rt, alloc, sessions, [1, 0, 0, 0])?;
+    expect_answers(rt, alloc, sessions, [1, 0, 0, 0]);
     sessions.add(0, batch);
-    expect_answers(rt, alloc, sessions, [5, 110, 60, 3])
-}
-
-/// The same of ann's open session.
-fn expect_around_ann<R: Abort + RandomSource>(
-    rt: &R,
-    alloc: Global,
-    batch: &Batch,
-) -> Result<(), Fail>
-    requires { IsLogins batch.now }
-{
-    let mut sessions = played(alloc, RandomState::new(rt)?, "0 in tty1 ann 0")?;
-    expect_around_add(rt, alloc, &mut sessions, batch)
+    expect_answers(rt, alloc, sessions, [5, 110, 60, 3]);
 }
 
 #[test]
-fn prepare_changes_no_answer_and_add_does(rt: HostRuntime) -> Result<(), Fail> {
-    let batch = three_users(rt.alloc())?;
-    expect_around_ann(&rt, rt.alloc(), &batch)
+fn prepare_changes_no_answer_and_add_does(rt: HostRuntime) {
+    let rt = &rt;
+    let alloc = rt.alloc();
+    let batch = three_users(rt, alloc);
+    let mut sessions = played(rt, alloc, "0 in tty1 ann 0");
+    expect_around_add(rt, alloc, &mut sessions, &batch);
+    drop(sessions);
+    drop(batch);
 }

@@ -2,7 +2,8 @@
 ghost use Rattle.std.specs.Prelude.{◌<◌, length};
 
 use std::alloc::Global;
-use tally_records::{Event, LoginRecord, Memory, event};
+use std::process::Abort;
+use tally_records::{Event, LoginRecord, event};
 use tally_sessions::{End, Entry, Stay};
 
 /// Whether a later record of the host ends the stay of a record.
@@ -85,21 +86,22 @@ fn stay_at(entries: &[Entry], at: usize, until: Option<i32>) -> Stay
 
 /// The stays of a host, that of the latest record first.
 pub(crate) fn stays(
+    rt: &impl Abort,
     alloc: Global,
     entries: &[Entry],
     host: u32,
     until: Option<i32>,
-) -> Result<Vec<Stay>, Memory> {
+) -> Vec<Stay> {
     let mut found = Vec::new(alloc);
     for i in 0..entries.len() {
         let at = entries.len() - 1 - i;
         if entries[at].host == host
             && matches!(event(&entries[at].item), Event::Login | Event::Boot)
         {
-            found.push(stay_at(entries, at, until))?;
+            found.push(stay_at(entries, at, until)).expect(rt, "memory");
         }
     }
-    Ok(found)
+    found
 }
 
 /// The lengths of the sessions of all hosts.

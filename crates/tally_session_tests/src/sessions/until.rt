@@ -3,27 +3,13 @@ use crate::sessions::texts::{Asked, expect_until};
 use std::alloc::Global;
 use std::process::Abort;
 use std::random::RandomSource;
-use std::test::Fail;
 use tally_clock::Clock;
 
 const TWO_OPEN: &str = "0 in tty1 a 100;1 in tty1 d 150;0 boot ~ reboot 1000";
 
-/// Asserts the stays and the total of a script up to a moment.
-fn expect_moment<R: Abort + RandomSource>(
-    rt: &R,
-    alloc: Global,
-    script: &str,
-    until: Option<i32>,
-    told: &str,
-    total: &str,
-) -> Result<(), Fail> {
-    expect_until(rt, alloc, script, Asked::Stays(None), until, told)?;
-    expect_until(rt, alloc, script, Asked::Total, until, total)
-}
-
 #[test]
-fn a_moment_counts_for_open_stays_alone(rt: HostRuntime) -> Result<(), Fail> {
-    for (script, until, told, total) in [
+fn a_moment_counts_for_open_stays_alone(rt: HostRuntime) {
+    for &(script, until, told, total) in &[
         (
             TWO_OPEN,
             None,
@@ -55,9 +41,10 @@ fn a_moment_counts_for_open_stays_alone(rt: HostRuntime) -> Result<(), Fail> {
             "3600;",
         ),
     ] {
-        expect_moment(&rt, rt.alloc(), script, until, told, total)?;
+        let asked = Asked::Stays(None);
+        expect_until(&rt, rt.alloc(), script, asked, until, told);
+        expect_until(&rt, rt.alloc(), script, Asked::Total, until, total);
     }
-    Ok(())
 }
 
 const ANN_OPEN: &str = "0 in tty1 ann 84600;0 in tty2 bob 86000;0 out tty2 - 86300";
@@ -68,31 +55,44 @@ fn expect_sums<R: Abort + RandomSource>(
     alloc: Global,
     clock: &Clock,
     until: Option<i32>,
-    told: [&str; 4],
-) -> Result<(), Fail> {
-    let [ann, users, days, day_users] = told;
-    expect_until(rt, alloc, ANN_OPEN, Asked::User("ann"), until, ann)?;
-    expect_until(rt, alloc, ANN_OPEN, Asked::Users, until, users)?;
-    expect_until(rt, alloc, ANN_OPEN, Asked::Days(clock, 0), until, days)?;
+    told: &[&str; 4],
+) {
+    let [ann, users, days, day_users] = *told;
+    expect_until(rt, alloc, ANN_OPEN, Asked::User("ann"), until, ann);
+    expect_until(rt, alloc, ANN_OPEN, Asked::Users, until, users);
+    expect_until(rt, alloc, ANN_OPEN, Asked::Days(clock, 0), until, days);
     let asked = Asked::DayUsers(clock);
-    expect_until(rt, alloc, ANN_OPEN, asked, until, day_users)
+    expect_until(rt, alloc, ANN_OPEN, asked, until, day_users);
 }
 
 #[test]
-fn every_sum_counts_up_to_the_moment(rt: HostRuntime) -> Result<(), Fail> {
-    let utc = Clock::utc(rt.alloc());
-    let now = [
-        "1700;",
-        "ann 1700;bob 300;",
-        "0 2000;",
-        "0 ann 1700;0 bob 300;",
-    ];
-    expect_sums(&rt, rt.alloc(), &utc, None, now)?;
-    let then = [
-        "3600;",
-        "ann 3600;bob 300;",
-        "0 2100;1 1800;",
-        "0 ann 1800;0 bob 300;1 ann 1800;",
-    ];
-    expect_sums(&rt, rt.alloc(), &utc, Some(88200), then)
+fn every_sum_counts_up_to_the_moment(rt: HostRuntime) {
+    let rt = &rt;
+    let alloc = rt.alloc();
+    let utc = Clock::utc(alloc);
+    expect_sums(
+        rt,
+        alloc,
+        &utc,
+        None,
+        &[
+            "1700;",
+            "ann 1700;bob 300;",
+            "0 2000;",
+            "0 ann 1700;0 bob 300;",
+        ],
+    );
+    expect_sums(
+        rt,
+        alloc,
+        &utc,
+        Some(88200),
+        &[
+            "3600;",
+            "ann 3600;bob 300;",
+            "0 2100;1 1800;",
+            "0 ann 1800;0 bob 300;1 ann 1800;",
+        ],
+    );
+    drop(utc);
 }

@@ -2,7 +2,7 @@ use Rattle.std.proofs.Common.{◌≡◌}
 use Rattle.tally_session_tests.proofs.sessions.scripts.play.Given as goal
 
 abbrev pub invariant-loop-line : goal.invariant-loop-line
-invariant-loop-line l =
-    (goal.iterator-loop-line).can_next l.line-iterator ×
-    (goal.iterator-loop-line).is_finite l.line-iterator ×
+invariant-loop-line g l =
+    (goal.iterator-loop-line g).can_next l.line-iterator ×
+    (goal.iterator-loop-line g).is_finite l.line-iterator ×
     (l.sessions.hosts ≡ 3)
