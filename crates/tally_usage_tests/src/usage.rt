@@ -1,10 +1,12 @@
 //! Worked examples, and each growth refused in turn.
+ghost use Rattle.tally_records.specs.Records.{IsProcs};
+
 use crate::equal::expect_equal;
 use std::alloc::Global;
 use std::hash::RandomState;
 use std::process::Abort;
 use std::random::RandomSource;
-use tally_records::{Batch, Comm, Kind, List, PROC_SIZE};
+use tally_records::{Batch, Comm, List, PROC_SIZE};
 use tally_usage::{CommandRow, ENTRY_LIMIT, Order, ProcList, Summary, UidRow, Usage};
 
 mod commands;
@@ -50,7 +52,9 @@ fn makes() -> [[u8; PROC_SIZE]; 3] {
 }
 
 /// The batch of these records, tried twice.
-fn batch_of(rt: &impl Abort, alloc: Global, records: &[[u8; PROC_SIZE]]) -> Batch {
+fn batch_of(rt: &impl Abort, alloc: Global, records: &[[u8; PROC_SIZE]]) -> Batch
+    ensures { IsProcs result }
+{
     let bytes = records.as_flattened();
     match Batch::procs(alloc, bytes) {
         Ok(batch) => batch,
@@ -58,18 +62,21 @@ fn batch_of(rt: &impl Abort, alloc: Global, records: &[[u8; PROC_SIZE]]) -> Batc
     }
 }
 
+/// How many entries a summary has, and their total.
+fn stored(summary: &Summary) -> (usize, Usage) {
+    (summary.entries().len(), summary.total())
+}
+
 /// Posts a batch of the host. Where `prepare` is refused once, the entries and the total are as
 /// before, and the same `prepare` then succeeds.
-fn post_batch(rt: &impl Abort, summary: &mut Summary, host: u32, batch: &Batch) {
-    let Kind::Proc = batch.kind() else {
-        panic!(rt; "process records")
-    };
-    let stored = summary.entries().len();
-    let total = summary.total();
-    assert!(rt; stored + batch.len() <= ENTRY_LIMIT);
+fn post_batch(rt: &impl Abort, summary: &mut Summary, host: u32, batch: &Batch)
+    requires { IsProcs batch.now }
+{
+    let count = summary.entries().len() + batch.len();
+    assert!(rt; count <= ENTRY_LIMIT);
+    let before = stored(summary);
     if summary.prepare(host, batch).is_err() {
-        expect_equal(rt, &summary.entries().len(), &stored);
-        expect_equal(rt, &summary.total(), &total);
+        expect_equal(rt, &stored(summary), &before);
         summary.prepare(host, batch).expect(rt, "memory");
     }
     summary.add(host, batch);
@@ -203,11 +210,11 @@ const TOTAL: Usage = Usage {
 
 #[test]
 fn a_user_has_the_sum_of_all_commands(rt: HostRuntime) {
-    let rows = [UidRow {
+    let rows = &[UidRow {
         uid: 100,
         usage: TOTAL,
     }];
-    expect(&rt, rt.alloc(), &makes(), Wanted::Users(&TOTAL, &rows));
+    expect(&rt, rt.alloc(), &makes(), Wanted::Users(&TOTAL, rows));
 }
 
 #[test]
@@ -221,8 +228,8 @@ fn no_records_have_no_rows(rt: HostRuntime) {
 
 /// Posts the three runs of make as host 1, as the last host, and as host 1 again.
 fn post_thrice(rt: &impl Abort, alloc: Global, summary: &mut Summary) {
-    for host in [1, 4_294_967_295, 1] {
-        post(rt, alloc, summary, host, &makes());
+    for host in &[1, 4_294_967_295, 1] {
+        post(rt, alloc, summary, *host, &makes());
     }
     expect_equal(rt, &summary.entries().len(), &9);
 }
@@ -234,7 +241,8 @@ fn expect_three_posts(rt: &impl Abort, entries: &ProcList) {
         let entry = entries.get(i).expect(rt, "an entry at each place");
         let host = if i / 3 == 1 { 4_294_967_295 } else { 1 };
         let flag = if i % 3 == 0 { 0 } else { 1 };
-        assert!(rt; entry.host == host && entry.item.flag == flag, "at {i}");
+        let found = (i, entry.host, entry.item.flag);
+        expect_equal(rt, &found, &(i, host, flag));
     }
 }
 

@@ -110,8 +110,8 @@ fn command_rows(
         }
     }
     if others.count > 0 {
-        let row = row(OTHER, false, true, others);
-        rows.push(row).expect(rt, "memory");
+        rows.push(row(OTHER, false, true, others))
+            .expect(rt, "memory");
     }
     rows.sort_by(|a, b| by_command(order, a, b))
         .expect(rt, "memory");
@@ -169,10 +169,9 @@ fn expect_users(
 /// Asserts that the summary of these entries answers as the filters do, in each order and with each flag.
 fn expect_filtered(rt: &impl Abort, alloc: Global, summary: &Summary, entries: &[ProcEntry]) {
     expect_equal(rt, &summary.total(), &total_of(entries));
-    for order in [Order::Cpu, Order::Calls] {
-        for all in [false, true] {
-            expect_commands(rt, alloc, summary, entries, order, all);
-        }
+    for &order in &[Order::Cpu, Order::Calls] {
+        expect_commands(rt, alloc, summary, entries, order, false);
+        expect_commands(rt, alloc, summary, entries, order, true);
         expect_users(rt, alloc, summary, entries, order);
     }
 }
@@ -215,8 +214,8 @@ fn post_generated(rt: &impl Abort, alloc: Global, summary: &mut Summary, seed: u
 /// Posts batches of several lengths to a new summary, each followed by a comparison.
 fn compare<R: Abort + RandomSource>(rt: &R, alloc: Global, seed: u32) {
     let mut summary = new_summary(rt, alloc);
-    for count in [0, 1, 2, 4, 9] {
-        post_generated(rt, alloc, &mut summary, seed, count);
+    for count in &[0, 1, 2, 4, 9] {
+        post_generated(rt, alloc, &mut summary, seed, *count);
     }
     drop(summary);
 }
