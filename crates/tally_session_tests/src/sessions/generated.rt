@@ -1,6 +1,7 @@
 //! Lists that follow no rule, compared with the scan.
 ghost use Rattle.std.specs.Prelude.{◌≡◌, ◌<◌};
 
+use crate::equal::expect_equal;
 use crate::sessions::scripts::{opened, post_below};
 use crate::sessions::{login_record, scan};
 use std::alloc::Global;
@@ -115,10 +116,8 @@ fn expect_scanned(rt: &impl Abort, alloc: Global, sessions: &Sessions, entries: 
     requires { sessions.now.hosts ≡ 3 }
 {
     for &until in &[None, Some(i32::MIN), Some(1500)] {
-        assert!(rt;
-            agrees(rt, alloc, sessions, entries, until),
-            "list {list} until {until:?}"
-        );
+        let agrees = agrees(rt, alloc, sessions, entries, until);
+        expect_equal(rt, &(list, until, agrees), &(list, until, true));
     }
 }
 

@@ -1,20 +1,11 @@
 //! Sessions of a list of entries, by one thread and where four are allowed.
-ghost use Rattle.std.specs.Prelude.{◌≡◌, ◌≤◌, ◌<◌, All, IfOk, length};
+ghost use Rattle.std.specs.Prelude.{◌≡◌, ◌<◌, IfOk};
 
 use crate::equal::expect_equal;
 use crate::sessions::scripts::{new_keys, played};
 use std::alloc::Global;
 use std::process::Abort;
-use std::random::RandomSource;
-use tally_sessions::{ENTRY_LIMIT, EntryList, Sessions};
-
-/// The entries of three hosts after a script.
-fn listed<R: Abort + RandomSource>(rt: &R, alloc: Global, script: &str) -> EntryList
-    ensures hosts { All (λ e. e.host < 3) result }
-    ensures few { length result ≤ ENTRY_LIMIT }
-{
-    played(rt, alloc, script).into_entries()
-}
+use tally_sessions::{EntryList, Sessions};
 
 /// How many stays a host has.
 fn count(rt: &impl Abort, alloc: Global, sessions: &Sessions, host: u32) -> u64
@@ -42,9 +33,7 @@ fn numbers(rt: &impl Abort, alloc: Global, sessions: &Sessions) -> [u64; 4]
 fn expect_numbers(rt: &impl Abort, alloc: Global, made: Result<Sessions, EntryList>)
     requires { IfOk made (λ s. s.hosts ≡ 3) }
 {
-    let Ok(sessions) = made else {
-        panic!(rt; "out of memory")
-    };
+    let sessions = made.ok().expect(rt, "memory");
     let found = numbers(rt, alloc, &sessions);
     drop(sessions);
     expect_equal(rt, &found, &[1, 1, 1, 150]);
@@ -60,9 +49,9 @@ fn sessions_of_a_list_are_those_of_its_hosts(rt: HostRuntime) {
     let rt = &rt;
     let alloc = rt.alloc();
     let keys = new_keys(rt);
-    let list = listed(rt, alloc, SCRIPT);
+    let list = played(rt, alloc, SCRIPT).into_entries();
     expect_numbers(rt, alloc, Sessions::of_entries(alloc, keys, 3, list));
-    let list = listed(rt, alloc, SCRIPT);
+    let list = played(rt, alloc, SCRIPT).into_entries();
     let made = Sessions::of_entries_by(rt, alloc, keys, 3, list, 4);
     expect_numbers(rt, alloc, made);
 }

@@ -70,29 +70,19 @@ fn every_sum_counts_up_to_the_moment(rt: HostRuntime) {
     let rt = &rt;
     let alloc = rt.alloc();
     let utc = Clock::utc(alloc);
-    expect_sums(
-        rt,
-        alloc,
-        &utc,
-        None,
-        &[
-            "1700;",
-            "ann 1700;bob 300;",
-            "0 2000;",
-            "0 ann 1700;0 bob 300;",
-        ],
-    );
-    expect_sums(
-        rt,
-        alloc,
-        &utc,
-        Some(88200),
-        &[
-            "3600;",
-            "ann 3600;bob 300;",
-            "0 2100;1 1800;",
-            "0 ann 1800;0 bob 300;1 ann 1800;",
-        ],
-    );
+    let now = &[
+        "1700;",
+        "ann 1700;bob 300;",
+        "0 2000;",
+        "0 ann 1700;0 bob 300;",
+    ];
+    expect_sums(rt, alloc, &utc, None, now);
+    let then = &[
+        "3600;",
+        "ann 3600;bob 300;",
+        "0 2100;1 1800;",
+        "0 ann 1800;0 bob 300;1 ann 1800;",
+    ];
+    expect_sums(rt, alloc, &utc, Some(88200), then);
     drop(utc);
 }

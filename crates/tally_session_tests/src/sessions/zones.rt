@@ -7,13 +7,8 @@ use tally_clock::Clock;
 
 /// The clock of a rule.
 fn clock_of(rt: &impl Abort, alloc: Global, rule: &str) -> Clock {
-    let Ok(zone) = posix::TimeZone::parse(rule.as_bytes()) else {
-        panic!(rt; "no rule")
-    };
-    let Ok(clock) = Clock::of_zone(alloc, &TimeZone::Posix(zone)) else {
-        panic!(rt; "no clock")
-    };
-    clock
+    let zone = posix::TimeZone::parse(rule.as_bytes()).expect(rt, "a rule");
+    Clock::of_zone(alloc, &TimeZone::Posix(zone)).expect(rt, "a clock")
 }
 
 // The seconds of Europe/Berlin in March and October 2026, counted with Python's zoneinfo.
@@ -22,25 +17,21 @@ fn days_have_23_or_25_hours(rt: HostRuntime) {
     let rt = &rt;
     let alloc = rt.alloc();
     let clock = clock_of(rt, alloc, "CET-1CEST,M3.5.0,M10.5.0/3");
-    expect_each(
-        rt,
-        alloc,
-        Asked::Days(&clock, 0),
-        &[
-            (
-                "0 in tty1 ann 1774699200;0 out tty1 - 1774872000",
-                "20540 39600;20541 82800;20542 50400;",
-            ),
-            (
-                "0 in tty1 ann 1792843200;0 out tty1 - 1793016000",
-                "20750 36000;20751 90000;20752 46800;",
-            ),
-            (
-                "0 in tty1 ann 1792888200;0 out tty1 - 1792891800",
-                "20751 3600;",
-            ),
-        ],
-    );
+    let table = &[
+        (
+            "0 in tty1 ann 1774699200;0 out tty1 - 1774872000",
+            "20540 39600;20541 82800;20542 50400;",
+        ),
+        (
+            "0 in tty1 ann 1792843200;0 out tty1 - 1793016000",
+            "20750 36000;20751 90000;20752 46800;",
+        ),
+        (
+            "0 in tty1 ann 1792888200;0 out tty1 - 1792891800",
+            "20751 3600;",
+        ),
+    ];
+    expect_each(rt, alloc, Asked::Days(&clock, 0), table);
     drop(clock);
 }
 
