@@ -226,15 +226,8 @@ fn no_records_have_no_rows(rt: HostRuntime) {
     expect(rt, alloc, &[], Wanted::Users(&NONE, &[]));
 }
 
-/// Posts the three runs of make as host 1, as the last host, and as host 1 again.
-fn post_thrice(rt: &impl Abort, alloc: Global, summary: &mut Summary) {
-    for host in &[1, 4_294_967_295, 1] {
-        post(rt, alloc, summary, *host, &makes());
-    }
-    expect_equal(rt, &summary.entries().len(), &9);
-}
-
-/// Asserts that the entries are those of the three posts, in order.
+/// Asserts that the entries are those of three posts of the runs of make: by host 1, by the last host, and by
+/// host 1 again.
 fn expect_three_posts(rt: &impl Abort, entries: &ProcList) {
     assert!(rt; entries.len() == 9);
     for i in 0..entries.len() {
@@ -250,8 +243,12 @@ fn expect_three_posts(rt: &impl Abort, entries: &ProcList) {
 fn entries_are_the_batches_in_order(rt: HostRuntime) {
     let rt = &rt;
     let alloc = rt.alloc();
+    let runs = makes();
     let mut summary = new_summary(rt, alloc);
-    post_thrice(rt, alloc, &mut summary);
+    post(rt, alloc, &mut summary, 1, &runs);
+    post(rt, alloc, &mut summary, 4_294_967_295, &runs);
+    post(rt, alloc, &mut summary, 1, &runs);
+    expect_equal(rt, &summary.entries().len(), &9);
     let entries = summary.into_entries();
     expect_three_posts(rt, &entries);
     drop(entries);
