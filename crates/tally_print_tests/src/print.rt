@@ -28,9 +28,9 @@ fn is_printed(rt: &impl Abort, printed: Result<(), PrintFault>, out: Kept, text:
     is_whole
 }
 
-/// Berlin's clock by the rule that holds since 1996, unless a growth is refused.
-fn berlin(alloc: Global) -> Option<Clock> {
-    Clock::of_rule(alloc, b"CET-1CEST,M3.5.0,M10.5.0/3").ok()
+/// Berlin's clock by the rule that holds since 1996.
+fn berlin(rt: &impl Abort, alloc: Global) -> Clock {
+    Clock::of_rule(alloc, b"CET-1CEST,M3.5.0,M10.5.0/3").expect(rt, "a clock")
 }
 
 /// A name of utmp(5): its bytes, and zeros after them.

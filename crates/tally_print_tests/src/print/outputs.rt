@@ -60,15 +60,20 @@ fn boots() -> [Stay; 3] {
     ]
 }
 
-/// Asserts what printing answers over an output that takes `step` bytes at a time and `room` in all, and what it wrote.
-fn expect_narrow(
+/// Asserts what was written to an output that had so much room, and how often it failed.
+fn expect_output(rt: &impl Abort, out: &Narrow, room: usize) {
+    let (text, rest) = BOOTS.split_at(room.min(BOOTS.len()));
+    assert!(rt; out.bytes.as_slice() == text);
+    assert!(rt; out.failures == u64::from(!rest.is_empty()));
+}
+
+/// Prints the boots over an output that takes `step` bytes at a time and `room` in all, and asserts what it took.
+fn print_narrow(
     rt: &impl Abort,
     alloc: Global,
-    rows: &[Stay],
     step: usize,
     room: usize,
-    wanted: Result<(), PrintFault>,
-) {
+) -> Result<(), PrintFault> {
     let mut out = Narrow {
         bytes: Vec::new(alloc),
         step,
@@ -76,33 +81,33 @@ fn expect_narrow(
         failures: 0,
     };
     let utc = Clock::utc(alloc);
-    let printed = print_last(alloc, &utc, rows, Some(100), 0, &mut out, None);
+    let printed = print_last(alloc, &utc, &boots(), Some(100), 0, &mut out, None);
     drop(utc);
-    assert_eq!(rt; printed, wanted, "at {room}");
-    let count = room.min(BOOTS.len());
-    assert!(rt; out.bytes.as_slice() == BOOTS.split_at(count).0);
-    assert!(rt; out.failures == u64::from(printed.is_err()));
+    expect_output(rt, &out, room);
     drop(out);
+    printed
 }
 
 #[test]
 fn a_failed_write_leaves_the_bytes_before_it(rt: HostRuntime) {
     let rt = &rt;
     let alloc = rt.alloc();
-    let rows = boots();
     for room in 0..BOOTS.len() {
-        expect_narrow(rt, alloc, &rows, 1, room, Err(PrintFault::Write));
+        let printed = print_narrow(rt, alloc, 1, room);
+        assert!(rt; printed == Err(PrintFault::Write), "at {room}");
     }
 }
 
 #[test]
 fn an_output_of_one_byte_at_a_time_takes_all(rt: HostRuntime) {
-    expect_narrow(&rt, rt.alloc(), &boots(), 1, BOOTS.len(), Ok(()));
+    let printed = print_narrow(&rt, rt.alloc(), 1, BOOTS.len());
+    assert!(rt; printed == Ok(()));
 }
 
 #[test]
 fn a_write_fails_in_mid_line(rt: HostRuntime) {
-    expect_narrow(&rt, rt.alloc(), &boots(), 1000, 100, Err(PrintFault::Write));
+    let printed = print_narrow(&rt, rt.alloc(), 1000, 100);
+    assert!(rt; printed == Err(PrintFault::Write));
 }
 
 /// A writer that takes all and fails where it is to be flushed.
@@ -122,18 +127,11 @@ impl Write for Unflushed {
 #[test]
 fn the_writer_is_flushed_at_the_end(rt: HostRuntime) {
     let mut out = Writing::new(Unflushed);
-    assert!(rt; out.put(b"total") == Ok(5));
-    assert!(rt; out.finish() == Err(OutputFault));
-}
-
-/// Prints the boots into bytes by way of a writer.
-fn write_boots(rt: &impl Abort, alloc: Global, held: &mut Vec<u8>) {
-    let mut out = Writing::new(held);
-    let utc = Clock::utc(alloc);
-    print_last(alloc, &utc, &boots(), Some(100), 0, &mut out, None).expect(rt, "the text");
-    drop(utc);
-    out.finish().expect(rt, "a flush");
+    let taken = out.put(b"total");
+    let finished = out.finish();
     drop(out);
+    assert!(rt; taken == Ok(5));
+    assert!(rt; finished == Err(OutputFault));
 }
 
 #[test]
@@ -141,7 +139,12 @@ fn any_writer_takes_the_text(rt: HostRuntime) {
     let rt = &rt;
     let alloc = rt.alloc();
     let mut held = Vec::new(alloc);
-    write_boots(rt, alloc, &mut held);
+    let mut out = Writing::new(&mut held);
+    let utc = Clock::utc(alloc);
+    print_last(alloc, &utc, &boots(), Some(100), 0, &mut out, None).expect(rt, "the text");
+    drop(utc);
+    out.finish().expect(rt, "a flush");
+    drop(out);
     assert!(rt; held.as_slice() == BOOTS);
     drop(held);
 }

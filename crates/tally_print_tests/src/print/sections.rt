@@ -1,5 +1,5 @@
 //! Sections of stays, beside the printers of the answers that they stand for.
-ghost use Rattle.std.specs.Prelude.{◌≡◌, ◌<◌};
+ghost use Rattle.std.specs.Prelude.{◌≡◌, ◌+◌, ◌<◌, ◌≤◌, length};
 ghost use Rattle.tally_sessions.specs.Days.{IsOffset};
 
 use super::is_printed;
@@ -17,14 +17,17 @@ use tally_records::Batch;
 use tally_sessions::Sessions;
 
 /// Writes a text into the bytes of a record at a place.
-fn put(bytes: &mut [u8; 384], at: usize, text: &[u8]) {
-    for (to, from) in bytes.iter_mut().skip(at).zip(text) {
-        *to = *from;
-    }
+fn put(bytes: &mut [u8; 384], at: usize, text: &[u8])
+    requires { at + length text.now ≤ 384 }
+{
+    bytes[at..at + text.len()].copy_from_slice(text);
 }
 
 /// The login record of these fields.
-fn record(kind: u8, line: &[u8], user: &[u8], time: i32) -> [u8; 384] {
+fn record(kind: u8, line: &[u8], user: &[u8], time: i32) -> [u8; 384]
+    requires line { length line.now ≤ 32 }
+    requires user { length user.now ≤ 32 }
+{
     let mut bytes = [0; 384];
     bytes[0] = kind;
     put(&mut bytes, 8, line);
@@ -81,14 +84,8 @@ struct Asked {
     offset: i32,
 }
 
-/// The printed list of these stays.
-fn printed_list(
-    rt: &impl Abort,
-    alloc: Global,
-    clock: &Clock,
-    sessions: &Sessions,
-    asked: &Asked,
-) -> Kept
+/// Asserts that a section of these stays is printed as the list of them.
+fn expect_list(rt: &impl Abort, alloc: Global, clock: &Clock, sessions: &Sessions, asked: &Asked)
     requires host { asked.now.host < sessions.now.hosts }
     requires offset { IsOffset asked.now.offset }
 {
@@ -102,25 +99,10 @@ fn printed_list(
     let stays = sessions
         .stays(alloc, host, limit, until)
         .expect(rt, "stays");
-    let mut out = Kept::new(alloc);
+    let mut wanted = Kept::new(alloc);
     let rows = stays.as_slice();
-    print_last(alloc, clock, rows, first, offset, &mut out, until).expect(rt, "a list");
+    print_last(alloc, clock, rows, first, offset, &mut wanted, until).expect(rt, "a list");
     drop(stays);
-    out
-}
-
-/// Asserts that a section of these stays is printed as the list of them.
-fn expect_list(rt: &impl Abort, alloc: Global, clock: &Clock, sessions: &Sessions, asked: &Asked)
-    requires host { asked.now.host < sessions.now.hosts }
-    requires offset { IsOffset asked.now.offset }
-{
-    let wanted = printed_list(rt, alloc, clock, sessions, asked);
-    let Asked {
-        host,
-        limit,
-        until,
-        offset,
-    } = *asked;
     let section = [Section::Stays { host, limit, until }];
     let mut out = Kept::new(alloc);
     let printed = print_all_sections(alloc, clock, sessions, &section, offset, &mut out, until);
@@ -129,50 +111,28 @@ fn expect_list(rt: &impl Abort, alloc: Global, clock: &Clock, sessions: &Session
     drop(wanted);
 }
 
-/// The printed table of these stays.
-fn printed_table(
-    rt: &impl Abort,
-    alloc: Global,
-    clock: &Clock,
-    sessions: &Sessions,
-    asked: &Asked,
-) -> Kept
-    requires host { asked.now.host < sessions.now.hosts }
-    requires offset { IsOffset asked.now.offset }
-{
-    let rows = sessions
-        .stays(alloc, asked.host, asked.limit, asked.until)
-        .expect(rt, "stays");
-    let answers = [Answer::Last { rows, first: None }];
-    let mut out = Kept::new(alloc);
-    print_table(alloc, clock, Table::Stays, &answers, asked.offset, &mut out).expect(rt, "a table");
-    drop(answers);
-    out
-}
-
-/// Asserts that the table of a section of these stays is the same.
+/// Asserts that the table of a section of these stays is the table of the list of them.
 fn expect_table(rt: &impl Abort, alloc: Global, clock: &Clock, sessions: &Sessions, asked: &Asked)
     requires host { asked.now.host < sessions.now.hosts }
     requires offset { IsOffset asked.now.offset }
 {
-    let wanted = printed_table(rt, alloc, clock, sessions, asked);
     let Asked {
         host,
         limit,
         until,
         offset,
     } = *asked;
+    let table = Table::Stays;
+    let rows = sessions
+        .stays(alloc, host, limit, until)
+        .expect(rt, "stays");
+    let answers = [Answer::Last { rows, first: None }];
+    let mut wanted = Kept::new(alloc);
+    print_table(alloc, clock, table, &answers, offset, &mut wanted).expect(rt, "a table");
+    drop(answers);
     let section = [Section::Stays { host, limit, until }];
     let mut out = Kept::new(alloc);
-    let printed = print_section_table(
-        alloc,
-        clock,
-        sessions,
-        Table::Stays,
-        &section,
-        offset,
-        &mut out,
-    );
+    let printed = print_section_table(alloc, clock, sessions, table, &section, offset, &mut out);
     drop(section);
     is_printed(rt, printed, out, wanted.bytes());
     drop(wanted);

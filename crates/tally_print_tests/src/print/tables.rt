@@ -1,5 +1,5 @@
 //! Tables as CSV.
-ghost use Rattle.std.specs.Prelude.{◌≡◌, ◌≤◌, ◌↔◌, All, IfOk, length};
+ghost use Rattle.std.specs.Prelude.{◌≡◌, ◌≤◌, ◌↔◌, All, length};
 ghost use Rattle.tally_book.specs.Answers.{HasDay, HasDays};
 ghost use Rattle.tally_sessions.specs.Days.{IsDay, IsOffset};
 
@@ -9,9 +9,9 @@ use std::process::Abort;
 use tally_book::{Answer, ConnectRow};
 use tally_clock::Clock;
 use tally_print::{Kept, Table, print_table};
-use tally_records::{List, Memory};
+use tally_records::List;
 use tally_sessions::{End, Stay};
-use tally_usage::{CommandRow, UidRow, Usage};
+use tally_usage::{UidRow, Usage};
 
 /// 30 calls, with sums that differ.
 const USAGE: Usage = Usage {
@@ -33,10 +33,11 @@ fn of_day(day: i32, user: &[u8], seconds: u64) -> ConnectRow
     }
 }
 
-fn list_of<T: Copy>(alloc: Global, rows: &[T]) -> Result<List<T>, Memory>
-    ensures { IfOk result (λ list. list ≡ rows.now) }
+fn list_of<T: Copy>(rt: &impl Abort, alloc: Global, rows: &[T]) -> List<T>
+    ensures { result ≡ rows.now }
 {
-    List::from_vec(alloc, Vec::from_slice(alloc, rows)?)
+    let rows = Vec::from_slice(alloc, rows).expect(rt, "memory");
+    List::from_vec(alloc, rows).expect(rt, "memory")
 }
 
 /// Asserts that the answers print this table, or a first part of it where a growth is refused.
@@ -57,46 +58,15 @@ fn expect_table(
     is_printed(rt, printed, out, text);
 }
 
-/// The same of one answer, by a clock at an offset. Nothing is printed where it could not be made.
-fn expect_at(
-    rt: &impl Abort,
-    alloc: Global,
-    clock: Clock,
-    table: Table,
-    answer: Result<Answer, Memory>,
-    offset: i32,
-    text: &[u8],
-)
-    requires days { IfOk answer HasDays }
-    requires offset { IsOffset offset }
+/// The same of one answer in UTC.
+fn expect_answer(rt: &impl Abort, alloc: Global, table: Table, answer: Answer, text: &[u8])
+    requires { HasDays answer }
 {
-    if let Ok(answer) = answer {
-        let answers = [answer];
-        expect_table(rt, alloc, &clock, table, &answers, offset, text);
-        drop(answers);
-    }
-    drop(clock);
-}
-
-/// The same in UTC.
-fn expect_answer(
-    rt: &impl Abort,
-    alloc: Global,
-    table: Table,
-    answer: Result<Answer, Memory>,
-    text: &[u8],
-)
-    requires { IfOk answer HasDays }
-{
-    expect_at(rt, alloc, Clock::utc(alloc), table, answer, 0, text);
-}
-
-fn of_connect(alloc: Global, rows: &[ConnectRow]) -> Result<Answer, Memory>
-    requires { All HasDay rows.now }
-    ensures { IfOk result HasDays }
-{
-    let rows = list_of(alloc, rows)?;
-    Ok(Answer::Connect { rows, total: 600 })
+    let utc = Clock::utc(alloc);
+    let answers = [answer];
+    expect_table(rt, alloc, &utc, table, &answers, 0, text);
+    drop(answers);
+    drop(utc);
 }
 
 /// The same of connect times.
@@ -110,41 +80,23 @@ fn expect_connect(
 )
     requires { All HasDay rows.now }
 {
+    let rows = list_of(rt, alloc, rows);
+    let answer = Answer::Connect { rows, total: 600 };
     let table = Table::Connect { by_day, by_user };
-    expect_answer(rt, alloc, table, of_connect(alloc, rows), text);
+    expect_answer(rt, alloc, table, answer, text);
 }
 
-fn of_file(alloc: Global, stay: Stay) -> Result<Answer, Memory>
-    ensures { IfOk result HasDays }
+fn of_file(rt: &impl Abort, alloc: Global, stay: Stay) -> Answer
+    ensures { HasDays result }
 {
-    let rows = list_of(alloc, &[stay])?;
-    Ok(Answer::Last { rows, first: None })
-}
-
-fn of_files(alloc: Global, first: Stay, second: Stay) -> Result<[Answer; 2], Memory>
-    ensures { IfOk result (λ answers. All HasDays answers) }
-{
-    let first = of_file(alloc, first)?;
-    let second = of_file(alloc, second)?;
-    Ok([first, second])
-}
-
-fn of_commands(alloc: Global, rows: &[CommandRow]) -> Result<Answer, Memory>
-    ensures { IfOk result HasDays }
-{
-    let rows = list_of(alloc, rows)?;
-    Ok(Answer::Commands { rows, total: USAGE })
-}
-
-fn of_users(alloc: Global, rows: &[UidRow]) -> Result<Answer, Memory>
-    ensures { IfOk result HasDays }
-{
-    let rows = list_of(alloc, rows)?;
-    Ok(Answer::Users { rows, total: USAGE })
+    let rows = list_of(rt, alloc, &[stay]);
+    Answer::Last { rows, first: None }
 }
 
 #[test]
 fn hostile_names_are_quoted(rt: HostRuntime) {
+    let rt = &rt;
+    let alloc = rt.alloc();
     let rows = [
         of_day(0, b"a,b", 1),
         of_day(1, b"say \"hi\"", 86_400),
@@ -158,28 +110,25 @@ day,user,seconds
 1969-12-31,x?y?,4294967295
 1970-01-03,\"\"\"\",0
 ";
-    expect_connect(&rt, rt.alloc(), true, true, &rows, text);
+    expect_connect(rt, alloc, true, true, &rows, text);
 }
 
 #[test]
 fn an_empty_report_is_its_header_and_a_total_stands_alone(rt: HostRuntime) {
-    for (by_day, by_user, text) in [
-        (true, false, "day,seconds\n"),
-        (false, true, "user,seconds\n"),
-        (false, false, "seconds\n600\n"),
-    ] {
-        expect_connect(&rt, rt.alloc(), by_day, by_user, &[], text.as_bytes());
-    }
+    let rt = &rt;
+    let alloc = rt.alloc();
+    expect_connect(rt, alloc, true, false, &[], b"day,seconds\n");
+    expect_connect(rt, alloc, false, true, &[], b"user,seconds\n");
+    expect_connect(rt, alloc, false, false, &[], b"seconds\n600\n");
 }
 
 #[test]
 fn stays_of_two_files_stand_under_one_header(rt: HostRuntime) {
     let rt = &rt;
     let alloc = rt.alloc();
+    let first = of_file(rt, alloc, boot(1100, End::Still, 1100, 0));
     let ann = login(b"ann", -200, End::Down, 1000, 1200);
-    let Ok(answers) = of_files(alloc, boot(1100, End::Still, 1100, 0), ann) else {
-        return;
-    };
+    let answers = [first, of_file(rt, alloc, ann)];
     let text = b"\
 file,user,line,remote,start,start_at,begin,end,end_time,end_at,seconds
 1,reboot,,,1100,1969-12-31T18:48:20-05:30,1100,still,1100,1969-12-31T18:48:20-05:30,0
@@ -195,16 +144,16 @@ file,user,line,remote,start,start_at,begin,end,end_time,end_at,seconds
 fn the_offset_is_that_of_the_second(rt: HostRuntime) {
     let rt = &rt;
     let alloc = rt.alloc();
-    let Some(berlin) = berlin(alloc) else {
-        return;
-    };
     let ann = login(b"ann", 1_774_745_999, End::Logout, 1_774_746_000, 1);
-    let answer = of_file(alloc, ann);
+    let answers = [of_file(rt, alloc, ann)];
     let text = b"\
 file,user,line,remote,start,start_at,begin,end,end_time,end_at,seconds
 1,ann,tty1,,1774745999,2026-03-29T01:29:59+00:30,1774745999,logout,1774746000,2026-03-29T02:30:00+01:30,1
 ";
-    expect_at(rt, alloc, berlin, Table::Stays, answer, -30, text);
+    let berlin = berlin(rt, alloc);
+    expect_table(rt, alloc, &berlin, Table::Stays, &answers, -30, text);
+    drop(berlin);
+    drop(answers);
 }
 
 #[test]
@@ -215,7 +164,8 @@ fn usage_has_ticks_and_sums(rt: HostRuntime) {
         command(b"a\"b", true, false, USAGE),
         command(b"***other", false, true, USAGE),
     ];
-    let answer = of_commands(alloc, &rows);
+    let rows = list_of(rt, alloc, &rows);
+    let answer = Answer::Commands { rows, total: USAGE };
     let text = b"\
 command,forked,other,calls,real_ticks,cpu_ticks,io,mem_cpu
 \"a\"\"b\",1,0,30,6001,180,1000,90000
@@ -232,7 +182,8 @@ fn usage_of_users_has_their_numbers(rt: HostRuntime) {
         uid: 4_294_967_295,
         usage: USAGE,
     };
-    let answer = of_users(alloc, &[row]);
+    let rows = list_of(rt, alloc, &[row]);
+    let answer = Answer::Users { rows, total: USAGE };
     let text = b"\
 uid,calls,real_ticks,cpu_ticks,io,mem_cpu
 4294967295,30,6001,180,1000,90000

@@ -5,20 +5,8 @@ use std::process::Abort;
 use tally_print::{Kept, print_commands, print_users};
 use tally_usage::{CommandRow, UidRow, Usage};
 
-/// Whether the rows and the total print this text. Where a growth is refused, they print a first part of it.
-fn is_commands(
-    rt: &impl Abort,
-    alloc: Global,
-    rows: &[CommandRow],
-    total: &Usage,
-    text: &[u8],
-) -> bool {
-    let mut out = Kept::new(alloc);
-    let printed = print_commands(alloc, rows, total, &mut out);
-    is_printed(rt, printed, out, text)
-}
-
-/// Asserts that they do. Where a growth is refused, the second try prints it.
+/// Asserts that the rows and the total print this text.
+/// Where a growth is refused, the second try prints it.
 fn expect_commands(
     rt: &impl Abort,
     alloc: Global,
@@ -26,16 +14,26 @@ fn expect_commands(
     total: &Usage,
     text: &[u8],
 ) {
-    let is_text = is_commands(rt, alloc, rows, total, text)
-        || is_commands(rt, alloc, rows, total, text);
-    assert!(rt; is_text, "refused twice");
+    for _ in 0..2 {
+        let mut out = Kept::new(alloc);
+        let printed = print_commands(alloc, rows, total, &mut out);
+        if is_printed(rt, printed, out, text) {
+            return;
+        }
+    }
+    panic!(rt; "refused twice");
 }
 
 /// The same of users.
-fn is_users(rt: &impl Abort, alloc: Global, rows: &[UidRow], total: &Usage, text: &[u8]) -> bool {
-    let mut out = Kept::new(alloc);
-    let printed = print_users(alloc, rows, total, &mut out);
-    is_printed(rt, printed, out, text)
+fn expect_users(rt: &impl Abort, alloc: Global, rows: &[UidRow], total: &Usage, text: &[u8]) {
+    for _ in 0..2 {
+        let mut out = Kept::new(alloc);
+        let printed = print_users(alloc, rows, total, &mut out);
+        if is_printed(rt, printed, out, text) {
+            return;
+        }
+    }
+    panic!(rt; "refused twice");
 }
 
 /// What so many calls used: ticks elapsed, ticks of cpu, io, and memory by ticks of cpu.
@@ -65,6 +63,8 @@ const LARGEST: Usage = Usage {
 
 #[test]
 fn commands_have_averages_and_marks(rt: HostRuntime) {
+    let rt = &rt;
+    let alloc = rt.alloc();
     let executed = used(1, 600, 180, 1000, 90_000);
     let forked = used(2, 120, 120, 6, 24_000);
     let rows = [
@@ -75,23 +75,27 @@ fn commands_have_averages_and_marks(rt: HostRuntime) {
        1         0.10re         0.03cp       1000avio        500k ***other
        2         0.02re         0.02cp          3avio        200k make*
 ";
-    expect_commands(&rt, rt.alloc(), &rows, &used_by_makes(), text);
+    expect_commands(rt, alloc, &rows, &used_by_makes(), text);
 }
 
 #[test]
 fn the_total_of_no_commands_is_printed(rt: HostRuntime) {
+    let rt = &rt;
+    let alloc = rt.alloc();
     let text = b"       0         0.00re         0.00cp          0avio          0k\n";
-    expect_commands(&rt, rt.alloc(), &[], &used(0, 0, 0, 0, 0), text);
+    expect_commands(rt, alloc, &[], &used(0, 0, 0, 0, 0), text);
 }
 
 #[test]
 fn long_numbers_stand_whole(rt: HostRuntime) {
+    let rt = &rt;
+    let alloc = rt.alloc();
     let text = b"       1   2862962.01re   5725924.01cp 17177772032avio 17177772032k
        1   2862962.01re   5725924.01cp 17177772032avio 17177772032k x
 ";
     expect_commands(
-        &rt,
-        rt.alloc(),
+        rt,
+        alloc,
         &[command(b"x", false, false, LARGEST)],
         &LARGEST,
         text,
@@ -100,10 +104,12 @@ fn long_numbers_stand_whole(rt: HostRuntime) {
 
 #[test]
 fn memory_of_no_cpu_is_none(rt: HostRuntime) {
+    let rt = &rt;
+    let alloc = rt.alloc();
     let usage = used(1, u128::MAX, 0, 7, 5);
     let text =
         b"       1 56713727820156410577229101238628035.24re         0.00cp          7avio          0k\n";
-    expect_commands(&rt, rt.alloc(), &[], &usage, text);
+    expect_commands(rt, alloc, &[], &usage, text);
 }
 
 #[test]
@@ -118,7 +124,5 @@ fn users_have_their_numbers(rt: HostRuntime) {
     let text = b"total             3         0.12re         0.05cp        335avio        380k
 1000              3         0.12re         0.05cp        335avio        380k
 ";
-    let is_text = is_users(rt, alloc, &rows, &total, text)
-        || is_users(rt, alloc, &rows, &total, text);
-    assert!(rt; is_text, "refused twice");
+    expect_users(rt, alloc, &rows, &total, text);
 }
