@@ -1,5 +1,5 @@
 //! Worked records, and each public function once.
-use crate::equal::expect_equal;
+use crate::equal::{expect_at, expect_equal};
 use crate::makers::{
     login_of, login_record, proc_of, proc_record, put, record_of_type, repeated, three_records,
     version_3_record,
@@ -13,6 +13,7 @@ use tally_records::{
 
 #[test]
 fn compressed_numbers_have_a_base_eight_exponent(rt: HostRuntime) {
+    let rt = &rt;
     let cases = [
         (0x0000, 0),
         (0x1FFF, 8191),
@@ -21,7 +22,7 @@ fn compressed_numbers_have_a_base_eight_exponent(rt: HostRuntime) {
         (0xFFFF, 17_177_772_032),
     ];
     for (word, value) in cases {
-        assert_eq!(rt; comp(word), value, "at {word}");
+        expect_at(rt, u32::from(word), comp(word), value);
     }
 }
 
@@ -45,10 +46,11 @@ fn a_login_record_is_read_by_its_offsets(rt: HostRuntime) {
 
 #[test]
 fn a_type_outside_zero_to_nine_is_refused(rt: HostRuntime) {
-    let mut bytes = login_record(10, [b"", b"", b""], 0);
-    expect_equal(&rt, &read_login(&bytes), &Err(RecordFault::LoginType(10)));
+    let rt = &rt;
+    let mut bytes = record_of_type(10);
+    expect_equal(rt, &read_login(&bytes), &Err(RecordFault::LoginType(10)));
     put(&mut bytes, 0, &[255, 255]);
-    expect_equal(&rt, &read_login(&bytes), &Err(RecordFault::LoginType(-1)));
+    expect_equal(rt, &read_login(&bytes), &Err(RecordFault::LoginType(-1)));
 }
 
 #[test]
@@ -81,7 +83,7 @@ fn each_word_of_elapsed_time_has_its_ticks(rt: HostRuntime) {
     ];
     for (word, ticks) in cases {
         let found = proc_of(rt, &version_3_record(word));
-        assert_eq!(rt; found.real_ticks, ticks, "at {word}");
+        expect_at(rt, word, found.real_ticks, ticks);
     }
 }
 
@@ -101,11 +103,6 @@ fn a_big_endian_process_record_is_refused(rt: HostRuntime) {
     }
 }
 
-/// Why the batch of these login records is refused, if it is.
-fn refused(alloc: Global, blocks: &[[u8; 384]]) -> Option<BatchFault> {
-    Batch::logins(alloc, blocks.as_flattened()).err()
-}
-
 #[test]
 fn a_batch_names_its_first_bad_record(rt: HostRuntime) {
     let blocks = [
@@ -118,16 +115,8 @@ fn a_batch_names_its_first_bad_record(rt: HostRuntime) {
         index: 2,
         fault: RecordFault::LoginType(10),
     };
-    expect_equal(&rt, &refused(rt.alloc(), &blocks), &Some(wanted));
-}
-
-/// Asserts that a batch shows these records and no more.
-fn expect_records(rt: &impl Abort, batch: &Batch, blocks: &[[u8; 384]; 3]) {
-    for index in 0..3usize {
-        let wanted = login_of(rt, &blocks[index]);
-        expect_equal(rt, &batch.login_at(index), &Some(wanted));
-    }
-    expect_equal(rt, &batch.login_at(3), &None);
+    let refused = Batch::logins(rt.alloc(), blocks.as_flattened()).err();
+    expect_equal(&rt, &refused, &Some(wanted));
 }
 
 #[test]
@@ -135,22 +124,12 @@ fn a_batch_shows_records_as_they_are_read(rt: HostRuntime) {
     let rt = &rt;
     let blocks = three_records();
     let batch = Batch::logins(rt.alloc(), blocks.as_flattened()).expect(rt, "a batch");
-    expect_records(rt, &batch, &blocks);
+    for index in 0..3usize {
+        let wanted = login_of(rt, &blocks[index]);
+        expect_equal(rt, &batch.login_at(index), &Some(wanted));
+    }
+    expect_equal(rt, &batch.login_at(3), &None);
     drop(batch);
-}
-
-/// Asserts what is read alone of the three records.
-fn expect_parts(rt: &impl Abort, logins: &Logins, blocks: &[[u8; 384]; 3]) {
-    expect_equal(rt, &logins.len(), &3);
-    let down = login_of(rt, &blocks[2]);
-    expect_equal(rt, &logins.get(2), &Some(down));
-    expect_equal(rt, &logins.time(2), &Some(7));
-    expect_equal(rt, &logins.event(2), &Some(Event::Down));
-    expect_equal(rt, &logins.user(2), &Some(down.user));
-    let line = Key::of(&login_of(rt, &blocks[0]).line);
-    assert!(rt; logins.line_key(0) == Some(line));
-    assert!(rt; logins.user_key(0) != logins.user_key(2));
-    expect_equal(rt, &logins.get(3), &None);
 }
 
 #[test]
@@ -158,7 +137,18 @@ fn parts_of_records_are_read_alone(rt: HostRuntime) {
     let rt = &rt;
     let blocks = three_records();
     let logins = Logins::read(rt.alloc(), &blocks).expect(rt, "three records");
-    expect_parts(rt, &logins, &blocks);
+    let [first, _, last] = &blocks;
+    let line = Key::of(&login_of(rt, first).line);
+    let down = login_of(rt, last);
+    expect_equal(rt, &logins.len(), &3);
+    expect_equal(rt, &logins.get(2), &Some(down));
+    expect_equal(rt, &logins.time(2), &Some(7));
+    expect_equal(rt, &logins.event(2), &Some(Event::Down));
+    expect_equal(rt, &logins.user(2), &Some(down.user));
+    let is_line = logins.line_key(0) == Some(line);
+    let is_other_user = logins.user_key(0) != logins.user_key(2);
+    expect_equal(rt, &[is_line, is_other_user], &[true, true]);
+    expect_equal(rt, &logins.get(3), &None);
     drop(logins);
 }
 
@@ -188,28 +178,26 @@ fn a_batch_holds_up_to_1024_records(rt: HostRuntime) {
     expect_zeros(rt, alloc, 0, &Ok(0));
 }
 
-/// Asserts what a batch of one process record shows.
-fn expect_process(rt: &impl Abort, batch: &Batch) {
-    expect_equal(rt, &batch.kind(), &Kind::Proc);
-    expect_equal(rt, &batch.len(), &1);
-    let wanted = proc_of(rt, &proc_record(2));
-    expect_equal(rt, &batch.proc_at(0), &Some(wanted));
-    expect_equal(rt, &batch.login_at(0), &None);
-}
-
 #[test]
 fn a_batch_of_process_records_shows_them(rt: HostRuntime) {
     let rt = &rt;
-    let batch = Batch::procs(rt.alloc(), &proc_record(2)).expect(rt, "a batch");
-    expect_process(rt, &batch);
+    let bytes = proc_record(2);
+    let batch = Batch::procs(rt.alloc(), &bytes).expect(rt, "a batch");
+    let wanted = proc_of(rt, &bytes);
+    expect_equal(rt, &batch.kind(), &Kind::Proc);
+    expect_equal(rt, &batch.len(), &1);
+    expect_equal(rt, &batch.proc_at(0), &Some(wanted));
+    expect_equal(rt, &batch.login_at(0), &None);
     drop(batch);
 }
 
-/// Asserts that a copy of an empty list shows what was pushed.
-fn expect_copy(rt: &impl Abort, alloc: Global, list: &mut List<i32>) {
+/// Asserts that a copy of a list shows what was pushed.
+fn expect_copy(rt: &impl Abort, alloc: Global) {
+    let mut list = List::new(alloc);
     list.push(5).expect(rt, "memory");
     list.push(7).expect(rt, "memory");
     let copy = list.try_copy(alloc).expect(rt, "memory");
+    drop(list);
     expect_equal(rt, &copy.as_slice(), &[5, 7].as_slice());
     expect_equal(rt, &copy.len(), &2);
     expect_equal(rt, &copy.get(1), &Some(7));
@@ -230,9 +218,7 @@ fn expect_shared(rt: &impl Abort, alloc: Global, list: &mut List<i32>) {
 fn a_list_keeps_its_values_in_order(rt: HostRuntime) {
     let rt = &rt;
     let alloc = rt.alloc();
-    let mut empty = List::new(alloc);
-    expect_copy(rt, alloc, &mut empty);
-    drop(empty);
+    expect_copy(rt, alloc);
     let values = vec![in alloc; 1, 2].expect(rt, "memory");
     let mut list = List::from_vec(alloc, values).expect(rt, "a list");
     expect_shared(rt, alloc, &mut list);
