@@ -2,7 +2,6 @@
 ghost use Rattle.std.specs.Prelude.{◌≡◌, true};
 
 use super::{boot, login};
-use std::alloc::Global;
 use std::io::{self, ErrorKind, Write};
 use std::process::Abort;
 use tally_clock::Clock;
@@ -60,20 +59,14 @@ fn boots() -> [Stay; 3] {
     ]
 }
 
-/// Asserts what was written to an output that had so much room, and how often it failed.
-fn expect_output(rt: &impl Abort, out: &Narrow, room: usize) {
-    let (text, rest) = BOOTS.split_at(room.min(BOOTS.len()));
-    assert!(rt; out.bytes.as_slice() == text);
-    assert!(rt; out.failures == u64::from(!rest.is_empty()));
-}
-
-/// Prints the boots over an output that takes `step` bytes at a time and `room` in all, and asserts what it took.
-fn print_narrow(
-    rt: &impl Abort,
-    alloc: Global,
+/// Asserts what printing answers over an output that takes `step` bytes at a time and `room` in all, and what it took.
+fn expect_narrow<R: Abort + AllocGlobal>(
+    rt: &R,
     step: usize,
     room: usize,
-) -> Result<(), PrintFault> {
+    wanted: Result<(), PrintFault>,
+) {
+    let alloc = rt.alloc();
     let mut out = Narrow {
         bytes: Vec::new(alloc),
         step,
@@ -83,31 +76,30 @@ fn print_narrow(
     let utc = Clock::utc(alloc);
     let printed = print_last(alloc, &utc, &boots(), Some(100), 0, &mut out, None);
     drop(utc);
-    expect_output(rt, &out, room);
+    let taken = BOOTS.split_at(room.min(BOOTS.len())).0;
+    let is_taken = out.bytes.as_slice() == taken;
+    let is_counted = out.failures == u64::from(printed.is_err());
     drop(out);
-    printed
+    assert!(rt; is_taken);
+    assert!(rt; is_counted);
+    assert!(rt; printed == wanted, "at {room}");
 }
 
 #[test]
 fn a_failed_write_leaves_the_bytes_before_it(rt: HostRuntime) {
-    let rt = &rt;
-    let alloc = rt.alloc();
     for room in 0..BOOTS.len() {
-        let printed = print_narrow(rt, alloc, 1, room);
-        assert!(rt; printed == Err(PrintFault::Write), "at {room}");
+        expect_narrow(&rt, 1, room, Err(PrintFault::Write));
     }
 }
 
 #[test]
 fn an_output_of_one_byte_at_a_time_takes_all(rt: HostRuntime) {
-    let printed = print_narrow(&rt, rt.alloc(), 1, BOOTS.len());
-    assert!(rt; printed == Ok(()));
+    expect_narrow(&rt, 1, BOOTS.len(), Ok(()));
 }
 
 #[test]
 fn a_write_fails_in_mid_line(rt: HostRuntime) {
-    let printed = print_narrow(&rt, rt.alloc(), 1000, 100);
-    assert!(rt; printed == Err(PrintFault::Write));
+    expect_narrow(&rt, 1000, 100, Err(PrintFault::Write));
 }
 
 /// A writer that takes all and fails where it is to be flushed.
@@ -127,11 +119,8 @@ impl Write for Unflushed {
 #[test]
 fn the_writer_is_flushed_at_the_end(rt: HostRuntime) {
     let mut out = Writing::new(Unflushed);
-    let taken = out.put(b"total");
-    let finished = out.finish();
-    drop(out);
-    assert!(rt; taken == Ok(5));
-    assert!(rt; finished == Err(OutputFault));
+    assert!(rt; out.put(b"total") == Ok(5));
+    assert!(rt; out.finish() == Err(OutputFault));
 }
 
 #[test]

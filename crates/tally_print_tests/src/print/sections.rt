@@ -46,10 +46,10 @@ fn post(rt: &impl Abort, alloc: Global, book: &mut Book, host: u32, records: &[[
     drop(batch);
 }
 
-/// Posts for one host a running time with a login in it, for the other two logins, of which one has not ended.
-fn post_both(rt: &impl Abort, alloc: Global, book: &mut Book)
-    requires { book.old.callers ≡ 2 }
-    ensures { book.new.callers ≡ 2 }
+/// The sessions of two hosts: of one a running time with a login in it, of the other two logins, of which one has not
+/// ended.
+fn sessions<R: Abort + RandomSource + Threads + Sync>(rt: &R, alloc: Global) -> Sessions
+    ensures { result.hosts ≡ 2 }
 {
     let boot = [
         record(2, b"~", b"reboot", 100),
@@ -61,17 +61,10 @@ fn post_both(rt: &impl Abort, alloc: Global, book: &mut Book)
         record(7, b"tty2", b"bob", 0),
         record(8, b"tty1", b"", 90_000),
     ];
-    post(rt, alloc, book, 0, &boot);
-    post(rt, alloc, book, 1, &logins);
-}
-
-/// The sessions of both.
-fn sessions<R: Abort + RandomSource + Threads + Sync>(rt: &R, alloc: Global) -> Sessions
-    ensures { result.hosts ≡ 2 }
-{
     let keys = RandomState::new(rt).expect(rt, "random bytes");
     let mut book = Book::new(alloc, keys, 2).expect(rt, "a book");
-    post_both(rt, alloc, &mut book);
+    post(rt, alloc, &mut book, 0, &boot);
+    post(rt, alloc, &mut book, 1, &logins);
     book.into_sessions(rt, alloc, 2).expect(rt, "sessions")
 }
 
