@@ -62,12 +62,20 @@ struct Limits {
     asked: Option<AskFault>,
 }
 
-/// The limits of a book that is filled with the batch.
-fn limits_in(alloc: Global, book: &mut Book, batch: &Batch, empty: &Batch) -> Limits {
-    let refused = filled(book, batch);
-    let then = post(book, 0, empty);
+/// The limits of a new book that is filled with the batch.
+fn limits_of<R: Abort + AllocGlobal + RandomSource>(
+    rt: &R,
+    batch: &Batch,
+    empty: &Batch,
+) -> Limits {
+    let alloc = rt.alloc();
+    let keys = RandomState::new(rt).expect(rt, "random bytes");
+    let mut book = Book::new(alloc, keys, 1).expect(rt, "a book");
+    let refused = filled(&mut book, batch);
+    let then = post(&mut book, 0, empty);
     let calls = book.calls().len();
-    let asked = ask(alloc, book, 0, TOTAL).err();
+    let asked = ask(alloc, &mut book, 0, TOTAL).err();
+    drop(book);
     Limits {
         refused,
         then,
@@ -76,30 +84,15 @@ fn limits_in(alloc: Global, book: &mut Book, batch: &Batch, empty: &Batch) -> Li
     }
 }
 
-/// The same of a new book.
-fn limits_of<R: Abort + RandomSource>(
-    rt: &R,
-    alloc: Global,
-    batch: &Batch,
-    empty: &Batch,
-) -> Limits {
-    let keys = RandomState::new(rt).expect(rt, "random bytes");
-    let mut book = Book::new(alloc, keys, 1).expect(rt, "a book");
-    let limits = limits_in(alloc, &mut book, batch, empty);
-    drop(book);
-    limits
-}
-
 /// Asserts why a book refuses the batch at last, and what is stored when an empty batch is posted then.
-fn expect_full<R: Abort + RandomSource>(
+fn expect_full<R: Abort + AllocGlobal + RandomSource>(
     rt: &R,
-    alloc: Global,
     batch: &Batch,
     empty: &Batch,
     fault: PostFault,
     stored: Counts,
 ) {
-    let Limits { refused, then, .. } = limits_of(rt, alloc, batch, empty);
+    let Limits { refused, then, .. } = limits_of(rt, batch, empty);
     expect_equal(rt, &refused, &Some(fault));
     let receipt = then.expect(rt, "a receipt");
     expect_equal(rt, &receipt.call, &1025);
@@ -107,9 +100,9 @@ fn expect_full<R: Abort + RandomSource>(
 }
 
 /// A batch of so many zeros, which are login records.
-fn logins_of(rt: &impl Abort, alloc: Global, count: usize) -> Batch {
-    let bytes = repeated(rt, alloc, 0, count);
-    let batch = Batch::logins(alloc, bytes.as_slice()).expect(rt, "login records");
+fn logins_of<R: Abort + AllocGlobal>(rt: &R, count: usize) -> Batch {
+    let bytes = repeated(rt, 0, count);
+    let batch = Batch::logins(rt.alloc(), bytes.as_slice()).expect(rt, "login records");
     drop(bytes);
     batch
 }
@@ -117,19 +110,18 @@ fn logins_of(rt: &impl Abort, alloc: Global, count: usize) -> Batch {
 #[test]
 fn a_book_full_of_login_records_takes_an_empty_batch_alone(rt: HostRuntime) {
     let rt = &rt;
-    let alloc = rt.alloc();
-    let batch = logins_of(rt, alloc, 393_216);
-    let empty = logins_of(rt, alloc, 0);
+    let batch = logins_of(rt, 393_216);
+    let empty = logins_of(rt, 0);
     let fault = PostFault::LoginsFull { stored: 1_048_576 };
-    expect_full(rt, alloc, &batch, &empty, fault, counts(1_048_576, 0));
+    expect_full(rt, &batch, &empty, fault, counts(1_048_576, 0));
     drop(empty);
     drop(batch);
 }
 
 /// A batch of so many twos, which are process records.
-fn procs_of(rt: &impl Abort, alloc: Global, count: usize) -> Batch {
-    let bytes = repeated(rt, alloc, 2, count);
-    let batch = Batch::procs(alloc, bytes.as_slice()).expect(rt, "process records");
+fn procs_of<R: Abort + AllocGlobal>(rt: &R, count: usize) -> Batch {
+    let bytes = repeated(rt, 2, count);
+    let batch = Batch::procs(rt.alloc(), bytes.as_slice()).expect(rt, "process records");
     drop(bytes);
     batch
 }
@@ -137,11 +129,10 @@ fn procs_of(rt: &impl Abort, alloc: Global, count: usize) -> Batch {
 #[test]
 fn a_book_full_of_process_records_takes_an_empty_batch_alone(rt: HostRuntime) {
     let rt = &rt;
-    let alloc = rt.alloc();
-    let batch = procs_of(rt, alloc, 65_536);
-    let empty = procs_of(rt, alloc, 0);
+    let batch = procs_of(rt, 65_536);
+    let empty = procs_of(rt, 0);
     let fault = PostFault::ProcsFull { stored: 1_048_576 };
-    expect_full(rt, alloc, &batch, &empty, fault, counts(0, 1_048_576));
+    expect_full(rt, &batch, &empty, fault, counts(0, 1_048_576));
     drop(empty);
     drop(batch);
 }
@@ -149,9 +140,8 @@ fn a_book_full_of_process_records_takes_an_empty_batch_alone(rt: HostRuntime) {
 #[test]
 fn a_history_holds_65536_calls(rt: HostRuntime) {
     let rt = &rt;
-    let alloc = rt.alloc();
-    let empty = procs_of(rt, alloc, 0);
-    let full = limits_of(rt, alloc, &empty, &empty);
+    let empty = procs_of(rt, 0);
+    let full = limits_of(rt, &empty, &empty);
     drop(empty);
     expect_equal(rt, &full.refused, &Some(PostFault::CallsFull));
     expect_equal(rt, &full.calls, &65_536);

@@ -1,11 +1,10 @@
 //! Bytes of records, and what they hold.
-use std::alloc::Global;
 use std::process::Abort;
 use tally_records::{LoginRecord, ProcRecord, read_login, read_proc};
 
 /// So many of one byte.
-pub(crate) fn repeated(rt: &impl Abort, alloc: Global, byte: u8, count: usize) -> Vec<u8> {
-    vec![in alloc; byte; count].expect(rt, "memory")
+pub(crate) fn repeated<R: Abort + AllocGlobal>(rt: &R, byte: u8, count: usize) -> Vec<u8> {
+    vec![in rt.alloc(); byte; count].expect(rt, "memory")
 }
 
 pub(crate) fn put(bytes: &mut [u8], at: usize, text: &[u8]) {

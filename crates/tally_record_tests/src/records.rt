@@ -161,9 +161,9 @@ fn length_of(batch: Result<Batch, BatchFault>) -> Result<usize, BatchFault> {
 }
 
 /// Asserts how many records so many zeros hold, or why they are no batch.
-fn expect_zeros(rt: &impl Abort, alloc: Global, count: usize, wanted: &Result<usize, BatchFault>) {
-    let zeros = repeated(rt, alloc, 0, count);
-    let batch = Batch::logins(alloc, zeros.as_slice());
+fn expect_zeros<R: Abort + AllocGlobal>(rt: &R, count: usize, wanted: &Result<usize, BatchFault>) {
+    let zeros = repeated(rt, 0, count);
+    let batch = Batch::logins(rt.alloc(), zeros.as_slice());
     drop(zeros);
     expect_equal(rt, &length_of(batch), wanted);
 }
@@ -171,11 +171,10 @@ fn expect_zeros(rt: &impl Abort, alloc: Global, count: usize, wanted: &Result<us
 #[test]
 fn a_batch_holds_up_to_1024_records(rt: HostRuntime) {
     let rt = &rt;
-    let alloc = rt.alloc();
-    expect_zeros(rt, alloc, 393_216, &Ok(1024));
-    expect_zeros(rt, alloc, 393_600, &Err(BatchFault::TooMany(1025)));
-    expect_zeros(rt, alloc, 385, &Err(BatchFault::Length(385)));
-    expect_zeros(rt, alloc, 0, &Ok(0));
+    expect_zeros(rt, 393_216, &Ok(1024));
+    expect_zeros(rt, 393_600, &Err(BatchFault::TooMany(1025)));
+    expect_zeros(rt, 385, &Err(BatchFault::Length(385)));
+    expect_zeros(rt, 0, &Ok(0));
 }
 
 #[test]
