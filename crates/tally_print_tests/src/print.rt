@@ -1,6 +1,7 @@
 //! The worked reports with their printed lines, and outputs that fail.
 ghost use Rattle.std.specs.Prelude.{◌≤◌, length};
 
+use std::alloc::Global;
 use std::process::Abort;
 use tally_clock::Clock;
 use tally_print::{Kept, PrintFault};
@@ -28,8 +29,8 @@ fn is_printed(rt: &impl Abort, printed: Result<(), PrintFault>, out: Kept, text:
 }
 
 /// Berlin's clock by the rule that holds since 1996.
-fn berlin<R: Abort + AllocGlobal>(rt: &R) -> Clock {
-    Clock::of_rule(rt.alloc(), b"CET-1CEST,M3.5.0,M10.5.0/3").expect(rt, "a clock")
+fn berlin(rt: &impl Abort, alloc: Global) -> Clock {
+    Clock::of_rule(alloc, b"CET-1CEST,M3.5.0,M10.5.0/3").expect(rt, "a clock")
 }
 
 /// A name of utmp(5): its bytes, and zeros after them.

@@ -2,6 +2,7 @@
 ghost use Rattle.tally_sessions.specs.Days.{IsOffset};
 
 use super::{berlin, boot, is_printed, login};
+use std::alloc::Global;
 use std::process::Abort;
 use tally_clock::Clock;
 use tally_print::{Kept, print_last};
@@ -9,15 +10,15 @@ use tally_sessions::{End, Stay};
 
 /// Asserts that the stays of host 0 print this text by a clock, with those that nothing has ended counted up to a moment.
 /// Where a growth is refused, the second try prints it.
-fn expect_until<R: Abort + AllocGlobal>(
-    rt: &R,
+fn expect_until(
+    rt: &impl Abort,
+    alloc: Global,
     clock: &Clock,
     rows: &[Stay],
     first: Option<i32>,
     until: Option<i32>,
     text: &[u8],
 ) {
-    let alloc = rt.alloc();
     for _ in 0..2 {
         let mut out = Kept::new(alloc);
         let printed = print_last(alloc, clock, rows, first, 0, &mut out, until);
@@ -29,36 +30,44 @@ fn expect_until<R: Abort + AllocGlobal>(
 }
 
 /// The same by the clock of UTC, with stays that nothing has ended counted up to the last record.
-fn expect_last<R: Abort + AllocGlobal>(rt: &R, rows: &[Stay], first: Option<i32>, text: &[u8]) {
-    let utc = Clock::utc(rt.alloc());
-    expect_until(rt, &utc, rows, first, None, text);
+fn expect_last(rt: &impl Abort, alloc: Global, rows: &[Stay], first: Option<i32>, text: &[u8]) {
+    let utc = Clock::utc(alloc);
+    expect_until(rt, alloc, &utc, rows, first, None, text);
     drop(utc);
 }
 
 #[test]
 fn a_host_without_records_has_no_records(rt: HostRuntime) {
-    expect_last(&rt, &[], None, b"wtmp has no records\n");
+    let rt = &rt;
+    let alloc = rt.alloc();
+    expect_last(rt, alloc, &[], None, b"wtmp has no records\n");
 }
 
 #[test]
 fn a_host_without_logins_has_records(rt: HostRuntime) {
+    let rt = &rt;
+    let alloc = rt.alloc();
     let text = b"\nwtmp begins 1970-01-01 00:00:00\n";
-    expect_last(&rt, &[], Some(0), text);
+    expect_last(rt, alloc, &[], Some(0), text);
 }
 
 #[test]
 fn a_logout_has_its_time_and_the_length(rt: HostRuntime) {
+    let rt = &rt;
+    let alloc = rt.alloc();
     let ann = login(b"ann", 1_000_000, End::Logout, 1_003_600, 3600);
     let text = b"\
 ann      tty1                          1970-01-12 13:46:40 - 1970-01-12 14:46:40 (01:00)
 
 wtmp begins 1970-01-12 13:46:40
 ";
-    expect_last(&rt, &[ann], Some(1_000_000), text);
+    expect_last(rt, alloc, &[ann], Some(1_000_000), text);
 }
 
 #[test]
 fn boots_and_shutdowns_have_words(rt: HostRuntime) {
+    let rt = &rt;
+    let alloc = rt.alloc();
     let rows = [
         boot(1100, End::Still, 1100, 0),
         login(b"ann", 200, End::Down, 1000, 800),
@@ -71,12 +80,13 @@ reboot   system boot                   1970-01-01 00:01:40 - crash              
 
 wtmp begins 1970-01-01 00:01:40
 ";
-    expect_last(&rt, &rows, Some(100), text);
+    expect_last(rt, alloc, &rows, Some(100), text);
 }
 
 #[test]
 fn open_stays_have_a_span_up_to_a_moment(rt: HostRuntime) {
     let rt = &rt;
+    let alloc = rt.alloc();
     let rows = [
         login(b"ann", 1100, End::Still, 5000, 3900),
         boot(1000, End::Still, 5000, 4000),
@@ -89,13 +99,15 @@ ann      tty1                          1970-01-01 00:03:20 - down               
 
 wtmp begins 1970-01-01 00:03:20
 ";
-    let utc = Clock::utc(rt.alloc());
-    expect_until(rt, &utc, &rows, Some(200), Some(5000), text);
+    let utc = Clock::utc(alloc);
+    expect_until(rt, alloc, &utc, &rows, Some(200), Some(5000), text);
     drop(utc);
 }
 
 #[test]
 fn a_span_over_a_day_tells_the_days(rt: HostRuntime) {
+    let rt = &rt;
+    let alloc = rt.alloc();
     let rows = [
         login(b"ann", 0, End::Next, 90_061, 90_061),
         login(b"ann", 2000, End::Logout, 1000, 0),
@@ -106,11 +118,13 @@ ann      tty1                          1970-01-01 00:33:20 - 1970-01-01 00:16:40
 
 wtmp begins 1970-01-01 00:00:00
 ";
-    expect_last(&rt, &rows, Some(0), text);
+    expect_last(rt, alloc, &rows, Some(0), text);
 }
 
 #[test]
 fn long_texts_stand_whole_and_hostile_bytes_do_not(rt: HostRuntime) {
+    let rt = &rt;
+    let alloc = rt.alloc();
     let mut stay = login(b"abcdefghijklmnopqrstuvwxyz012345", 60, End::Still, 60, 0);
     stay.remote[0] = b'h';
     stay.remote[1] = 0x1B;
@@ -120,14 +134,13 @@ abcdefghijklmnopqrstuvwxyz012345 tty1         h?1              1970-01-01 00:01:
 
 wtmp begins 1970-01-01 00:01:00
 ";
-    expect_last(&rt, &[stay], Some(60), text);
+    expect_last(rt, alloc, &[stay], Some(60), text);
 }
 
 /// Asserts that no stays, of a host whose first record has this time, print this text at an offset.
-fn expect_beginning<R: Abort + AllocGlobal>(rt: &R, first: i32, offset: i32, text: &[u8])
+fn expect_beginning(rt: &impl Abort, alloc: Global, first: i32, offset: i32, text: &[u8])
     requires { IsOffset offset }
 {
-    let alloc = rt.alloc();
     let mut out = Kept::new(alloc);
     let utc = Clock::utc(alloc);
     let printed = print_last(alloc, &utc, &[], Some(first), offset, &mut out, None);
@@ -138,15 +151,17 @@ fn expect_beginning<R: Abort + AllocGlobal>(rt: &R, first: i32, offset: i32, tex
 #[test]
 fn an_offset_moves_dates_to_the_ends_of_time(rt: HostRuntime) {
     let rt = &rt;
+    let alloc = rt.alloc();
     let text = b"\nwtmp begins 1901-12-12 20:46:52\n";
-    expect_beginning(rt, i32::MIN, -1439, text);
+    expect_beginning(rt, alloc, i32::MIN, -1439, text);
     let text = b"\nwtmp begins 2038-01-20 03:13:07\n";
-    expect_beginning(rt, i32::MAX, 1439, text);
+    expect_beginning(rt, alloc, i32::MAX, 1439, text);
 }
 
 #[test]
 fn clocks_go_forward_within_a_stay(rt: HostRuntime) {
     let rt = &rt;
+    let alloc = rt.alloc();
     let ann = login(b"ann", 1_774_745_999, End::Logout, 1_774_746_000, 1);
     let text = b"\
 ann      tty1                          2026-03-29 01:59:59 - 2026-03-29 03:00:00 (00:00)
@@ -154,7 +169,7 @@ ann      tty1                          2026-03-29 01:59:59 - 2026-03-29 03:00:00
 wtmp begins 2026-03-29 01:59:59
 ";
     let first = Some(1_774_745_999);
-    let berlin = berlin(rt);
-    expect_until(rt, &berlin, &[ann], first, None, text);
+    let berlin = berlin(rt, alloc);
+    expect_until(rt, alloc, &berlin, &[ann], first, None, text);
     drop(berlin);
 }

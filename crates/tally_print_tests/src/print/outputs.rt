@@ -2,6 +2,7 @@
 ghost use Rattle.std.specs.Prelude.{◌≡◌, true};
 
 use super::{boot, login};
+use std::alloc::Global;
 use std::io::{self, ErrorKind, Write};
 use std::process::Abort;
 use tally_clock::Clock;
@@ -60,13 +61,13 @@ fn boots() -> [Stay; 3] {
 }
 
 /// Asserts what printing answers over an output that takes `step` bytes at a time and `room` in all, and what it took.
-fn expect_narrow<R: Abort + AllocGlobal>(
-    rt: &R,
+fn expect_narrow(
+    rt: &impl Abort,
+    alloc: Global,
     step: usize,
     room: usize,
     wanted: Result<(), PrintFault>,
 ) {
-    let alloc = rt.alloc();
     let mut out = Narrow {
         bytes: Vec::new(alloc),
         step,
@@ -80,26 +81,27 @@ fn expect_narrow<R: Abort + AllocGlobal>(
     let is_taken = out.bytes.as_slice() == taken;
     let is_counted = out.failures == u64::from(printed.is_err());
     drop(out);
-    assert!(rt; is_taken);
-    assert!(rt; is_counted);
-    assert!(rt; printed == wanted, "at {room}");
+    let is_answered = printed == wanted;
+    assert!(rt; is_taken & is_counted & is_answered, "at {room}");
 }
 
 #[test]
 fn a_failed_write_leaves_the_bytes_before_it(rt: HostRuntime) {
+    let rt = &rt;
+    let alloc = rt.alloc();
     for room in 0..BOOTS.len() {
-        expect_narrow(&rt, 1, room, Err(PrintFault::Write));
+        expect_narrow(rt, alloc, 1, room, Err(PrintFault::Write));
     }
 }
 
 #[test]
 fn an_output_of_one_byte_at_a_time_takes_all(rt: HostRuntime) {
-    expect_narrow(&rt, 1, BOOTS.len(), Ok(()));
+    expect_narrow(&rt, rt.alloc(), 1, BOOTS.len(), Ok(()));
 }
 
 #[test]
 fn a_write_fails_in_mid_line(rt: HostRuntime) {
-    expect_narrow(&rt, 1000, 100, Err(PrintFault::Write));
+    expect_narrow(&rt, rt.alloc(), 1000, 100, Err(PrintFault::Write));
 }
 
 /// A writer that takes all and fails where it is to be flushed.

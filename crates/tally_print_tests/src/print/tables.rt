@@ -4,6 +4,7 @@ ghost use Rattle.tally_book.specs.Answers.{HasDay, HasDays};
 ghost use Rattle.tally_sessions.specs.Days.{IsDay, IsOffset};
 
 use super::{berlin, boot, command, is_printed, login, name};
+use std::alloc::Global;
 use std::process::Abort;
 use tally_book::{Answer, ConnectRow};
 use tally_clock::Clock;
@@ -32,17 +33,17 @@ fn of_day(day: i32, user: &[u8], seconds: u64) -> ConnectRow
     }
 }
 
-fn list_of<R: Abort + AllocGlobal, T: Copy>(rt: &R, rows: &[T]) -> List<T>
+fn list_of<T: Copy>(rt: &impl Abort, alloc: Global, rows: &[T]) -> List<T>
     ensures { result ≡ rows.now }
 {
-    let alloc = rt.alloc();
     let rows = Vec::from_slice(alloc, rows).expect(rt, "memory");
     List::from_vec(alloc, rows).expect(rt, "memory")
 }
 
 /// Asserts that the answers print this table, or a first part of it where a growth is refused.
-fn expect_table<R: Abort + AllocGlobal>(
-    rt: &R,
+fn expect_table(
+    rt: &impl Abort,
+    alloc: Global,
     clock: &Clock,
     table: Table,
     answers: &[Answer],
@@ -52,26 +53,26 @@ fn expect_table<R: Abort + AllocGlobal>(
     requires days { All HasDays answers.now }
     requires offset { IsOffset offset }
 {
-    let alloc = rt.alloc();
     let mut out = Kept::new(alloc);
     let printed = print_table(alloc, clock, table, answers, offset, &mut out);
     is_printed(rt, printed, out, text);
 }
 
 /// The same of one answer in UTC.
-fn expect_answer<R: Abort + AllocGlobal>(rt: &R, table: Table, answer: Answer, text: &[u8])
+fn expect_answer(rt: &impl Abort, alloc: Global, table: Table, answer: Answer, text: &[u8])
     requires { HasDays answer }
 {
-    let utc = Clock::utc(rt.alloc());
+    let utc = Clock::utc(alloc);
     let answers = [answer];
-    expect_table(rt, &utc, table, &answers, 0, text);
+    expect_table(rt, alloc, &utc, table, &answers, 0, text);
     drop(answers);
     drop(utc);
 }
 
 /// The same of connect times.
-fn expect_connect<R: Abort + AllocGlobal>(
-    rt: &R,
+fn expect_connect(
+    rt: &impl Abort,
+    alloc: Global,
     by_day: bool,
     by_user: bool,
     rows: &[ConnectRow],
@@ -79,21 +80,23 @@ fn expect_connect<R: Abort + AllocGlobal>(
 )
     requires { All HasDay rows.now }
 {
-    let rows = list_of(rt, rows);
+    let rows = list_of(rt, alloc, rows);
     let answer = Answer::Connect { rows, total: 600 };
     let table = Table::Connect { by_day, by_user };
-    expect_answer(rt, table, answer, text);
+    expect_answer(rt, alloc, table, answer, text);
 }
 
-fn of_file<R: Abort + AllocGlobal>(rt: &R, stay: Stay) -> Answer
+fn of_file(rt: &impl Abort, alloc: Global, stay: Stay) -> Answer
     ensures { HasDays result }
 {
-    let rows = list_of(rt, &[stay]);
+    let rows = list_of(rt, alloc, &[stay]);
     Answer::Last { rows, first: None }
 }
 
 #[test]
 fn hostile_names_are_quoted(rt: HostRuntime) {
+    let rt = &rt;
+    let alloc = rt.alloc();
     let rows = [
         of_day(0, b"a,b", 1),
         of_day(1, b"say \"hi\"", 86_400),
@@ -107,30 +110,32 @@ day,user,seconds
 1969-12-31,x?y?,4294967295
 1970-01-03,\"\"\"\",0
 ";
-    expect_connect(&rt, true, true, &rows, text);
+    expect_connect(rt, alloc, true, true, &rows, text);
 }
 
 #[test]
 fn an_empty_report_is_its_header_and_a_total_stands_alone(rt: HostRuntime) {
     let rt = &rt;
-    expect_connect(rt, true, false, &[], b"day,seconds\n");
-    expect_connect(rt, false, true, &[], b"user,seconds\n");
-    expect_connect(rt, false, false, &[], b"seconds\n600\n");
+    let alloc = rt.alloc();
+    expect_connect(rt, alloc, true, false, &[], b"day,seconds\n");
+    expect_connect(rt, alloc, false, true, &[], b"user,seconds\n");
+    expect_connect(rt, alloc, false, false, &[], b"seconds\n600\n");
 }
 
 #[test]
 fn stays_of_two_files_stand_under_one_header(rt: HostRuntime) {
     let rt = &rt;
-    let first = of_file(rt, boot(1100, End::Still, 1100, 0));
+    let alloc = rt.alloc();
+    let first = of_file(rt, alloc, boot(1100, End::Still, 1100, 0));
     let ann = login(b"ann", -200, End::Down, 1000, 1200);
-    let answers = [first, of_file(rt, ann)];
+    let answers = [first, of_file(rt, alloc, ann)];
     let text = b"\
 file,user,line,remote,start,start_at,begin,end,end_time,end_at,seconds
 1,reboot,,,1100,1969-12-31T18:48:20-05:30,1100,still,1100,1969-12-31T18:48:20-05:30,0
 1,ann,tty1,,-200,1969-12-31T18:26:40-05:30,-200,down,1000,1969-12-31T18:46:40-05:30,1200
 ";
-    let utc = Clock::utc(rt.alloc());
-    expect_table(rt, &utc, Table::Stays, &answers, -330, text);
+    let utc = Clock::utc(alloc);
+    expect_table(rt, alloc, &utc, Table::Stays, &answers, -330, text);
     drop(utc);
     drop(answers);
 }
@@ -138,14 +143,15 @@ file,user,line,remote,start,start_at,begin,end,end_time,end_at,seconds
 #[test]
 fn the_offset_is_that_of_the_second(rt: HostRuntime) {
     let rt = &rt;
+    let alloc = rt.alloc();
     let ann = login(b"ann", 1_774_745_999, End::Logout, 1_774_746_000, 1);
-    let answers = [of_file(rt, ann)];
+    let answers = [of_file(rt, alloc, ann)];
     let text = b"\
 file,user,line,remote,start,start_at,begin,end,end_time,end_at,seconds
 1,ann,tty1,,1774745999,2026-03-29T01:29:59+00:30,1774745999,logout,1774746000,2026-03-29T02:30:00+01:30,1
 ";
-    let berlin = berlin(rt);
-    expect_table(rt, &berlin, Table::Stays, &answers, -30, text);
+    let berlin = berlin(rt, alloc);
+    expect_table(rt, alloc, &berlin, Table::Stays, &answers, -30, text);
     drop(berlin);
     drop(answers);
 }
@@ -153,32 +159,34 @@ file,user,line,remote,start,start_at,begin,end,end_time,end_at,seconds
 #[test]
 fn usage_has_ticks_and_sums(rt: HostRuntime) {
     let rt = &rt;
+    let alloc = rt.alloc();
     let rows = [
         command(b"a\"b", true, false, USAGE),
         command(b"***other", false, true, USAGE),
     ];
-    let rows = list_of(rt, &rows);
+    let rows = list_of(rt, alloc, &rows);
     let answer = Answer::Commands { rows, total: USAGE };
     let text = b"\
 command,forked,other,calls,real_ticks,cpu_ticks,io,mem_cpu
 \"a\"\"b\",1,0,30,6001,180,1000,90000
 ***other,0,1,30,6001,180,1000,90000
 ";
-    expect_answer(rt, Table::Commands, answer, text);
+    expect_answer(rt, alloc, Table::Commands, answer, text);
 }
 
 #[test]
 fn usage_of_users_has_their_numbers(rt: HostRuntime) {
     let rt = &rt;
+    let alloc = rt.alloc();
     let row = UidRow {
         uid: 4_294_967_295,
         usage: USAGE,
     };
-    let rows = list_of(rt, &[row]);
+    let rows = list_of(rt, alloc, &[row]);
     let answer = Answer::Users { rows, total: USAGE };
     let text = b"\
 uid,calls,real_ticks,cpu_ticks,io,mem_cpu
 4294967295,30,6001,180,1000,90000
 ";
-    expect_answer(rt, Table::Users, answer, text);
+    expect_answer(rt, alloc, Table::Users, answer, text);
 }
