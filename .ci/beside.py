@@ -6,7 +6,7 @@ import sys
 import threading
 import time
 
-# What a check holds in memory at most, how long it takes to get there, and which part of the machine's memory is left to others.
+# What a check holds in memory at most, in kB, how long it takes to get there, and which part of the machine's memory is left to others.
 NEED, GROWING, REST = 3_000_000, 60.0, 0.2
 
 
