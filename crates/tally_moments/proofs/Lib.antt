@@ -1,0 +1,4 @@
+pub mod MomentLemmas
+pub mod Reaching
+pub mod ShapeLemmas
+mod WorkedMoments
