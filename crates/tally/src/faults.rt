@@ -7,6 +7,7 @@ use crate::shown::{ErrorsTo, Shown};
 use std::fmt::Display;
 use std::process::ExitCode;
 use tally_cli::{FileArg, RunFault};
+use tally_line::TimesFault;
 use tally_records::Memory;
 use tally_zones::{ZoneFault, hint_on};
 
@@ -52,6 +53,12 @@ pub(crate) fn zone_fault<R: Eprint>(
         ZoneFault::NoZone => file_fault(rt, FAULT, shown, "no time zone file"),
         ZoneFault::Mistaken => file_fault(rt, REFUSED, shown, hint_on(word)),
     }
+}
+
+/// Prints why moments are refused, as it is printed of a refused command line.
+pub(crate) fn times_fault<R: Eprint>(rt: &R, found: TimesFault) -> ExitCode {
+    let _ = eprint!(rt; "{found}");
+    ExitCode::from(REFUSED)
 }
 
 /// Prints the text of a refused command line.

@@ -1,7 +1,9 @@
 //! `tally`: reports of login and process accounting files, as last(1), ac(1) and sa(8) give them.
 #![tactic(auto)]
 
+mod asked;
 mod faults;
+mod now;
 mod opened;
 mod output;
 mod program;

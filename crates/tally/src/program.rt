@@ -1,9 +1,11 @@
 //! The program over a runtime.
-ghost use Rattle.std.specs.Prelude.{◌≡◌, None, Ok};
-ghost use Rattle.tally_clock.specs.Rows.{utc};
-ghost use Rattle.tally_line.specs.Jobs.{IsRunnable};
+ghost use Rattle.tally_line.specs.Jobs.{IsRunnable, TakesUntil};
 
-use crate::faults::{FAULT, REFUSED, fault, file_fault, not_opened, run_fault, usage, zone_fault};
+use crate::asked::{Asked, clock_for, job_for};
+use crate::faults::{
+    FAULT, REFUSED, fault, file_fault, not_opened, run_fault, times_fault, usage,
+};
+use crate::now::now_for;
 use crate::opened::{OpenFault, ROOT, hold_closed_streams, open_all};
 use crate::output::Watched;
 use crate::shown::{ErrorsTo, Shown, printable};
@@ -13,20 +15,30 @@ use std::io;
 use std::os::fd::AsRawFd;
 use std::process::ExitCode;
 use std::random::RandomSource;
-use std::rt::{Env, Files};
+use std::rt::{Clock as MachineClock, Env, Files};
 use std::sync::Wait;
 use std::thread::Threads;
 use tally_cli::{FileArg, Job, Line, LineFault, RunFault, file_word, job_of, run};
 use tally_clock::Clock;
 use tally_desk::OpenGate;
+use tally_line::{Times, known_fault};
 use tally_print::Writing;
 use tally_records::Memory;
-use tally_zones::clock_of;
 
 /// Runs the program, and says how it went.
 pub(crate) fn tally<R>(rt: &R, to: ErrorsTo) -> ExitCode
 where
-    R: Env + Files + Input + Print + Eprint + AllocGlobal + RandomSource + Threads + Wait + Sync,
+    R: Env
+        + Files
+        + Input
+        + Print
+        + Eprint
+        + MachineClock
+        + AllocGlobal
+        + RandomSource
+        + Threads
+        + Wait
+        + Sync,
     R::File: AsRawFd + Drop + Send,
     R::Reader: Send,
 {
@@ -36,9 +48,14 @@ where
         Err(WordsFault::NoText) => return fault(rt, REFUSED, "a word is no UTF-8 text"),
     };
     match job_of(rt.alloc(), words.as_slice()) {
-        Ok(Line::Run { job, zone, files }) => {
-            hold_and_report(rt, to, &job, zone.as_ref(), files.as_slice())
-        }
+        Ok(
+            Line::Run {
+                job,
+                times,
+                zone,
+                files,
+            },
+        ) => report_at(rt, to, &job, &times, zone.as_ref(), files.as_slice()),
         Ok(Line::Help { text }) => help(rt, text.as_str()),
         Err(LineFault::Memory) => fault(rt, FAULT, Memory),
         Err(LineFault::Usage { text }) => refused(rt, to, words.as_slice(), text.as_str()),
@@ -90,22 +107,6 @@ fn no_prefix<R: Eprint + AllocGlobal>(
     }
 }
 
-/// The clock of the zone that the command line names, and UTC where it names none.
-fn clock_for<R>(rt: &R, to: ErrorsTo, zone: Option<&String>) -> Result<Clock, ExitCode>
-where
-    R: Files + Eprint + AllocGlobal,
-    R::File: Drop,
-    ensures { zone.entry ≡ None → result ≡ Ok utc }
-{
-    let Some(word) = zone else {
-        return Ok(Clock::utc(rt.alloc()));
-    };
-    match clock_of(rt, word.as_str()) {
-        Ok(clock) => Ok(clock),
-        Err(found) => Err(zone_fault(rt, to, word.as_str(), found)),
-    }
-}
-
 /// Opens all files, and then reads them and prints the report in the time of a clock.
 fn report_on<R>(
     rt: &R,
@@ -142,40 +143,81 @@ where
     }
 }
 
-/// Draws the keys and reads the zone, and then reports.
-fn report<R>(rt: &R, to: ErrorsTo, job: &Job, zone: Option<&String>, files: &[FileArg]) -> ExitCode
+/// Draws the keys, reads the zone and settles the job on its clock, and then reports.
+fn report<R>(rt: &R, to: ErrorsTo, asked: Asked<'_>) -> ExitCode
 where
     R: Files + Input + Print + Eprint + AllocGlobal + RandomSource + Threads + Wait + Sync,
     R::File: Drop + Send,
     R::Reader: Send,
-    requires { IsRunnable job.now }
+    requires runnable { IsRunnable asked.job.now }
+    requires until { TakesUntil asked.job.now.report asked.times.now.until }
 {
     let keys = match RandomState::new(rt) {
         Ok(keys) => keys,
         Err(_) => return fault(rt, FAULT, "no random bytes"),
     };
-    match clock_for(rt, to, zone) {
-        Ok(clock) => report_on(rt, to, job, keys, &clock, files),
+    let clock = match clock_for(rt, to, asked.zone) {
+        Ok(clock) => clock,
+        Err(status) => return status,
+    };
+    match job_for(rt, asked, &clock) {
+        Ok(job) => report_on(rt, to, &job, keys, &clock, asked.files),
         Err(status) => status,
     }
 }
 
 /// Reports with the closed standard streams held, so that no file takes the place of one.
-fn hold_and_report<R>(
-    rt: &R,
-    to: ErrorsTo,
-    job: &Job,
-    zone: Option<&String>,
-    files: &[FileArg],
-) -> ExitCode
+fn hold_and_report<R>(rt: &R, to: ErrorsTo, asked: Asked<'_>) -> ExitCode
 where
     R: Files + Input + Print + Eprint + AllocGlobal + RandomSource + Threads + Wait + Sync,
     R::File: AsRawFd + Drop + Send,
     R::Reader: Send,
-    requires { IsRunnable job.now }
+    requires runnable { IsRunnable asked.job.now }
+    requires until { TakesUntil asked.job.now.report asked.times.now.until }
 {
     match hold_closed_streams(rt) {
-        Ok(_held) => report(rt, to, job, zone, files),
+        Ok(_held) => report(rt, to, asked),
         Err(_) => not_opened(rt, Shown::new(ROOT, to)),
     }
+}
+
+/// Refuses moments that no clock helps, and asks the machine for its time where a moment is now. Then it reports.
+fn report_at<R>(
+    rt: &R,
+    to: ErrorsTo,
+    job: &Job,
+    times: &Times,
+    zone: Option<&String>,
+    files: &[FileArg],
+) -> ExitCode
+where
+    R: Files
+        + Input
+        + Print
+        + Eprint
+        + MachineClock
+        + AllocGlobal
+        + RandomSource
+        + Threads
+        + Wait
+        + Sync,
+    R::File: AsRawFd + Drop + Send,
+    R::Reader: Send,
+    requires runnable { IsRunnable job.now }
+    requires until { TakesUntil job.now.report times.now.until }
+{
+    if let Some(found) = known_fault(times) {
+        return times_fault(rt, found);
+    }
+    let Some(now) = now_for(rt, times) else {
+        return fault(rt, FAULT, "no time on the machine's clock");
+    };
+    let asked = Asked {
+        job,
+        times,
+        now,
+        zone,
+        files,
+    };
+    hold_and_report(rt, to, asked)
 }

@@ -5,6 +5,7 @@ pub mod FilledRows
 pub mod LineLemmas
 pub mod OffsetLemmas
 pub mod OptionLemmas
+pub mod SettledLemmas
 pub mod WalkSteps
 pub mod WorkedRows
 pub mod ZoneLemmas

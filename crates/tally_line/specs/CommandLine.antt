@@ -56,13 +56,9 @@ east_rule = minutes_rule (codes "east")
 abbrev pub west_rule : Rule
 west_rule = minutes_rule (codes "west")
 
--- the moment up to which stays that nothing has ended are counted, in seconds since 1970
+-- the moment up to which stays that nothing has ended are counted: any word
 abbrev pub until_rule : Rule
-until_rule = record (new_rule (codes "until")) {
-  long = Some (codes "until");
-  value_names = 1;
-  parser = Some (between 0 2147483647);
-}
+until_rule = record (new_rule (codes "until")) { long = Some (codes "until"); value_names = 1 }
 
 -- the zone whose local time is shown: any word but the empty one
 abbrev pub zone_rule : Rule

@@ -1,5 +1,5 @@
 -- What a run asks of its job.
-use Rattle.std.specs.Prelude.{◌≡◌, ◌≤◌, Option, None, ℤ, ⊤}
+use Rattle.std.specs.Prelude.{◌≡◌, ◌≤◌, Option, None, ⊤}
 use Rattle.tally_sessions.specs.Days.{IsOffset}
 use Rattle.tally_sessions.specs.declared.sessions.TheConstants.{HOST_LIMIT}
 use Rattle.tally_line.specs.declared.job.Form.{Form}
@@ -9,7 +9,7 @@ use Rattle.tally_line.specs.declared.job.Report.{Report}
 use Rattle.tally_line.specs.declared.job.Report.TheVariants as report
 
 -- no moment is given to a report that has no stays
-abbrev pub TakesUntil : Report → Option ℤ → Type 0
+abbrev pub TakesUntil : {X : Type 0} → Report → Option X → Type 0
 TakesUntil (report.Commands order reverse all) until = until ≡ None
 TakesUntil (report.Users order reverse) until = until ≡ None
 TakesUntil r until = ⊤

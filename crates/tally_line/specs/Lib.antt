@@ -4,5 +4,7 @@ pub mod Jobs
 pub mod Lines
 pub mod Offsets
 pub mod Options
+pub mod Settled
+pub mod Times
 pub mod Zones
 pub mod inside

@@ -6,9 +6,10 @@ use Rattle.clap.specs.declared.error.kind.ErrorKind.{ErrorKind}
 use Rattle.clap.specs.declared.error.kind.ErrorKind.TheVariants as kind
 use Rattle.tally_line.specs.CommandLine.{tally_app}
 use Rattle.tally_line.specs.FileWords.{IsFirstBare, NamesFiles}
-use Rattle.tally_line.specs.Jobs.{IsRunnable}
+use Rattle.tally_line.specs.Jobs.{IsRunnable, TakesUntil}
 use Rattle.tally_line.specs.Offsets.{HasPlainOffsets}
 use Rattle.tally_line.specs.Options.{SetsJob}
+use Rattle.tally_line.specs.Times.{AreMoments, times_in}
 use Rattle.tally_line.specs.Zones.{HasOneClock, IsZoneOf}
 use Rattle.std.specs.declared.alloc.Global.{Global}
 use Rattle.tally_line.specs.declared.line.FileArg.{FileArg}
@@ -21,6 +22,7 @@ use Rattle.tally_line.specs.declared.line.Line.{Line}
 use Rattle.tally_line.specs.declared.line.Line.TheVariants as line
 use Rattle.tally_line.specs.declared.line.LineFault.{LineFault}
 use Rattle.tally_line.specs.declared.line.LineFault.TheVariants as fault
+use Rattle.tally_line.specs.declared.times.Times.{Times}
 
 -- the name of a subcommand and its matches
 abbrev pub Met : Type 0
@@ -67,20 +69,24 @@ name_of report.All = codes "all"
 abbrev pub AsksFor : Report → Met → Type 0
 AsksFor r met = option_map (λ found. found.0) met ≡ Some (name_of r)
 
--- offsets are plain, and none stands beside a zone
-abbrev pub HasSoundTimes : List Row → Type 0
-HasSoundTimes rows = HasPlainOffsets rows × HasOneClock rows
+-- offsets are plain, none stands beside a zone, and the words that say moments are as they have to be
+pub record HasSoundTimes (rows : List Row) : Type 0 where
+  pub offsets : HasPlainOffsets rows
+  pub clock : HasOneClock rows
+  pub moments : AreMoments rows
 
 -- a run that the matches ask for
-pub record IsRunOf (met : Met) (job : Job) (zone : Option (String Global)) (files : List FileArg) : Type 0 where
+pub record IsRunOf (met : Met) (job : Job) (times : Times) (zone : Option (String Global)) (files : List FileArg) : Type 0 where
   pub named : AsksFor job.report met
   pub runnable : IsRunnable job
   pub form : AsksForm job.report (rows_met met) job.form
   pub few_askers : job.askers ≤ 64
   pub all_is_asked : (job.askers ≡ 0) ⊎ (job.report ≡ report.All)
   pub options : SetsJob (rows_met met) job
+  pub moments : times ≡ times_in job.report (rows_met met)
+  pub until : TakesUntil job.report times.until
   pub zone_word : IsZoneOf (rows_met met) zone
-  pub times : HasSoundTimes (rows_met met)
+  pub sound : HasSoundTimes (rows_met met)
   pub some_file : 0 < length files
   pub names_files : NamesFiles job.report (file_words met) files
 
@@ -106,7 +112,7 @@ AreAccepted words = fault_of tally_app words ≡ []
 
 -- the answer to words
 abbrev pub Answers : List Text → Line → Type 0
-Answers words (line.Run job zone files) = AreAccepted words × IsRunOf (met_in words) job zone files.items
+Answers words (line.Run job times zone files) = AreAccepted words × IsRunOf (met_in words) job times zone files.items
 Answers words (line.Help text) = AskForHelp words
 
 -- why words are refused

@@ -1,5 +1,5 @@
 -- What the options of a command line set.
-use Rattle.std.specs.Prelude.{◌≡◌, ◌≤◌, ◌-ℤ◌, ℕ, ℤ, pos, Bool, true, false, List, Option, None, Some, ⊤, codes, option_map}
+use Rattle.std.specs.Prelude.{◌≡◌, ◌≤◌, ◌-ℤ◌, ℕ, ℤ, pos, Bool, true, false, List, Option, None, Some, ⊤, codes}
 use Rattle.std.specs.Str.Parse.{IsNumeral, digits_value, without_leading_plus}
 use Rattle.clap.specs.Words.{Row, Text, one_of}
 use Rattle.tally_line.specs.declared.job.Job.{Job}
@@ -64,16 +64,10 @@ pub record IsOffsetOf (rows : List Row) (offset : ℤ) : Type 0 where
   pub is_west : IsNumber (codes "west") 0 1439 0 rows west
   pub value : offset ≡ pos east -ℤ pos west
 
--- the moment up to which a report counts stays that nothing has ended: one without stays has none
-abbrev pub SetsUntil : Report → List Row → Option ℤ → Type 0
-SetsUntil (report.Commands order reverse all) rows until = until ≡ None
-SetsUntil (report.Users order reverse) rows until = until ≡ None
-SetsUntil r rows until = (n : Option ℕ) × IsOptional (codes "until") 0 2147483647 rows n × (until ≡ option_map pos n)
-
--- the matches set all of a job but its form
+-- the matches set all of a job but its form and its moment, which is not settled
 pub record SetsJob (rows : List Row) (job : Job) : Type 0 where
   pub report : IsReportOf job.report rows
   pub feeders : IsNumber (codes "feeders") 1 64 4 rows job.feeders
   pub askers : AreAskersOf job.report rows job.askers
   pub offset : IsOffsetOf rows job.offset
-  pub until : SetsUntil job.report rows job.until
+  pub unsettled : job.until ≡ None

@@ -222,11 +222,10 @@ fn until<'a>(alloc: Global) -> Arg<'a>
 {
     Arg::new(alloc, "until")
         .long("until")
-        .value_name("SECONDS")
+        .value_name("MOMENT")
         .help(
-            "Count open sessions up to SECONDS since 1970, 0 to 2147483647 [default: the last record]",
+            "Count open sessions up to MOMENT, as 2026-07-01, 2026-07-01T10:30, @1782864000 or now [default: the last record]",
         )
-        .value_parser(value_parser!(i32).range(0..=2_147_483_647))
 }
 
 fn zone<'a>(alloc: Global) -> Arg<'a>
@@ -237,7 +236,7 @@ fn zone<'a>(alloc: Global) -> Arg<'a>
         .long("zone")
         .value_name("ZONE")
         .help(
-            "Show times and cut days by the local time of ZONE: local, a name as Europe/Berlin, a file or a rule",
+            "Show times, cut days and read moments by the local time of ZONE: local, a name as Europe/Berlin, a file or a rule",
         )
         .value_parser(ValueParser::NonEmptyString)
 }

@@ -1,21 +1,27 @@
 //! The command line of `tally`, read as a job.
 //!
-//! `words` makes a `line` of the words: `command` is what the parser knows, `options` what the
-//! options of a report set, `offsets` refuses what only looks like minutes, `zones` a zone beside an offset, `files` the files that
-//! the words name, `refused` the answer where the parser gives no matches. A `line` asks for a
-//! `job`, or for help.
+//! `words` makes a `line` of the words: `command` is what the parser knows, `given` are the words of options, `options` what the
+//! options of a report set, `moments` its `times`, `offsets` refuses what only looks like minutes, `zones` a zone beside an
+//! offset, `files` the files that the words name, `refused` the answer where the parser gives no matches. A `line` asks for a
+//! `job`, or for help; `settling` makes a second of the moment of a job.
 #![tactic(auto)]
 
 mod command;
 mod files;
+mod given;
 mod job;
 mod line;
+mod moments;
 mod offsets;
 mod options;
 mod refused;
+mod settling;
+mod times;
 mod words;
 mod zones;
 
 pub use crate::job::{Form, Job, Report};
 pub use crate::line::{FileArg, Line, LineFault};
+pub use crate::settling::{TimesFault, known_fault, settle};
+pub use crate::times::Times;
 pub use crate::words::{file_word, job_of};

@@ -3,6 +3,7 @@ ghost use Rattle.std.specs.Prelude.{◌≡◌};
 ghost use Rattle.tally_line.specs.declared.line.LineFault.TheVariants.{Memory};
 
 use crate::job::Job;
+use crate::times::Times;
 use std::alloc::{AllocError, AllocFailed};
 use tally_records::Kind;
 use thiserror::Error as ErrorText;
@@ -17,9 +18,10 @@ pub struct FileArg {
 /// What a command line asks for.
 #[derive(Debug, Drop)]
 pub enum Line {
-    /// A run over files. The zone is the word that names it, as it was given.
+    /// A run over files, whose job has to be settled with the times first. The zone is the word that names it, as it was given.
     Run {
         job: Job,
+        times: Times,
         zone: Option<String>,
         files: Vec<FileArg>,
     },

@@ -1,9 +1,9 @@
 //! What the options of a report set.
 ghost use Rattle.std.specs.Prelude.{◌≡◌, ◌≢◌, ◌⊎◌, ◌≤◌, ◌≤ℤ◌, ◌-ℤ◌, ℕ, IfNone, IfSome, codes, pos};
 ghost use Rattle.clap.specs.Words.{found_of, rows_of};
-ghost use Rattle.tally_line.specs.Jobs.{IsRunnable, TakesForm, TakesUntil};
+ghost use Rattle.tally_line.specs.Jobs.{IsRunnable, TakesForm};
 ghost use Rattle.tally_line.specs.Lines.{AsksForm, IsFormOf, name_of};
-ghost use Rattle.tally_line.specs.Options.{AreAskersOf, IsFlag, IsNumber, IsOffsetOf, IsOptional, IsReportOf, SetsJob, SetsUntil, is_by_calls};
+ghost use Rattle.tally_line.specs.Options.{AreAskersOf, IsFlag, IsNumber, IsOffsetOf, IsOptional, IsReportOf, SetsJob, is_by_calls};
 ghost use Rattle.tally_line.specs.declared.job.Report.{Report};
 
 use crate::job::{Form, Job, Report};
@@ -56,7 +56,7 @@ fn order_of(matches: &ArgMatches<'_>) -> Order
     }
 }
 
-/// The job of a report.
+/// The job of a report, before its moments are known.
 pub(crate) fn job_from(report: Report, matches: &ArgMatches<'_>) -> Job
     requires { IsReportOf report (rows_of (found_of matches.now)) }
     ensures report { result.report ≡ report }
@@ -72,7 +72,7 @@ pub(crate) fn job_from(report: Report, matches: &ArgMatches<'_>) -> Job
         feeders: number(matches, "feeders", 1, 64, 4),
         askers: askers_of(report, matches),
         offset: offset_of(matches),
-        until: until_of(report, matches),
+        until: None,
     }
 }
 
@@ -120,24 +120,6 @@ fn offset_of(matches: &ArgMatches<'_>) -> i32
     let east = number(matches, "east", 0, 1439, 0);
     let west = number(matches, "west", 0, 1439, 0);
     east as i32 - west as i32
-}
-
-/// The moment up to which a report counts stays that nothing has ended.
-fn until_of(report: Report, matches: &ArgMatches<'_>) -> Option<i32>
-    ensures takes { TakesUntil report result }
-    ensures sets { SetsUntil report (rows_of (found_of matches.now)) result }
-{
-    match report {
-        Report::Commands { .. } | Report::Users { .. } => None,
-        Report::Last { .. } | Report::Connect { .. } | Report::All => moment(matches),
-    }
-}
-
-fn moment(matches: &ArgMatches<'_>) -> Option<i32>
-    ensures { SetsUntil Report.All (rows_of (found_of matches.now)) result }
-{
-    let seconds = optional(matches, "until", 0, 2_147_483_647)?;
-    Some(seconds as i32)
 }
 
 /// Whether a flag is there.

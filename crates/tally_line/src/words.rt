@@ -7,6 +7,7 @@ ghost use Rattle.tally_line.specs.inside.LineSteps.{IsComplete, IsFaultOf, IsLin
 use crate::command;
 use crate::files::files_of;
 use crate::line::{Line, LineFault};
+use crate::moments::{mistake_in_moments, times_in};
 use crate::offsets::{NOT_PLAIN, has_plain_offsets};
 use crate::options::{job_from, report_of};
 use crate::refused::{fault_of, refused};
@@ -94,10 +95,16 @@ fn run_under(alloc: Global, name: &str, matches: &ArgMatches<'_>) -> Result<Line
     let files = files_of(alloc, report, words)?;
     let zone = zone_of(alloc, matches)?;
     let job = job_from(report, matches);
-    Ok(Line::Run { job, zone, files })
+    let times = times_in(report, matches);
+    Ok(Line::Run {
+        job,
+        times,
+        zone,
+        files,
+    })
 }
 
-/// What is wrong with the offsets and the zone, where anything is.
+/// What is wrong with the offsets, the zone and the moments, where anything is.
 fn mistake_in(matches: &ArgMatches<'_>) -> Option<&'static str>
     ensures some { IfSome result (λ text. ¬ HasSoundTimes (rows_of (found_of matches.now))) }
     ensures none { IfNone result (HasSoundTimes (rows_of (found_of matches.now))) }
@@ -107,6 +114,6 @@ fn mistake_in(matches: &ArgMatches<'_>) -> Option<&'static str>
     } else if !has_one_clock(matches) {
         Some(TWO_CLOCKS)
     } else {
-        None
+        mistake_in_moments(matches)
     }
 }

@@ -1,9 +1,10 @@
 //! The zone of a command line.
-ghost use Rattle.std.specs.Prelude.{◌≡◌, ◌↔◌, IfOk, IsTrue, option_map, string_bytes};
-ghost use Rattle.clap.specs.Words.{first_of, found_of, rows_of};
+ghost use Rattle.std.specs.Prelude.{◌≡◌, ◌↔◌, IfOk, IsTrue};
+ghost use Rattle.clap.specs.Words.{found_of, rows_of};
 ghost use Rattle.tally_line.specs.Zones as Spec;
 ghost use Rattle.tally_line.specs.Zones.{HasOneClock, IsWritten, IsZoneOf};
 
+use crate::given::text_of;
 use clap::ArgMatches;
 use clap::parser::ValueSource;
 use std::alloc::{AllocError, Global};
@@ -17,16 +18,6 @@ pub(crate) fn zone_of(alloc: Global, matches: &ArgMatches<'_>) -> Result<Option<
     ensures { IfOk result (IsZoneOf (rows_of (found_of matches.now))) }
 {
     text_of(alloc, matches, "zone")
-}
-
-/// The first value of an option, as it was given.
-fn text_of(alloc: Global, matches: &ArgMatches<'_>, id: &str) -> Result<Option<String>, AllocError>
-    ensures { IfOk result (λ text. option_map string_bytes text ≡ first_of id.now (rows_of (found_of matches.now))) }
-{
-    match matches.get_str(id) {
-        Some(text) => Ok(Some(String::from_str(alloc, text)?)),
-        None => Ok(None),
-    }
 }
 
 /// Whether no offset is written beside a zone.

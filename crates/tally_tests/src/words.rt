@@ -57,6 +57,7 @@ fn print_read<R: Print + AllocGlobal>(
         Ok(
             Line::Run {
                 job,
+                times: _,
                 zone: _,
                 files,
             },

@@ -2,6 +2,7 @@
 
 mod answers;
 mod files;
+mod moments;
 mod zones;
 
 use crate::cli::line::answers::{Wanted, expect_all, expect_each};
@@ -28,24 +29,6 @@ ac -dp --csv f
 sa --csv f
 sa -m f --csv";
     expect_all(&rt, lines, Wanted::Csv);
-}
-
-#[test]
-fn stays_are_counted_up_to_a_moment(rt: HostRuntime) {
-    let total = Report::Connect {
-        by_day: false,
-        by_user: false,
-    };
-    let stays = Report::Last { limit: None };
-    let rows = [
-        ("last --until 5000 f", Wanted::Until(stays, 5000)),
-        ("ac f --until=0", Wanted::Until(total, 0)),
-        (
-            "all --until 2147483647 w:f",
-            Wanted::Until(Report::All, i32::MAX),
-        ),
-    ];
-    expect_each(&rt, &rows);
 }
 
 #[test]

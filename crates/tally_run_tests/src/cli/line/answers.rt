@@ -3,6 +3,7 @@
 use crate::cli::expect::{expect_that, made};
 use std::process::Abort;
 use tally_cli::{FileArg, Form, Job, Line, LineFault, Report, job_of};
+use tally_moments::Moment;
 use tally_records::Kind;
 use tally_usage::Order;
 
@@ -18,7 +19,7 @@ pub(crate) enum Wanted<'a> {
     /// Users in an order, reversed or not.
     Users(Order, bool),
     /// A report with stays counted up to a moment.
-    Until(Report, i32),
+    Until(Report, Moment),
     /// All reports by so many feeders and askers, at an offset.
     All(u32, u32, i32),
     /// Any report as a table.
@@ -69,10 +70,7 @@ fn job_wanted(wanted: Wanted<'_>) -> Option<Job> {
             }
         }
         Wanted::Users(order, reverse) => job.report = Report::Users { order, reverse },
-        Wanted::Until(report, until) => {
-            job.report = report;
-            job.until = Some(until);
-        }
+        Wanted::Until(report, _) => job.report = report,
         Wanted::All(feeders, askers, offset) => {
             job.feeders = feeders;
             job.askers = askers;
@@ -98,6 +96,13 @@ fn are_files(files: &[FileArg], wanted: &[(Kind, &str)]) -> bool {
     same
 }
 
+fn is_until(until: Option<Moment>, wanted: Wanted<'_>) -> bool {
+    match wanted {
+        Wanted::Until(_, moment) => until == Some(moment),
+        _ => until.is_none(),
+    }
+}
+
 fn is_run(job: &Job, zone: &Option<String>, files: &[FileArg], wanted: Wanted<'_>) -> bool {
     match wanted {
         Wanted::Csv => job.form == Form::Csv,
@@ -109,7 +114,14 @@ fn is_run(job: &Job, zone: &Option<String>, files: &[FileArg], wanted: Wanted<'_
 
 fn is_wanted(answer: &Result<Line, LineFault>, wanted: Wanted<'_>) -> bool {
     match answer {
-        Ok(Line::Run { job, zone, files }) => is_run(job, zone, files.as_slice(), wanted),
+        Ok(
+            Line::Run {
+                job,
+                times,
+                zone,
+                files,
+            },
+        ) => is_until(times.until, wanted) && is_run(job, zone, files.as_slice(), wanted),
         Ok(Line::Help { .. }) => matches!(wanted, Wanted::Help),
         Err(LineFault::Usage { .. }) => matches!(wanted, Wanted::Usage),
         Err(LineFault::Prefix { index }) => matches!(wanted, Wanted::Prefix(at) if at == *index),
