@@ -2,6 +2,7 @@
 import bisect
 import datetime
 import functools
+import math
 import zoneinfo
 
 EPOCH = datetime.datetime(1970, 1, 1, tzinfo=datetime.timezone.utc)
@@ -10,13 +11,20 @@ HALF_DAY = 43200
 
 
 class Clock:
-    """The seconds from which an offset holds, the first of all seconds first, and these offsets, in seconds east of UTC."""
+    """The seconds from which an offset holds, the first of all seconds first, and these offsets, in seconds east of UTC. The first
+    offset holds before the first second too, and the last one after the last. A clock of a zone has Python's zone."""
 
-    def __init__(self, starts, offsets):
-        self.starts, self.offsets = starts, offsets
+    def __init__(self, starts, offsets, zone=None):
+        self.starts, self.offsets, self.zone = starts, offsets, zone
 
     def at(self, time):
-        return self.offsets[bisect.bisect_right(self.starts, time) - 1]
+        return self.offsets[max(0, bisect.bisect_right(self.starts, time) - 1)]
+
+    def first_at(self, local):
+        """The first second at which the clock shows a local second or a later one."""
+        begins, ends = [-math.inf] + self.starts[1:], self.starts[1:] + [math.inf]
+        shown = [(max(begin, local - offset), end) for begin, end, offset in zip(begins, ends, self.offsets)]
+        return min(time for time, end in shown if time < end)
 
     def spans(self, begin, end):
         """What lies from a second up to another, as spans of local seconds."""
@@ -55,4 +63,4 @@ def of_zone(name):
             offsets.append(at(high))
             before = high
         before = time
-    return Clock(starts, offsets)
+    return Clock(starts, offsets, zone)

@@ -14,7 +14,9 @@ import sys
 
 sys.dont_write_bytecode = True
 from common import ROOMS, TOP
-from zone_rows import add_rows as add_zone_rows
+from moment_rows import add_rows as add_moment_rows
+from moments import NO_RANGE
+from zone_rows import BERLIN, add_rows as add_zone_rows
 
 
 def field(value, size):
@@ -488,8 +490,8 @@ row('until-in-all-reports', 'all,until', 'last and ac carry the moment.', ['all'
     lines('ann      tty1                          1970-01-12 13:46:40 - still logged in     (01:00)', '',
           'wtmp begins 1970-01-12 13:46:40', '') + TOTAL_ONE + '\n' + SA_NOTHING, files={'f': ONE_HOUR[:384]})
 row('sa-has-no-until', 'sa,until', '--until is no option of sa.', ['sa', '--until', '5', 'f'], '', None, 2, {'f': b''})
-row('until-out-of-range', 'ac,until', '2147483648 is past the last moment.', ['ac', '--until', '2147483648', 'f'],
-    '', None, 2, {'f': b''})
+row('until-out-of-range', 'ac,until,moment', '2147483648 is past the last moment.', ['ac', '--until', '2147483648', 'f'],
+    '', NO_RANGE, 2, {'f': b''})
 
 ODD_OFFSET = ("error: --east and --west take minutes, without a sign or a leading zero: for +0200 write --east 120\n\n"
               "For more information, try '--help'.\n")
@@ -503,6 +505,10 @@ row('offset-of-zero', 'ac,offset', 'A single zero is a number of minutes.', ['ac
 # --- local time by the rules of a zone
 
 add_zone_rows(row, lines, session)
+
+# --- moments
+
+add_moment_rows(row, lines, U, ODD_OFFSET)
 
 # --- closed standard streams
 
@@ -563,6 +569,13 @@ row('example-all-stays-of-a-morning', 'last', 'A boot, sessions that a shutdown 
           'reboot   system boot  6.1.0-18-amd64   2026-03-02 07:55:00 - down                (03:50)',
           '',
           'wtmp begins 2026-03-02 07:55:00'), files={'morning.wtmp': example('morning.wtmp')})
+row('example-open-up-to-half-past-ten', 'ac,ac -p,until,moment,zone', 'bob is open from 00:30 to 10:30 of Berlin: 10.00 hours.',
+    ['ac', '-p', '--zone', BERLIN, '--until', '2026-08-01T10:30', 'july.1.wtmp'],
+    lines('ann                          3.00',
+          'bob                         10.00',
+          'total                       13.00'), files={'july.1.wtmp': example('july.1.wtmp')})
+row('example-up-to-now', 'ac,until,moment', 'All sessions of the morning have ended.', ['ac', '--until', 'now', 'morning.wtmp'],
+    lines('total                        6.75'), files={'morning.wtmp': example('morning.wtmp')})
 row('example-commands-of-a-server', 'sa,version3', 'Records of version 3, as the kernel writes them.', ['sa', 'server.acct'],
     lines('       9     20637.87re         0.81cp          0avio      92787k',
           '       2         0.72re         0.68cp          0avio     102491k cc1',
@@ -743,10 +756,10 @@ In a folder:
 
 Needs: `ac`, `last`, `sa`, `all` are the subcommands, with `ac -d` and the like for flags; `offset` is
 `--east` and `--west`; `clock` that clock changes move sessions; `files` several files; `feeders`, `askers`,
-`until`, `csv` and `zone` these options; `version3` acct records of version 3; `big` an input of 402 MB; `full-device`
-/dev/full.
+`until`, `csv` and `zone` these options; `moment` that `--until` takes more than a number of seconds; `version3` acct records of
+version 3; `big` an input of 402 MB; `full-device` /dev/full.
 
-A wanted output of status 2 has no text of its own (the command line parser's), but for a missing prefix.
+What is refused with status 2 has no fixed text where it is that of the command line parser.
 
 `tools/make.py` writes all but `tools/`; `U` and `A` there build records, with the wanted texts written out by hand. The gate compares what it
 would write with what stands here (`tools/make.py --check`).

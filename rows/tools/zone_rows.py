@@ -25,6 +25,7 @@ def zone_file(kinds, changes, rule='', leaps=()):
             + b'\n' + rule.encode() + b'\n')
 
 
+TWO_CLOCKS = "error: --zone cannot be used with --east or --west\n\nFor more information, try '--help'.\n"
 BERLIN = 'CET-1CEST,M3.5.0,M10.5.0/3'
 # 2018-02-18 00:00 goes back to 23:00, and 2018-11-04 00:00 on to 01:00.
 SAO_PAULO = zone_file([(-3 * HOUR, 0, '-03'), (-2 * HOUR, 1, '-02')], [(1508036400, 1), (1518919200, 0), (1541300400, 1)])
@@ -148,9 +149,8 @@ def add_fault_rows(row, lines):
                               ('of-a-day-and-more', 'No rule has so many hours.', 'GMT+25')):
         fault('zone-offset-' + name, about, zone, 'write a rule, as <+02>-2', 2)
 
-    two = "error: --zone cannot be used with --east or --west\n\nFor more information, try '--help'.\n"
     for option in ('east', 'west'):
         row(f'zone-beside-{option}', 'ac,zone,offset', 'A zone and an offset are not taken together.',
-            ['ac', '--zone', BERLIN, f'--{option}', '0', 'f'], '', two, 2, files={'f': b''})
+            ['ac', '--zone', BERLIN, f'--{option}', '0', 'f'], '', TWO_CLOCKS, 2, files={'f': b''})
     row('zone-without-a-word', 'ac,zone', 'An empty word names no zone.', ['ac', '--zone', '', 'f'], '', None, 2, files={'f': b''})
     row('zone-twice', 'ac,zone', 'A run has one zone.', ['ac', '--zone', 'UTC', '--zone', 'UTC', 'f'], '', None, 2, files={'f': b''})
