@@ -1,13 +1,14 @@
 """What the program prints, slowly, from the definitions of docs/SPECIFICATION.md.
 
 Each rule looks at the whole list of records, as the definitions do. Nothing here is taken from the
-program's code or its output.
+program's code or its output. Local time stands in clocks.py, the words of --until in moments.py.
 """
 import csv
 import datetime
 import io
 import struct
 
+import moments
 from clocks import fixed, of_zone
 
 BLOCK = 1024                      # records that are read at once
@@ -298,9 +299,17 @@ def users_table(records, by_calls, reverse):
     return table('uid,calls,real_ticks,cpu_ticks,io,mem_cpu', [(uid, *sums(use)) for uid, use in rows])
 
 
+def clock_of(job):
+    return of_zone(job['zone']) if 'zone' in job else fixed(job.get('east', 0) - job.get('west', 0))
+
+
 def output(job, files):
     """Status, standard output and standard error of a job over files, each a kind, a path and bytes."""
-    read = []
+    clock, read = clock_of(job), []
+    try:
+        until = moments.until(job['until'], clock) if 'until' in job else None
+    except moments.Refused as refused:
+        return 2, '', str(refused)
     for kind, path, raw in files:
         try:
             read.append((kind, records_of(kind, raw)))
@@ -308,8 +317,6 @@ def output(job, files):
             return 1, '', 'tally: %s: %s\n' % (path, fault)
     hosts = [records for kind, records in read if kind == 'w']
     processes = [record for kind, records in read if kind == 'p' for record in records]
-    clock = of_zone(job['zone']) if 'zone' in job else fixed(job.get('east', 0) - job.get('west', 0))
-    until = job.get('until')
     flag = lambda name: job.get(name, False)
     if flag('csv'):
         return 0, {
