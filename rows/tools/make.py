@@ -729,7 +729,7 @@ show, `examples/`. No two have one name.
     tools/run TALLY_BINARY NAME..             these rows
     tools/run --only ac,clock TALLY_BINARY    the rows that need nothing else
     tools/run --list                          names and needs
-    tools/refusals TALLY_BINARY NAME..        these rows, with each allocation, read, write and call for random bytes refused in turn
+    tools/refusals TALLY_BINARY NAME..        these rows, with each allocation, read, write and call for random bytes or the time refused in turn
     tools/fuzz TALLY_BINARY                   random files and words, beside the slow definitions of slow.py
     tools/sizes TALLY_BINARY                  every report over files of many sizes, with ample memory
     tools/thresholds TALLY_BINARY             users on days, over files at and over each size up to which a table is made

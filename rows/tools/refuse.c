@@ -7,6 +7,7 @@
    read-signal, write-signal   the Nth read or write answers EINTR, and so do those after it, TIMES in all
    write-less, write-one       the Nth write takes one byte less than it is given, or one byte
    random       the Nth call for random bytes fails
+   clock        the Nth call for the time of the machine says a second before 1970
    short        every read and write moves one byte
    read-last, write-last       so it is, and the Nth read or write fails by EIO
    Where a call was refused, the file REFUSED is made. Reads and writes of standard error are left alone.
@@ -18,12 +19,14 @@
 #include <fcntl.h>
 #include <stdlib.h>
 #include <string.h>
+#include <sys/time.h>
+#include <time.h>
 #include <unistd.h>
 
 enum { FROM = 1000003, TO = 1000033 };
 
 static const char *kind = "";
-static long at, times = 1, memory, reads, writes, randoms;
+static long at, times = 1, memory, reads, writes, randoms, clocks;
 static int all_refused;
 
 __attribute__((constructor)) static void begin(void) {
@@ -36,7 +39,7 @@ __attribute__((constructor)) static void begin(void) {
         if (*colon)
             times = strtol(colon + 1, NULL, 10);
     }
-    memory = reads = writes = randoms = 0;
+    memory = reads = writes = randoms = clocks = 0;
 }
 
 static void mark(const char *name) {
@@ -100,6 +103,34 @@ ssize_t getrandom(void *to, size_t size, unsigned flags) {
     if (!real)
         real = (ssize_t (*)(void *, size_t, unsigned))dlsym(RTLD_NEXT, "getrandom");
     return refused("random", ++randoms) ? (errno = ENOSYS, -1) : real(to, size, flags);
+}
+
+int clock_gettime(clockid_t clock, struct timespec *to) {
+    static int (*real)(clockid_t, struct timespec *);
+    if (!real)
+        real = (int (*)(clockid_t, struct timespec *))dlsym(RTLD_NEXT, "clock_gettime");
+    int done = real(clock, to);
+    if (clock == CLOCK_REALTIME && refused("clock", ++clocks))
+        to->tv_sec = -1;
+    return done;
+}
+
+int gettimeofday(struct timeval *restrict to, void *restrict zone) {
+    static int (*real)(struct timeval *, void *);
+    if (!real)
+        real = (int (*)(struct timeval *, void *))dlsym(RTLD_NEXT, "gettimeofday");
+    int done = real(to, zone);
+    if (refused("clock", ++clocks))
+        to->tv_sec = -1;
+    return done;
+}
+
+time_t time(time_t *to) {
+    static time_t (*real)(time_t *);
+    if (!real)
+        real = (time_t (*)(time_t *))dlsym(RTLD_NEXT, "time");
+    time_t found = refused("clock", ++clocks) ? -1 : real(NULL);
+    return to ? *to = found : found;
 }
 
 ssize_t read(int fd, void *to, size_t size) {
