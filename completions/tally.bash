@@ -33,7 +33,11 @@ _tally() {
         return
     fi
     case ${COMP_WORDS[1]}:$before in
-        last:-n | *:--until | *:--feeders | *:--east | *:--west | *:--askers) return ;;
+        last:--until | ac:--until | all:--until)
+            COMPREPLY=($(compgen -W now -- "$word"))
+            return
+            ;;
+        last:-n | *:--feeders | *:--east | *:--west | *:--askers) return ;;
     esac
     case $word in
         -*) COMPREPLY=($(compgen -W "$options" -- "$word")) ;;

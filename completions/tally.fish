@@ -17,7 +17,7 @@ complete -c tally -n __fish_use_subcommand -s h -l help -d 'Print help'
 complete -c tally -n __fish_use_subcommand -s V -l version -d 'Print version'
 
 complete -c tally -n '__fish_seen_subcommand_from last' -s n -x -d 'Show the latest N stays of each file'
-complete -c tally -n '__fish_seen_subcommand_from last' -l until -x -d 'Count open sessions up to a moment'
+complete -c tally -n '__fish_seen_subcommand_from last' -l until -x -a now -d 'Count open sessions up to a moment'
 complete -c tally -n '__fish_seen_subcommand_from last' -l csv -d 'Print one table in CSV'
 complete -c tally -n '__fish_seen_subcommand_from last' -l feeders -x -d 'Read files with up to N threads'
 complete -c tally -n '__fish_seen_subcommand_from last' -l east -x -d 'Minutes east of UTC'
@@ -27,7 +27,7 @@ complete -c tally -n '__fish_seen_subcommand_from last' -s h -l help -d 'Print h
 
 complete -c tally -n '__fish_seen_subcommand_from ac' -s d -d 'Sum by day'
 complete -c tally -n '__fish_seen_subcommand_from ac' -s p -d 'Sum by user'
-complete -c tally -n '__fish_seen_subcommand_from ac' -l until -x -d 'Count open sessions up to a moment'
+complete -c tally -n '__fish_seen_subcommand_from ac' -l until -x -a now -d 'Count open sessions up to a moment'
 complete -c tally -n '__fish_seen_subcommand_from ac' -l csv -d 'Print one table in CSV'
 complete -c tally -n '__fish_seen_subcommand_from ac' -l feeders -x -d 'Read files with up to N threads'
 complete -c tally -n '__fish_seen_subcommand_from ac' -l east -x -d 'Minutes east of UTC'
@@ -47,7 +47,7 @@ complete -c tally -n '__fish_seen_subcommand_from sa' -l zone -r -a '(__tally_zo
 complete -c tally -n '__fish_seen_subcommand_from sa' -s h -l help -d 'Print help'
 
 complete -c tally -n '__fish_seen_subcommand_from all' -l askers -x -d 'Ask reports with N threads meanwhile'
-complete -c tally -n '__fish_seen_subcommand_from all' -l until -x -d 'Count open sessions up to a moment'
+complete -c tally -n '__fish_seen_subcommand_from all' -l until -x -a now -d 'Count open sessions up to a moment'
 complete -c tally -n '__fish_seen_subcommand_from all' -l feeders -x -d 'Read files with up to N threads'
 complete -c tally -n '__fish_seen_subcommand_from all' -l east -x -d 'Minutes east of UTC'
 complete -c tally -n '__fish_seen_subcommand_from all' -l west -x -d 'Minutes west of UTC'
