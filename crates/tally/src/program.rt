@@ -2,9 +2,7 @@
 ghost use Rattle.tally_line.specs.Jobs.{IsRunnable, TakesUntil};
 
 use crate::asked::{Asked, clock_for, job_for};
-use crate::faults::{
-    FAULT, REFUSED, fault, file_fault, not_opened, run_fault, times_fault, usage,
-};
+use crate::faults::{FAULT, REFUSED, fault, file_fault, not_opened, run_fault, times_fault, usage};
 use crate::now::now_for;
 use crate::opened::{OpenFault, ROOT, hold_closed_streams, open_all};
 use crate::output::Watched;

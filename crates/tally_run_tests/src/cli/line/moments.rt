@@ -93,7 +93,11 @@ fn a_moment_is_settled_on_the_clock_of_the_run(rt: HostRuntime) {
 fn a_second_out_of_range_needs_no_clock(rt: HostRuntime) {
     let rows = [
         (Moment::Second(2_147_483_647), false, None),
-        (Moment::Second(2_147_483_648), false, Some(TimesFault::Until)),
+        (
+            Moment::Second(2_147_483_648),
+            false,
+            Some(TimesFault::Until),
+        ),
         (Moment::Second(-1), false, Some(TimesFault::Until)),
         (Moment::Day(-1), false, None),
         (Moment::Now, true, None),
