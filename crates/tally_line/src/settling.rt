@@ -20,8 +20,8 @@ pub enum TimesFault {
     Until,
 }
 
-/// What is wrong with moments whatever the clock of the run shows, so that a command line is refused before a clock is
-/// looked for.
+/// What is wrong with moments on every clock, so that a command line is refused before its zone is read: a second that is out
+/// of range and needs no clock. `settle` names the same fault.
 pub fn known_fault(times: &Times) -> Option<TimesFault>
     ensures value { result ≡ Spec.known_fault times.now }
     ensures refused { IfSome result (AreRefused times.now) }
@@ -33,8 +33,8 @@ pub fn known_fault(times: &Times) -> Option<TimesFault>
     }
 }
 
-/// A job with the seconds of its moments, by its clock with its minutes on top. Of these words
-/// `now` is the second that is given.
+/// A job with the second of its moment, on a clock with the job's minutes east of it on top; `now` is the second at which
+/// the words were read. It errs where a second is out of range.
 pub fn settle(job: &Job, times: &Times, clock: &Clock, now: i64) -> Result<Job, TimesFault>
     ensures value { Settles (local clock.now job.now.offset) now times.now job.now result }
     ensures runnable { IsRunnable job.now → TakesUntil job.now.report times.now.until → IfOk result IsRunnable }
@@ -52,6 +52,7 @@ fn known(moment: Option<Moment>) -> Option<i64>
     }
 }
 
+/// The second of a moment, where there is one.
 fn second_in(moment: Option<Moment>, clock: &Clock, minutes: i32, now: i64) -> Option<i64>
     ensures { IsSecondIn (local clock.now minutes) now moment result }
 {

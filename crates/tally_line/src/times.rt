@@ -23,7 +23,7 @@ fn is_now(moment: Option<Moment>) -> bool
 impl Times {
     ghost use Rattle.tally_line.specs.Times.{ask_now};
 
-    /// Whether one of them is when the words are read.
+    /// Whether one of them is when the words are read, so that the machine has to be asked for its time.
     pub fn ask_now(&self) -> bool
         ensures { result ≡ ask_now self.now }
     {

@@ -37,7 +37,8 @@ fn shown_by(wanted: i64, first: i64, ahead: i64, left_out: i64) -> i64
     }
 }
 
-/// The second of a moment on a clock with minutes east of it on top, at a second that is now.
+/// The second of a moment since 1970, on a clock with minutes east of it on top; that of `Moment::Now` is `now`. A time that
+/// the clock shows twice has its first second. One that it leaves out is counted by the offset of the second before.
 pub fn second_of(clock: &Clock, minutes: i32, moment: Moment, now: i64) -> i64
     ensures { IsSecondOf (local clock.now minutes) now moment result }
 {
