@@ -12,4 +12,7 @@ mod running;
 pub use crate::fault::RunFault;
 pub use crate::running::run;
 pub use crate::running::source::Source;
-pub use tally_line::{FileArg, Form, Job, Line, LineFault, Report, file_word, job_of};
+pub use tally_line::{
+    FileArg, Form, Job, Line, LineFault, Report, Times, TimesFault, file_word, job_of, known_fault,
+    settle,
+};
