@@ -1,3 +1,4 @@
+pub mod Choice
 pub mod Compressed
 pub mod Decoding
 pub mod Elapsed
@@ -5,6 +6,7 @@ pub mod Event
 pub mod LoginRecord
 pub mod NumberedProc
 pub mod PackedProc
+pub mod Period
 pub mod ProcRecord
 pub mod Records
 pub mod Sorted

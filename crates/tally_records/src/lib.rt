@@ -5,10 +5,11 @@
 //! alone. `process` has the process record: `packed` reads it, with the `name` of its command, and keeps
 //! its numbers as they are in a file, `numbered` does so with a number for the name, and `compressed` and
 //! `elapsed` work them out. A `batch` is of one kind, a `field` a text, a `list` is shared by its copies,
-//! and `guesses` and `hints` are of places in tables.
+//! and `guesses` and `hints` are of places in tables. A `choice` is what a report is over, its `period` a part of time.
 #![tactic(auto)]
 
 mod batch;
+mod choice;
 mod fault;
 mod field;
 mod guesses;
@@ -16,10 +17,12 @@ mod hints;
 mod laws;
 mod list;
 mod login;
+mod period;
 mod process;
 mod telling;
 
 pub use crate::batch::{BATCH_LIMIT, Batch, Kind};
+pub use crate::choice::{EVERY_LOGIN, LoginChoice, NAMED_LIMIT, Names, is_among, names_nothing};
 pub use crate::fault::{BatchFault, Memory, RecordFault};
 pub use crate::field::{Comm, Name, Remote, whole_words};
 pub use crate::guesses::Guesses;
@@ -29,6 +32,7 @@ pub use crate::list::List;
 pub use crate::login::key::Key;
 pub use crate::login::logins::Logins;
 pub use crate::login::{Event, LOGIN_SIZE, LoginRecord, read_login};
+pub use crate::period::{ALWAYS, Period};
 pub use crate::process::compressed::comp;
 pub use crate::process::numbered::NumberedProc;
 pub use crate::process::packed::PackedProc;
