@@ -15,6 +15,8 @@ use Rattle.tally_sessions.specs.declared.times.DayUserTime.{DayUserTime}
 use Rattle.tally_sessions.specs.Clock.{pending_old_time}
 use Rattle.tally_sessions.specs.Days.{local}
 use Rattle.tally_sessions.specs.Hosts.{posted_by}
+use Rattle.tally_records.specs.Choice.{every_login}
+use Rattle.tally_sessions.specs.Sums.{sessions_of}
 use Rattle.tally_sessions.specs.Rows.{day_times, day_user_times}
 use Rattle.tally_sessions.specs.Stays.{seconds_of}
 use Rattle.tally_sessions.specs.Totals.{every_host}
@@ -42,7 +44,7 @@ day_and_seconds r = (r.day, r.seconds)
 
 -- the days of a stay
 abbrev days_of : ClockRows → ℤ → List Entry → List (ℤ × ℕ)
-days_of rows offset entries = map day_and_seconds (day_times (local rows offset) entries None)
+days_of rows offset entries = map day_and_seconds (day_times (local rows offset) (sessions_of every_login entries None))
 
 -- ten seconds before midnight the clock goes an hour forward: that second is of the next day already
 forward : days_of (clock (row (pos 86390) (pos 3600) (omega (arith, ints)) (omega (arith, ints)) ∷ [])) (pos 0) (stay 86389 86392) ≡ (pos 0, 1) ∷ (pos 1, 2) ∷ []
@@ -92,7 +94,7 @@ abbrev seconds_of_row : DayUserTime → ℤ × List ℕ × ℕ
 seconds_of_row r = (r.day, r.user, r.seconds)
 
 -- the same by user
-by_user : map seconds_of_row (day_user_times (local (clock (row (pos 86390) (pos 3600) (omega (arith, ints)) (omega (arith, ints)) ∷ [])) (pos 0)) (stay 86389 86392) None)
+by_user : map seconds_of_row (day_user_times (local (clock (row (pos 86390) (pos 3600) (omega (arith, ints)) (omega (arith, ints)) ∷ [])) (pos 0)) (sessions_of every_login (stay 86389 86392) None))
     ≡ (pos 0, padded 32 ann, 1) ∷ (pos 1, padded 32 ann, 2) ∷ []
 unfolding every_host seconds_of pending_old_time event_of seconds_from in_order insert_in_order
 by_user = refl

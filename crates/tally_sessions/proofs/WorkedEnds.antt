@@ -12,6 +12,8 @@ use Rattle.tally_sessions.specs.declared.entry.End.{End}
 use Rattle.tally_sessions.specs.declared.entry.End.TheVariants.{Logout, Next, Down, Crash, Still}
 use Rattle.tally_sessions.specs.Clock.{pending_old_time}
 use Rattle.tally_sessions.specs.Hosts.{posted_by}
+use Rattle.tally_records.specs.Choice.{every_login}
+use Rattle.tally_sessions.specs.Sums.{sessions_of}
 use Rattle.tally_sessions.specs.Rows.{user_times}
 use Rattle.tally_sessions.specs.Stays.{end_at, seconds_of, starts_stay}
 use Rattle.tally_sessions.specs.Totals.{every_host, first_time, latest_stays, stays_of, total_of}
@@ -105,12 +107,12 @@ stay_of_bob = record {
 }
 
 -- the latest stay comes first, with each of its fields
-latest : latest_stays 3 (Some 1) ann_and_bob None ≡ stay_of_bob ∷ []
+latest : latest_stays 3 (Some 1) every_login ann_and_bob None ≡ stay_of_bob ∷ []
 unfolding seconds_of pending_old_time event_of
 latest = refl
 
 -- all of them where no limit is given
-all_latest : map ending (latest_stays 3 None ann_and_bob None) ≡ (false, Logout, pos 2200, 600) ∷ (false, Next, pos 1600, 600) ∷ []
+all_latest : map ending (latest_stays 3 None every_login ann_and_bob None) ≡ (false, Logout, pos 2200, 600) ∷ (false, Next, pos 1600, 600) ∷ []
 unfolding seconds_of pending_old_time event_of
 all_latest = refl
 
@@ -119,8 +121,8 @@ first_times : first_time 3 ann_and_bob ∷ first_time 0 ann_and_bob ∷ first_ti
 first_times = refl
 
 -- rows of users by name, over all hosts; a running time counts nowhere, and a user of no seconds has no row
-users : user_times (posted_by 0 (boot 10 ∷ utmp 7 tty1 bob (pos 100) ∷ utmp 7 tty1 ann (pos 160) ∷ utmp 8 tty1 [] (pos 200) ∷ [])
-    ++ posted_by 1 (utmp 7 tty2 ann (pos 50) ∷ utmp 8 tty2 [] (pos 80) ∷ utmp 7 tty2 (codes "zoe") (pos 90) ∷ utmp 8 tty2 [] (pos 90) ∷ [])) None
+users : user_times (sessions_of every_login (posted_by 0 (boot 10 ∷ utmp 7 tty1 bob (pos 100) ∷ utmp 7 tty1 ann (pos 160) ∷ utmp 8 tty1 [] (pos 200) ∷ [])
+    ++ posted_by 1 (utmp 7 tty2 ann (pos 50) ∷ utmp 8 tty2 [] (pos 80) ∷ utmp 7 tty2 (codes "zoe") (pos 90) ∷ utmp 8 tty2 [] (pos 90) ∷ [])) None)
     ≡ record { user = padded 32 ann; seconds = 70 } ∷ record { user = padded 32 bob; seconds = 60 } ∷ []
 unfolding every_host seconds_of pending_old_time event_of in_order insert_in_order
 users = refl

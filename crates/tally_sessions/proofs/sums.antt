@@ -1,4 +1,10 @@
 -- Sessions, and sums over them.
+pub mod Additive
+pub mod EverySession
+pub mod EveryStay
+pub mod HostSums
+pub mod PeriodParts
 pub mod SessionLists
 pub mod SumLemmas
 pub mod SumSteps
+pub mod UserParts

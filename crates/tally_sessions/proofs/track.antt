@@ -8,9 +8,12 @@ pub mod LineSums
 pub mod Names
 pub mod PendingSums
 pub mod Places
+pub mod SessionParts
+pub mod ShownSteps
 pub mod StayCounts
 pub mod StaysNow
 pub mod TrackAdvance
 pub mod TrackSteps
 pub mod TrackedAdvance
+pub mod UserPlaces
 pub mod UserSums

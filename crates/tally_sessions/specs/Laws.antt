@@ -4,9 +4,10 @@ use Rattle.std.specs.List.{range_with_len}
 use Rattle.tally_clock.specs.Days.{Hold, seconds_on}
 use Rattle.tally_sessions.specs.declared.entry.Entry.{Entry}
 use Rattle.tally_sessions.specs.declared.entry.Stay.{Stay}
+use Rattle.tally_sessions.specs.declared.sums.Session.{Session}
 use Rattle.tally_sessions.specs.Rows.{day_time, day_times, day_user_time, day_user_times, user_time, user_times}
-use Rattle.tally_sessions.specs.Sums.{seconds_of_day, seconds_of_day_user, sessions_of}
-use Rattle.tally_sessions.specs.Totals.{connect_of, stays_of}
+use Rattle.tally_sessions.specs.Sums.{seconds_of_day, seconds_of_day_user, seconds_of_user}
+use Rattle.tally_sessions.specs.Totals.{stays_of}
 
 -- the seconds of a stay over days that hold all of it are its length
 abbrev pub HasItsDays : (ℤ → ℤ) → Stay → Type 0
@@ -18,14 +19,13 @@ abbrev pub StaysHaveTheirDays : Type 0
 StaysHaveTheirDays = (clock : ℤ → ℤ) (host : ℕ) (entries : List Entry) (until : Option ℤ) → All (HasItsDays clock) (stays_of host entries until)
 
 -- each user, each day, and each user on a day with connect time has a row
-pub record HaveRows (entries : List Entry) (until : Option ℤ) : Type 0 where
-  pub users : (user : List ℕ) → 0 < connect_of user entries until
-      → Contains (user_times entries until) (user_time entries until user)
-  pub days : (clock : ℤ → ℤ) (day : ℤ) → 0 < seconds_of_day clock day (sessions_of entries until)
-      → Contains (day_times clock entries until) (day_time clock entries until day)
-  pub day_users : (clock : ℤ → ℤ) (day : ℤ) (user : List ℕ) → 0 < seconds_of_day_user clock day user (sessions_of entries until)
-      → Contains (day_user_times clock entries until) (day_user_time clock entries until user day)
+pub record HaveRows (sessions : List Session) : Type 0 where
+  pub users : (user : List ℕ) → 0 < seconds_of_user user sessions → Contains (user_times sessions) (user_time sessions user)
+  pub days : (clock : ℤ → ℤ) (day : ℤ) → 0 < seconds_of_day clock day sessions
+      → Contains (day_times clock sessions) (day_time clock sessions day)
+  pub day_users : (clock : ℤ → ℤ) (day : ℤ) (user : List ℕ) → 0 < seconds_of_day_user clock day user sessions
+      → Contains (day_user_times clock sessions) (day_user_time clock sessions user day)
 
--- this is so of every list of entries, and for every moment to count to
+-- this is so of all sessions
 abbrev pub TimesHaveRows : Type 0
-TimesHaveRows = (entries : List Entry) (until : Option ℤ) → HaveRows entries until
+TimesHaveRows = (sessions : List Session) → HaveRows sessions

@@ -1,5 +1,6 @@
 -- What no public contract cites.
 pub mod Changes
+pub mod Chosen
 pub mod Counts
 pub mod Endings
 pub mod Entries

@@ -1,13 +1,15 @@
 //! Connect time by user and by day, as ac(1) gives it.
-ghost use Rattle.std.specs.Prelude.{◌≡◌, ℕ, List as Items, All, IfOk, filter, map, nat_lt};
+ghost use Rattle.std.specs.Prelude.{◌≡◌, ◌<◌, ◌^◌, ℕ, List as Items, All, IfOk, filter, map, nat_lt};
 ghost use Rattle.std.specs.BTreeMap.{IsOrdered};
 ghost use Rattle.std.specs.Cmp.Lexicographic.{slice_cmp};
 ghost use Rattle.std.specs.Ordering.{int_cmp, nat_cmp};
 ghost use Rattle.tally_sessions.specs.Days.{IsDay, IsOffset, local};
 ghost use Rattle.tally_sessions.specs.inside.Sums.{above_zero, day_time_of, user_time_of, sum_at};
 ghost use Rattle.tally_sessions.specs.Rows.{day_times, day_user_times, user_times};
+ghost use Rattle.tally_sessions.specs.Sums.{seconds_in, seconds_of_user, sessions_of};
 ghost use Rattle.tally_sessions.specs.Totals.{connect_of};
 
+mod chosen_sums;
 mod cut;
 mod day_sums;
 mod day_table;
@@ -27,7 +29,7 @@ use crate::times::{DayTime, DayUserTime, UserTime};
 use std::alloc::{AllocError, Global};
 use std::collections::BTreeMap;
 use tally_clock::Clock;
-use tally_records::{List, Memory};
+use tally_records::{List, LoginChoice, Memory};
 
 /// Whether a sum of seconds has a row.
 fn has_row(seconds: u64) -> bool
@@ -68,8 +70,12 @@ fn day_rows(alloc: Global, sums: &BTreeMap<i32, u64>) -> Result<Vec<DayTime>, Al
 }
 
 impl Sessions {
-    /// The seconds of each user's sessions on all hosts.
-    fn user_sums(&self, alloc: Global, until: Option<i32>) -> Result<BTreeMap<NameKey, u64>, Memory>
+    /// The seconds of each user's sessions, where all are chosen: those that have ended are counted already.
+    fn all_user_sums(
+        &self,
+        alloc: Global,
+        until: Option<i32>,
+    ) -> Result<BTreeMap<NameKey, u64>, Memory>
         ensures { IfOk result (λ sums. (user : Items ℕ) → sum_at (slice_cmp nat_cmp) sums.entries user ≡ connect_of user self.now.entries until) }
     {
         let entries = self.entries();
@@ -80,49 +86,83 @@ impl Sessions {
         Ok(sums)
     }
 
-    /// The connect time of each user that has any, in order of name bytes. Sessions that nothing has
-    /// ended count up to a moment, in seconds since 1970, or else to their host's last record.
+    /// The seconds of each user's chosen sessions on all hosts.
+    fn user_sums(
+        &self,
+        alloc: Global,
+        choice: &LoginChoice,
+        until: Option<i32>,
+    ) -> Result<BTreeMap<NameKey, u64>, Memory>
+        ensures { IfOk result (λ sums. (user : Items ℕ) → sum_at (slice_cmp nat_cmp) sums.entries user ≡ seconds_of_user user (sessions_of choice.now self.now.entries until)) }
+    {
+        if choice.is_every() {
+            self.all_user_sums(alloc, until)
+        } else {
+            self.chosen_user_sums(alloc, choice, until)
+        }
+    }
+
+    /// The seconds of the chosen sessions of all hosts, each cut to the period. Those that nothing has ended count up to
+    /// a moment, in seconds since 1970, or else to their host's last record.
+    pub fn total(&self, choice: &LoginChoice, until: Option<i32>) -> u64
+        ensures value { result ≡ seconds_in (sessions_of choice.now self.now.entries until) }
+        ensures fits { result < 2 ^ 52 }
+    {
+        if choice.is_every() {
+            self.all_seconds(until)
+        } else {
+            self.chosen_seconds(choice, until)
+        }
+    }
+
+    /// The connect time of each user that has any, in order of name bytes, over the chosen sessions, counted as in the total.
     pub fn connect_by_user(
         &self,
         alloc: Global,
+        choice: &LoginChoice,
         until: Option<i32>,
     ) -> Result<List<UserTime>, Memory>
-        ensures { IfOk result (λ rows. rows ≡ user_times self.now.entries until) }
+        ensures { IfOk result (λ rows. rows ≡ user_times (sessions_of choice.now self.now.entries until)) }
     {
-        let sums = self.user_sums(alloc, until)?;
+        let sums = self.user_sums(alloc, choice, until)?;
         List::from_vec(alloc, user_rows(alloc, &sums)?)
     }
 
-    /// The connect time of each day that has any, in order, by the days of a clock with an offset in minutes east of it.
-    /// Sessions that nothing has ended count as by user.
+    /// The connect time of each day that has any, in order, by the days of a clock with an offset in minutes east of it, over
+    /// the chosen sessions, counted as in the total.
     pub fn connect_by_day(
         &self,
         alloc: Global,
         clock: &Clock,
         offset: i32,
+        choice: &LoginChoice,
         until: Option<i32>,
     ) -> Result<List<DayTime>, Memory>
         requires { IsOffset offset }
-        ensures value { IfOk result (λ rows. rows ≡ day_times (local clock.now offset) self.now.entries until) }
+        ensures value { IfOk result (λ rows. rows ≡ day_times (local clock.now offset) (sessions_of choice.now self.now.entries until)) }
         ensures days { IfOk result (All (λ row. IsDay row.day)) }
     {
-        let sums = self.day_sums(alloc, clock, offset, until)?;
+        let sums = self.day_sums(alloc, clock, offset, choice, until)?;
         List::from_vec(alloc, day_rows(alloc, &sums)?)
     }
 
-    /// The connect time of each user on each day, where there is any, by day and then by name
-    /// bytes, by the days of a clock with an offset in minutes east of it. Sessions that nothing has ended count as by user.
+    /// The connect time of each user on each day, where there is any, by day and then by name bytes, by the days of a clock
+    /// with an offset in minutes east of it, over the chosen sessions, counted as in the total.
     pub fn connect_by_day_user(
         &self,
         alloc: Global,
         clock: &Clock,
         offset: i32,
+        choice: &LoginChoice,
         until: Option<i32>,
     ) -> Result<List<DayUserTime>, Memory>
         requires { IsOffset offset }
-        ensures value { IfOk result (λ rows. rows ≡ day_user_times (local clock.now offset) self.now.entries until) }
+        ensures value { IfOk result (λ rows. rows ≡ day_user_times (local clock.now offset) (sessions_of choice.now self.now.entries until)) }
         ensures days { IfOk result (All (λ row. IsDay row.day)) }
     {
-        List::from_vec(alloc, self.rows_by_day_user(alloc, clock, offset, until)?)
+        List::from_vec(
+            alloc,
+            self.rows_by_day_user(alloc, clock, offset, choice, until)?,
+        )
     }
 }

@@ -3,7 +3,8 @@
 //! `entries` keeps the records: `list` stores them in batches, `batches` finds the batch of a place, `stored` is one
 //! record where it is kept, `reads` reads it, `iter` goes over all. `track` goes forward over those of one host:
 //! `rules` says what a record means, `ending` ends stays, `kept_ending` is an end if there is one, `ended` sums those that
-//! have ended, `name_table` finds lines and users, `questions` answers. `connect` has the rows of connect time: `walk` goes over all sessions, `cut` cuts one
+//! have ended, `name_table` finds lines and users, `questions` answers, `parts` has the sessions of a choice, `shown` the stays
+//! that it shows. `connect` has the rows of connect time: `chosen_sums` sums the sessions of a choice, `walk` goes over them, `cut` cuts one
 //! where the offset of a clock changes, `span` counts the days of a part, `user_sums` sums by user, `day_sums` by day,
 //! `day_user_rows` by both, in maps by `keys`, or `day_table`, where it is small enough (`day_table_size`), filled by
 //! `day_table_sums` and read by `day_table_rows`; `sums` is what rows and tracks add up. `sessions` holds the
@@ -11,6 +12,7 @@
 //! and a stay are plain values, `times` are rows, `days` and `laws` state laws.
 #![tactic(auto)]
 
+mod chosen;
 mod connect;
 mod days;
 mod entries;
@@ -26,6 +28,6 @@ pub use crate::entries::Entries;
 pub use crate::entries::iter::EntryIter;
 pub use crate::entries::list::EntryList;
 pub use crate::entry::{End, Entry, Stay};
-pub use crate::laws::times_have_rows;
+pub use crate::laws::{every_session_is_chosen, periods_add_up, times_have_rows, users_add_up};
 pub use crate::sessions::{ENTRY_LIMIT, HOST_LIMIT, Sessions};
 pub use crate::times::{DayTime, DayUserTime, UserTime};

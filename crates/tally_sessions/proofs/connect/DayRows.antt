@@ -1,5 +1,5 @@
 -- The rows by day, from a table of the days' sums.
-use Rattle.std.proofs.Common.{◌≡◌, ℕ, ◌+◌, ◌<◌, ◌≢◌, ◌⊎◌, inl, inr, Option, List, [], ◌∷◌, ℤ, map, filter, All, refl, sym, ap, ◌∙◌, arith}
+use Rattle.std.proofs.Common.{◌≡◌, ℕ, ◌+◌, ◌<◌, ◌≢◌, ◌⊎◌, inl, inr, List, [], ◌∷◌, ℤ, map, filter, All, refl, sym, ap, ◌∙◌, arith}
 use Rattle.std.proofs.lemmas.Bool.{cases_eq}
 use Rattle.std.proofs.lemmas.Bool.Decides.{Decides-int_eq}
 use Rattle.std.proofs.lemmas.Cmp.{int_cmp_total}
@@ -12,14 +12,13 @@ use Rattle.std.specs.Ordering.{int_cmp, is_eq}
 use Rattle.std.specs.declared.cmp.Ordering.TheVariants.{Equal}
 use Rattle.tally_records.proofs.Members.{Member, Member-append_left, Member-append_right, Member-map}
 use Rattle.tally_records.specs.Sorted.{in_order}
-use Rattle.tally_sessions.specs.declared.entry.Entry.{Entry}
 use Rattle.tally_sessions.specs.declared.sums.Session.{Session}
 use Rattle.tally_sessions.specs.declared.times.DayTime.{DayTime}
 use Rattle.tally_clock.specs.Days.{days_of_seconds, seconds_on}
 use Rattle.tally_sessions.specs.Days.{IsDay}
 use Rattle.tally_sessions.specs.inside.Sums.{above_zero, day_time_of, sum_at}
 use Rattle.tally_sessions.specs.Rows.{day_time, day_time_cmp, day_times}
-use Rattle.tally_sessions.specs.Sums.{seconds_of_day, sessions_of}
+use Rattle.tally_sessions.specs.Sums.{seconds_of_day}
 use Rattle.tally_sessions.proofs.connect.Candidates.{rows_of_keys}
 use Rattle.tally_sessions.proofs.days.ClockDays.{day_among}
 use Rattle.tally_sessions.proofs.connect.RowLemmas.{rows_are, each_row}
@@ -46,13 +45,13 @@ day_counted clock day (s ∷ ss) lt = by (cases_eq (seconds_on clock day s.begin
         Member-append_left (map (λ (d : ℤ). d) (days_of_seconds clock s.begin s.end_time)) (days_of clock ss) day
         (Member-map (λ (d : ℤ). d) (days_of_seconds clock s.begin s.end_time) day (day_among clock day s.begin s.end_time (omega arith)))
 
-pub day_rows_are : (clock : ℤ → ℤ) (entries : List Entry) (until : Option ℤ) (sums : List (ℤ × ℕ)) → IsStrictlySortedBy int_cmp (keys_of sums) → ((day : ℤ) → sum_at int_cmp sums day ≡ seconds_of_day clock day (sessions_of entries until))
-    → map day_time_of (filter above_zero sums) ≡ day_times clock entries until
-day_rows_are clock entries until sums up at =
+pub day_rows_are : (clock : ℤ → ℤ) (ss : List Session) (sums : List (ℤ × ℕ)) → IsStrictlySortedBy int_cmp (keys_of sums) → ((day : ℤ) → sum_at int_cmp sums day ≡ seconds_of_day clock day ss)
+    → map day_time_of (filter above_zero sums) ≡ day_times clock ss
+day_rows_are clock ss sums up at =
     rows_are int_cmp_total same_day (λ day n. record { day = day; seconds = n }) (λ (r : DayTime). r.day) (λ (r : DayTime). r.seconds) (λ day n. refl) (λ day n. refl)
-    sums (λ day. seconds_of_day clock day (sessions_of entries until)) (days_of clock (sessions_of entries until)) up at (λ day lt. day_counted clock day (sessions_of entries until) lt)
+    sums (λ day. seconds_of_day clock day ss) (days_of clock ss) up at (λ day lt. day_counted clock day ss lt)
     ∙ ap (λ rs. in_order day_time_cmp (filter (λ (r : DayTime). nat_lt 0 r.seconds) rs))
-    (sym (rows_of_keys (day_time clock entries until) (λ (s : Session) (d : ℤ). d) (λ (s : Session). days_of_seconds clock s.begin s.end_time) (sessions_of entries until)))
+    (sym (rows_of_keys (day_time clock ss) (λ (s : Session) (d : ℤ). d) (λ (s : Session). days_of_seconds clock s.begin s.end_time) ss))
 
 pub day_rows_days : (sums : List (ℤ × ℕ)) → IsStrictlySortedBy int_cmp (keys_of sums) → ((day : ℤ) → 0 < sum_at int_cmp sums day → IsDay day) → All (λ (r : DayTime). IsDay r.day) (map day_time_of (filter above_zero sums))
 day_rows_days sums up days =

@@ -18,7 +18,8 @@ use Rattle.tally_records.proofs.Members.{Member, Member-append_left, Member-appe
 use Rattle.tally_sessions.specs.declared.connect.keys.DayUser.{DayUser}
 use Rattle.tally_sessions.specs.declared.sums.Session.{Session}
 use Rattle.tally_sessions.specs.declared.times.DayUserTime.{DayUserTime}
-use Rattle.tally_sessions.specs.inside.Changes.{day_users_of, session_row, session_rows}
+use Rattle.tally_sessions.specs.Rows.{day_user_time, day_user_times}
+use Rattle.tally_sessions.specs.inside.Changes.{day_users_of}
 use Rattle.tally_clock.specs.Days.{days_of_seconds, seconds_on}
 use Rattle.tally_sessions.specs.Days.{IsDay}
 use Rattle.tally_sessions.specs.inside.Sums.{above_zero, day_user_time_of, day_user_cmp, sum_at}
@@ -83,12 +84,12 @@ abbrev key : DayUserTime → DayUser
 key r = record { day = r.day; user = r.user }
 
 pub day_user_rows_are : (clock : ℤ → ℤ) (ss : List Session) (sums : List (DayUser × ℕ)) → IsStrictlySortedBy day_user_cmp (keys_of sums) → ((k : DayUser) → sum_at day_user_cmp sums k ≡ seconds_of_day_user clock k.day k.user ss)
-    → map day_user_time_of (filter above_zero sums) ≡ session_rows clock ss
+    → map day_user_time_of (filter above_zero sums) ≡ day_user_times clock ss
 day_user_rows_are clock ss sums up at =
     rows_are day_user_total same_day_user row key (λ (r : DayUserTime). r.seconds) (λ k n. refl) (λ k n. refl)
     sums (λ (k : DayUser). seconds_of_day_user clock k.day k.user ss) (day_users_of clock ss) up at (λ k lt. day_user_counted clock k ss lt)
     ∙ ap (λ rs. in_order day_user_time_cmp (filter (λ (r : DayUserTime). nat_lt 0 r.seconds) rs))
-    (sym (rows_of_keys (λ (k : DayUser). session_row clock ss k.user k.day) (λ (s : Session) (d : ℤ). let at : DayUser = record { day = d; user = s.user } in at) (λ (s : Session). days_of_seconds clock s.begin s.end_time) ss))
+    (sym (rows_of_keys (λ (k : DayUser). day_user_time clock ss k.user k.day) (λ (s : Session) (d : ℤ). let at : DayUser = record { day = d; user = s.user } in at) (λ (s : Session). days_of_seconds clock s.begin s.end_time) ss))
 
 pub day_user_rows_days : (sums : List (DayUser × ℕ)) → IsStrictlySortedBy day_user_cmp (keys_of sums) → ((k : DayUser) → 0 < sum_at day_user_cmp sums k → IsDay k.day) → All (λ (r : DayUserTime). IsDay r.day) (map day_user_time_of (filter above_zero sums))
 day_user_rows_days sums up days =

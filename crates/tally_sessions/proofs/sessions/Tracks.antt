@@ -81,9 +81,11 @@ HasSums-take : (es es' : List Entry) (n : ℕ) (sums : EndedSums) (lines : List 
 HasSums-take es es' n sums lines swept stays same tracked h = record {
   at = λ who. h.at who ∙ sum_equal (ended_length who es) (ended_length who es') no_stay stays
       (λ k lt. ap (λ (r : LoginRecord). cond (counts who r) (option_map_or length_of (stay_at stays k).ended 0) 0) (sym (start_same es es' n (stay_at stays k) same (tracked.at k lt).placed)));
-  entered = λ k lt login.
-      let start = start_same es es' n (stay_at stays k) same (tracked.at k lt).placed in
-      subst (λ (r : LoginRecord). StandsAt sums.users (stay_at stays k).user r.user) (sym start) (h.entered k lt (ap event_of (sym start) ∙ login));
+  entered = λ k lt.
+      let start = start_same es es' n (stay_at stays k) same (tracked.at k lt).placed in record {
+        login = λ login. subst (λ (r : LoginRecord). StandsAt sums.users (stay_at stays k).user r.user) (sym start) ((h.entered k lt).login (ap event_of (sym start) ∙ login));
+        boot = λ boot. (h.entered k lt).boot (ap event_of (sym start) ∙ boot);
+      };
   fits = h.fits;
   few = h.few;
 }

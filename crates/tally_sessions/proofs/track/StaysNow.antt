@@ -1,9 +1,10 @@
 -- The stays of a host as they stand now, from its track.
-use Rattle.std.proofs.Common.{◌≡◌, ℕ, ◌+◌, ◌-◌, ◌*◌, ◌<◌, ◌≤◌, ◌≤ℤ◌, List, [], ◌∷◌, ◌++◌, map, length, get_or, take, drop, reverse, Option, Some, None, unwrap_or, ℤ, pos, refl, sym, ap, subst, ◌∙◌, arith}
-use Rattle.std.proofs.lemmas.List.{take_all, length-map, at_drop_more, reverse-append, take-append-le, take-append-drop, get_or-map, get_or-reverse}
+use Rattle.std.proofs.Common.{◌≡◌, ℕ, ◌+◌, ◌-◌, ◌*◌, ◌<◌, ◌≤◌, ◌≤ℤ◌, Bool, true, false, cond, List, [], ◌∷◌, ◌++◌, filter, map, length, get_or, take, drop, reverse, Option, Some, None, unwrap_or, ℤ, pos, refl, sym, ap, subst, ◌∙◌, arith}
+use Rattle.std.proofs.lemmas.List.{append-nil, take_all, length-map, at_drop_more, reverse-append, take-append-le, take-append-drop, get_or-map, get_or-reverse}
+use Rattle.std.proofs.lemmas.List.Elements.{All-push, filter-append}
 use Rattle.std.proofs.lemmas.List.Sums.{sum_by_more_le}
 use Rattle.std.proofs.Math.Seq.{take-length}
-use Rattle.std.specs.List.{IsDistinct}
+use Rattle.std.specs.List.{All, IsDistinct}
 use Rattle.std.specs.Map.{keys_of}
 use Rattle.std.specs.Prelude.{bytes_eq, sum_by}
 use Rattle.tally_sessions.specs.declared.entry.Entry.{Entry}
@@ -86,21 +87,48 @@ latest_here host es a until k d h lt =
     ∙ ap (λ ss. get_or ss i d) (sym (stays_now host es a until h))
     ∙ get_or-map f a.stays.items i no_stay d (omega (arith, lt))
 
--- one stay further back
-pub latest_more : (f : TrackedStay → Stay) (ts : List TrackedStay) (i : ℕ) (t : TrackedStay) (d : Stay) → i < length ts → reverse (drop i (map f ts)) ≡ reverse (drop (i + 1) (map f ts)) ++ f (get_or ts i t) ∷ []
-latest_more f ts i t d lt = ap reverse (drop_more f ts i t d lt) ∙ reverse-append (f (get_or ts i t) ∷ []) (drop (i + 1) (map f ts))
+-- a stay, where it is shown
+abbrev pub one_if : (Stay → Bool) → Stay → List Stay
+one_if p s = cond (p s) (s ∷ []) []
+
+pub one_at_most : (p : Stay → Bool) (s : Stay) → length (one_if p s) ≤ 1
+one_at_most p s = by (p s)
+  where
+    by : (b : Bool) → length (cond b (s ∷ []) []) ≤ 1
+    by true = omega arith
+    by false = omega arith
+
+pub All-one_if : (P : Stay → Type 0) (p : Stay → Bool) (found : List Stay) (s : Stay) → All P found → P s → All P (found ++ one_if p s)
+All-one_if P p found s all h = by (p s)
+  where
+    by : (b : Bool) → All P (found ++ cond b (s ∷ []) [])
+    by true = All-push P found s all h
+    by false = subst (All P) (sym (append-nil found)) all
+
+-- one stay further back, which is shown or not
+pub latest_more : (p : Stay → Bool) (f : TrackedStay → Stay) (ts : List TrackedStay) (i : ℕ) (t : TrackedStay) (d : Stay) → i < length ts
+    → reverse (filter p (drop i (map f ts))) ≡ reverse (filter p (drop (i + 1) (map f ts))) ++ cond (p (f (get_or ts i t))) (f (get_or ts i t) ∷ []) []
+latest_more p f ts i t d lt = ap (λ ss. reverse (filter p ss)) (drop_more f ts i t d lt) ∙ by (p (f (get_or ts i t)))
+  where
+    left : List Stay
+    left = filter p (drop (i + 1) (map f ts))
+
+    by : (b : Bool) → reverse (cond b (f (get_or ts i t) ∷ left) left) ≡ reverse left ++ cond b (f (get_or ts i t) ∷ []) []
+    by true = reverse-append (f (get_or ts i t) ∷ []) left
+    by false = sym (append-nil (reverse left))
 
 -- no stay is left, or the limit is reached
-pub latest_all : (all found : List Stay) (i limit : ℕ) → found ≡ reverse (drop i all) → i ≡ 0 → length found ≤ limit → found ≡ take limit (reverse all)
-latest_all all found i limit e zero few = sym (take_all limit found few) ∙ ap (take limit) (e ∙ ap (λ k. reverse (drop k all)) zero)
+pub latest_all : (p : Stay → Bool) (all found : List Stay) (i limit : ℕ) → found ≡ reverse (filter p (drop i all)) → i ≡ 0 → length found ≤ limit → found ≡ take limit (reverse (filter p all))
+latest_all p all found i limit e zero few = sym (take_all limit found few) ∙ ap (take limit) (e ∙ ap (λ k. reverse (filter p (drop k all))) zero)
 
-pub latest_limit : (all found : List Stay) (i limit : ℕ) → found ≡ reverse (drop i all) → length found ≡ limit → found ≡ take limit (reverse all)
-latest_limit all found i limit e n =
+pub latest_limit : (p : Stay → Bool) (all found : List Stay) (i limit : ℕ) → found ≡ reverse (filter p (drop i all)) → length found ≡ limit → found ≡ take limit (reverse (filter p all))
+latest_limit p all found i limit e n =
     sym (
-    ap (λ ss. take limit (reverse ss)) (sym (take-append-drop i all))
-    ∙ ap (take limit) (reverse-append (take i all) (drop i all))
-    ∙ ap (λ ss. take limit (ss ++ reverse (take i all))) (sym e)
-    ∙ take-append-le limit found (reverse (take i all)) (omega arith)
+    ap (λ ss. take limit (reverse (filter p ss))) (sym (take-append-drop i all))
+    ∙ ap (λ ss. take limit (reverse ss)) (filter-append p (take i all) (drop i all))
+    ∙ ap (take limit) (reverse-append (filter p (take i all)) (filter p (drop i all)))
+    ∙ ap (λ ss. take limit (ss ++ reverse (filter p (take i all)))) (sym e)
+    ∙ take-append-le limit found (reverse (filter p (take i all))) (omega arith)
     ∙ take_all limit found (omega arith)
     )
 

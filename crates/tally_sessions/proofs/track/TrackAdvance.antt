@@ -11,6 +11,7 @@ use Rattle.tally_records.specs.declared.login.Event.TheVariants.{Login, Logout, 
 use Rattle.tally_records.specs.Event.{event_of}
 use Rattle.tally_sessions.specs.declared.track.ended.EndedSums.{EndedSums}
 use Rattle.tally_sessions.specs.declared.entry.Entry.{Entry}
+use Rattle.tally_sessions.specs.declared.track.ending.TheConstants.{NO_USER}
 use Rattle.tally_sessions.specs.declared.track.ending.TrackedStay.{TrackedStay}
 use Rattle.tally_sessions.specs.declared.track.Track.{Track}
 use Rattle.tally_sessions.specs.Clock.{pending_old_time, shift_at}
@@ -118,10 +119,10 @@ pub IsTrack-step : (es : List Entry) (n : ℕ) (lines : Numbers) (lined ticked s
     → done.stays.items ≡ swept.stays.items ++ started es n swept.clock user
     → done ≡ record swept { stays = done.stays; sums = done.sums }
     → HasSums es sums ended → ((who : Option (List ℕ)) → sum_of done.sums who ≡ sum_of swept.sums who) → ((place : ℕ) (name : List ℕ) → StandsAt swept.sums.users place name → StandsAt done.sums.users place name)
-    → (event_of (entry_at es n).item ≡ Login → StandsAt done.sums.users user (entry_at es n).item.user)
+    → (event_of (entry_at es n).item ≡ Login → StandsAt done.sums.users user (entry_at es n).item.user) → (event_of (entry_at es n).item ≡ Boot → user ≡ NO_USER)
     → length done.sums.users.entries + vec_len swept.stays ≤ length swept.sums.users.entries + vec_len done.stays
     → IsTrack (entry_at es n).host es (n + 1) done
-IsTrack-step es n old_lines lined ticked swept done ended sums sweep user lt h leads clock_is within old_time_is first_is last_is lines_are same_stays ended_are swept_is sweeps stays_are rest ended_sums same_sums kept entered few =
+IsTrack-step es n old_lines lined ticked swept done ended sums sweep user lt h leads clock_is within old_time_is first_is last_is lines_are same_stays ended_are swept_is sweeps stays_are rest ended_sums same_sums kept entered boot few =
     let x : LoginRecord = (entry_at es n).item in
     let old : Track = record lined { lines = old_lines } in
     let count : ticked.stays.len ≡ length lined.stays.items = ap (λ v. v.len) same_stays ∙ lined.stays.ok.0 in
@@ -147,7 +148,7 @@ IsTrack-step es n old_lines lined ticked swept done ended sums sweep user lt h l
     (by_sweep place sweeps)
     (within_stays place sweeps)
     (subst (λ k. LeadsTo old_lines.entries done.lines.entries x k) lined.stays.ok.0 (subst (λ ls. LeadsTo old_lines.entries ls x (vec_len lined.stays)) (sym lines) leads))
-    (subst (HasSums es done.sums) (sym stays_are) (HasSums-start es n swept.clock user swept.sums done.sums swept.stays.items swept_sums same_sums kept entered few_users))
+    (subst (HasSums es done.sums) (sym stays_are) (HasSums-start es n swept.clock user swept.sums done.sums swept.stays.items swept_sums same_sums kept entered boot few_users))
   where
     by_sweep : done.swept ≡ sweep → (sweep ≡ lined.swept) ⊎ ((sweep ≡ length lined.stays.items) × (ends_every_stay (event_of (entry_at es n).item) ≡ true))
         → Sweeps es n old_lines.entries done.lines.entries lined.swept done.swept lined.stays.items done.clock user

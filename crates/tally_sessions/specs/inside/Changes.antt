@@ -1,18 +1,15 @@
 -- How the seconds of the days change from each day to the next, of all sessions and of each user's. A table by day has a
 -- place for each day that a time can have.
-use Rattle.std.specs.Prelude.{ℕ, ℤ, ◌+◌, ◌-◌, ◌<◌, IsSome, List, map, filter, sum_by, pos, get_or, length, nat_lt, unsigned_abs, ◌+ℤ◌, ◌-ℤ◌}
+use Rattle.std.specs.Prelude.{ℕ, ℤ, ◌+◌, ◌-◌, ◌<◌, IsSome, List, map, sum_by, pos, get_or, length, unsigned_abs, ◌+ℤ◌, ◌-ℤ◌}
 use Rattle.std.specs.Int.{int_max}
 use Rattle.std.specs.List.{flat_map}
 use Rattle.std.specs.Map.{lookup}
 use Rattle.std.specs.Ordering.{is_eq}
 use Rattle.tally_clock.specs.Days.{days_of_seconds, seconds_on}
 use Rattle.tally_clock.specs.declared.row.Row.{Row}
-use Rattle.tally_records.specs.Sorted.{in_order}
 use Rattle.tally_sessions.specs.declared.connect.keys.DayUser.{DayUser}
 use Rattle.tally_sessions.specs.declared.connect.keys.RowUser.{RowUser}
 use Rattle.tally_sessions.specs.declared.sums.Session.{Session}
-use Rattle.tally_sessions.specs.declared.times.DayUserTime.{DayUserTime}
-use Rattle.tally_sessions.specs.Rows.{day_user_time_cmp}
 use Rattle.tally_sessions.specs.Sums.{seconds_of_day, seconds_of_day_user}
 use Rattle.tally_sessions.specs.inside.Counts.{change_since, stand_for}
 use Rattle.tally_sessions.specs.inside.Sums.{change_of, day_user_cmp, row_user_cmp}
@@ -72,12 +69,3 @@ days_ahead changes = sum_by (λ e. days_from e.0.day) changes
 -- the users on days of these sessions
 abbrev pub day_users_of : (ℤ → ℤ) → List Session → List DayUser
 day_users_of clock sessions = flat_map (λ s. map (λ day. record { day = day; user = s.user }) (days_of_seconds clock s.begin s.end_time)) sessions
-
--- the row of a user on a day
-abbrev pub session_row : (ℤ → ℤ) → List Session → List ℕ → ℤ → DayUserTime
-session_row clock sessions user day = record { day = day; user = user; seconds = seconds_of_day_user clock day user sessions }
-
--- the rows of all users on all days with time of these sessions
-abbrev pub session_rows : (ℤ → ℤ) → List Session → List DayUserTime
-session_rows clock sessions = in_order day_user_time_cmp (filter (λ row. nat_lt 0 row.seconds)
-    (flat_map (λ s. map (session_row clock sessions s.user) (days_of_seconds clock s.begin s.end_time)) sessions))

@@ -8,6 +8,7 @@ use Rattle.tally_records.specs.declared.login.Event.TheVariants.{Login, Logout, 
 use Rattle.tally_records.specs.Event.{event_of}
 use Rattle.tally_sessions.specs.declared.sessions.TheConstants.{ENTRY_LIMIT}
 use Rattle.tally_sessions.specs.declared.track.ended.EndedSums.{EndedSums}
+use Rattle.tally_sessions.specs.declared.track.ending.TheConstants.{NO_USER}
 use Rattle.tally_sessions.specs.declared.entry.Entry.{Entry}
 use Rattle.tally_sessions.specs.declared.entry.Stay.{Stay}
 use Rattle.tally_sessions.specs.declared.entry.End.TheVariants as ends
@@ -148,9 +149,10 @@ sum_of sums (Some user) = unwrap_or (lookup (bytes_eq user) sums.users.entries) 
 abbrev pub LengthFits : TrackedStay → Type 0
 LengthFits t = (e : Ending) → t.ended ≡ Some e → length_of e < 2 ^ 32
 
--- where the sum of a session's user stands
-abbrev pub HasUser : List Entry → Numbers → TrackedStay → Type 0
-HasUser es users t = event_of (start_of es t) ≡ Login → StandsAt users t.user (start_of es t).user
+-- where the sum of a session's user stands; a running time is of no user
+pub record HasUser (es : List Entry) (users : Numbers) (t : TrackedStay) : Type 0 where
+  pub login : event_of (start_of es t) ≡ Login → StandsAt users t.user (start_of es t).user
+  pub boot : event_of (start_of es t) ≡ Boot → t.user ≡ NO_USER
 
 -- the sums of the sessions among stays that have ended, and a sum for the user of each session
 pub record HasSums (es : List Entry) (sums : EndedSums) (stays : List TrackedStay) : Type 0 where

@@ -1,6 +1,7 @@
 -- The sessions of all hosts, gone over host by host.
 use Rattle.std.specs.Prelude.{ℕ, ℤ, List, [], ◌∷◌, ◌++◌, drop, Option}
 use Rattle.std.specs.List.{flat_map}
+use Rattle.tally_records.specs.declared.choice.LoginChoice.{LoginChoice}
 use Rattle.tally_sessions.specs.declared.connect.walk.Place.{Place}
 use Rattle.tally_sessions.specs.declared.entry.Entry.{Entry}
 use Rattle.tally_sessions.specs.declared.entry.Stay.{Stay}
@@ -17,6 +18,6 @@ stays_after passed (host ∷ hosts) entries until = drop passed (stays_of host e
 abbrev pub stays_ahead : Place → List Entry → Option ℤ → List Stay
 stays_ahead at entries until = stays_after at.stay (drop at.host every_host) entries until
 
--- the sessions among them
-abbrev pub sessions_ahead : Place → List Entry → Option ℤ → List Session
-sessions_ahead at entries until = sessions_among (stays_ahead at entries until)
+-- the chosen sessions among them
+abbrev pub sessions_ahead : Place → LoginChoice → List Entry → Option ℤ → List Session
+sessions_ahead at choice entries until = sessions_among choice (stays_ahead at entries until)

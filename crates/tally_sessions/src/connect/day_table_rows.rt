@@ -4,8 +4,8 @@ ghost use Rattle.std.specs.Cmp.Lexicographic.{slice_cmp};
 ghost use Rattle.std.specs.List.Sorted.{IsStrictlySortedBy};
 ghost use Rattle.std.specs.Ordering.{nat_cmp};
 ghost use Rattle.tally_sessions.specs.Days as days;
+ghost use Rattle.tally_sessions.specs.Rows.{day_user_times};
 ghost use Rattle.tally_sessions.specs.declared.sums.Session.{Session as Counted};
-ghost use Rattle.tally_sessions.specs.inside.Changes.{session_rows};
 ghost use Rattle.tally_sessions.specs.inside.Tables.{HasSeconds};
 
 use crate::connect::day_table::day_at;
@@ -25,7 +25,7 @@ pub(crate) fn rows_of_cells(
     requires some { 0 < length users.now }
     requires ascending { IsStrictlySortedBy (slice_cmp nat_cmp) users.now }
     requires few { length cells.now ≤ 2 ^ 17 * length users.now }
-    ensures rows { IfOk result (λ rows. (clock : ℤ → ℤ) (sessions : List Counted) → HasSeconds clock first users.now cells.now sessions → rows.items ≡ session_rows clock sessions) }
+    ensures rows { IfOk result (λ rows. (clock : ℤ → ℤ) (sessions : List Counted) → HasSeconds clock first users.now cells.now sessions → rows.items ≡ day_user_times clock sessions) }
     ensures days { IfOk result (λ rows. (clock : ℤ → ℤ) (sessions : List Counted) → HasSeconds clock first users.now cells.now sessions → All (λ row. days.IsDay row.day) rows.items) }
 {
     let mut rows = Vec::new(alloc);

@@ -6,6 +6,7 @@ ghost use Rattle.std.specs.Ordering.{nat_cmp};
 ghost use Rattle.tally_sessions.specs.Days as days;
 ghost use Rattle.tally_sessions.specs.Lent.{entries_in};
 
+use crate::chosen::{begin_in, end_time_in};
 use crate::connect::day_table::days_between;
 use crate::connect::name_key::NameKey;
 use crate::connect::span::day_of;
@@ -15,7 +16,7 @@ use crate::track::Track;
 use crate::track::ending::{Ending, TrackedStay};
 use std::alloc::Global;
 use tally_clock::Clock;
-use tally_records::Memory;
+use tally_records::{LoginChoice, Memory, Period};
 
 /// A stay on more days than this may have a row of a clock whole, if the rows are no shorter than is usual.
 const DAYS_OF_A_LONG_STAY: usize = 14;
@@ -122,6 +123,15 @@ impl Extent {
         }
     }
 
+    /// These times within a period.
+    fn within(self, period: &Period) -> Extent {
+        Extent {
+            begin: begin_in(period, self.begin),
+            end_time: end_time_in(period, self.end_time),
+            ..self
+        }
+    }
+
     /// How many cells are worth it for these stays.
     fn most_cells(&self) -> usize
         ensures { result ≤ 2_101_248 }
@@ -192,25 +202,27 @@ impl Sessions {
         requires same { entries_in entries ≡ self.now.entries }
     {
         let track = &self.tracks[host as usize];
+        let every = LoginChoice::every();
+        let pick = track.pick(&every, false);
         let mut extent = extent;
         for i in 0..track.stays.len() {
             if let Some(ending) = short_ending(&track.stays[i]) {
                 extent = extent.with(clock, ending.begin, ending.end_time);
-            } else if let Some(session) = track.session_at(host, entries, i, until) {
-                extent = extent.with(clock, session.begin, session.end_time);
+            } else if let Some(part) = track.part_at(host, entries, i, &every, &pick, until) {
+                extent = extent.with(clock, part.begin, part.end_time);
             }
         }
         extent
     }
 
-    /// The times of all stays.
-    pub(crate) fn extent(&self, clock: &Clock, until: Option<i32>) -> Extent {
+    /// The times of all stays within the period of a choice.
+    pub(crate) fn extent(&self, clock: &Clock, choice: &LoginChoice, until: Option<i32>) -> Extent {
         let entries = self.entries();
         let mut extent = Extent::none();
         for host in 0..self.hosts {
             extent = self.with_stays(entries, host, clock, until, extent);
         }
-        extent
+        extent.within(&choice.period)
     }
 
     /// The most users that a host has.

@@ -1,14 +1,15 @@
-//! A table of the seconds of users on days, filled with those of all sessions.
+//! A table of the seconds of users on days, filled with those of the chosen sessions.
 ghost use Rattle.std.specs.Prelude.{◌≡◌, ◌≤◌, ◌<◌, ◌^◌, ℕ, All, IfOk, IfSome, IsTrue, get_or, length};
 ghost use Rattle.std.specs.Cmp.Lexicographic.{slice_cmp};
 ghost use Rattle.std.specs.List.Sorted.{IsStrictlySortedBy};
 ghost use Rattle.std.specs.Ordering.{nat_cmp};
 ghost use Rattle.tally_sessions.specs.Days as days;
 ghost use Rattle.tally_sessions.specs.Days.{local};
+ghost use Rattle.tally_sessions.specs.Rows.{day_user_times};
 ghost use Rattle.tally_sessions.specs.Sums.{sessions_of};
-ghost use Rattle.tally_sessions.specs.inside.Changes.{session_rows};
 ghost use Rattle.tally_sessions.specs.inside.Tables.{HasSeconds};
 
+use crate::chosen::has_names;
 use crate::connect::day_table::{Column, add_session, rank_by};
 use crate::connect::day_table_rows::rows_of_cells;
 use crate::connect::name_key::{KEY_MARKS, NameKey};
@@ -17,10 +18,10 @@ use crate::sessions::Sessions;
 use crate::times::DayUserTime;
 use std::alloc::Global;
 use tally_clock::Clock;
-use tally_records::Memory;
+use tally_records::{LoginChoice, Memory};
 
 impl Sessions {
-    /// Adds all sessions to the cells of a table with a user at each rank. It gives up where the table
+    /// Adds the chosen sessions to the cells of a table with a user at each rank. It gives up where the table
     /// has no cell for some second of a session.
     fn add_all(
         &self,
@@ -29,6 +30,7 @@ impl Sessions {
         first: i32,
         clock: &Clock,
         offset: i32,
+        choice: &LoginChoice,
         until: Option<i32>,
     ) -> bool
         requires offset_in { days.IsOffset offset }
@@ -36,12 +38,13 @@ impl Sessions {
         requires narrow { length users.now < 2 ^ 40 }
         requires ascending { IsStrictlySortedBy (slice_cmp nat_cmp) users.now }
         requires empty { (i : ℕ) → get_or cells.old i 0 ≡ 0 }
-        ensures { IsTrue result → HasSeconds (local clock.now offset) first users.now cells.new (sessions_of self.now.entries until) }
+        ensures { IsTrue result → HasSeconds (local clock.now offset) first users.now cells.new (sessions_of choice.now self.now.entries until) }
     {
         let entries = self.entries();
+        let named = has_names(choice);
         let mut at = Place::first();
         let mut hints = [0u16; KEY_MARKS];
-        while let Some(session) = self.next_session(entries, &mut at, until) {
+        while let Some(session) = self.next_session(entries, &mut at, choice, named, until) {
             let user = NameKey::of(&session.user);
             let Some(rank) = rank_by(users, &user, &mut hints[user.mark()]) else {
                 return false;
@@ -65,13 +68,14 @@ impl Sessions {
         alloc: Global,
         clock: &Clock,
         offset: i32,
+        choice: &LoginChoice,
         until: Option<i32>,
     ) -> Result<Option<Vec<DayUserTime>>, Memory>
         requires { days.IsOffset offset }
-        ensures rows { IfOk result (λ found. IfSome found (λ rows. rows.items ≡ session_rows (local clock.now offset) (sessions_of self.now.entries until))) }
+        ensures rows { IfOk result (λ found. IfSome found (λ rows. rows.items ≡ day_user_times (local clock.now offset) (sessions_of choice.now self.now.entries until))) }
         ensures days { IfOk result (λ found. IfSome found (λ rows. All (λ row. days.IsDay row.day) rows.items)) }
     {
-        let extent = self.extent(clock, until);
+        let extent = self.extent(clock, choice, until);
         let Some(table) = extent.table_days(self.host_users()) else {
             return Ok(None);
         };
@@ -83,7 +87,16 @@ impl Sessions {
             return Ok(None);
         };
         let mut cells = vec![in alloc; 0; count]?;
-        if !self.add_all(&mut cells, &users, table.first, clock, offset, until) {
+        let all = self.add_all(
+            &mut cells,
+            &users,
+            table.first,
+            clock,
+            offset,
+            choice,
+            until,
+        );
+        if !all {
             return Ok(None);
         }
         let rows = rows_of_cells(alloc, table.first, &users, &cells)?;
@@ -96,15 +109,16 @@ impl Sessions {
         alloc: Global,
         clock: &Clock,
         offset: i32,
+        choice: &LoginChoice,
         until: Option<i32>,
     ) -> Result<Vec<DayUserTime>, Memory>
         requires { days.IsOffset offset }
-        ensures rows { IfOk result (λ rows. rows.items ≡ session_rows (local clock.now offset) (sessions_of self.now.entries until)) }
+        ensures rows { IfOk result (λ rows. rows.items ≡ day_user_times (local clock.now offset) (sessions_of choice.now self.now.entries until)) }
         ensures days { IfOk result (λ rows. All (λ row. days.IsDay row.day) rows.items) }
     {
-        match self.rows_by_table(alloc, clock, offset, until)? {
+        match self.rows_by_table(alloc, clock, offset, choice, until)? {
             Some(rows) => Ok(rows),
-            None => self.day_user_rows(alloc, clock, offset, until),
+            None => self.day_user_rows(alloc, clock, offset, choice, until),
         }
     }
 }

@@ -2,14 +2,16 @@
 ghost use Rattle.std.specs.Prelude.{◌≡◌, ◌≤◌, ◌<◌, ◌+◌, ◌-◌, ◌^◌, ℕ, ℤ, pos, neg_ℤ, ◌+ℤ◌, ◌-ℤ◌, ◌*ℤ◌, ◌≤ℤ◌, All, List, OnOk, IfOk, length, bytes_eq, unsigned_abs, if◌then◌else◌};
 ghost use Rattle.tally_clock.specs.Days.{seconds_on};
 ghost use Rattle.tally_sessions.specs.inside.Changes as user;
-ghost use Rattle.tally_sessions.specs.inside.Changes.{AreWithin, change_of_day_user, count_of, day_change, rows_ahead, session_rows, told_of};
+ghost use Rattle.tally_sessions.specs.inside.Changes.{AreWithin, change_of_day_user, count_of, day_change, rows_ahead, told_of};
 ghost use Rattle.tally_sessions.specs.inside.Counts.{size_of, stand_for};
 ghost use Rattle.tally_sessions.specs.inside.Spans.{span_change};
 ghost use Rattle.tally_sessions.specs.Days as days;
 ghost use Rattle.tally_sessions.specs.Days.{local};
+ghost use Rattle.tally_sessions.specs.Rows.{day_user_times};
 ghost use Rattle.tally_sessions.specs.Sums.{seconds_of_day_user, sessions_of};
 ghost use Rattle.tally_sessions.specs.declared.connect.keys.DayUser.{DayUser as Key};
 
+use crate::chosen::has_names;
 use crate::connect::cut::{Cut, row_span};
 use crate::connect::keys::{DayUser, RowUser, add_change};
 use crate::connect::name_key::NameKey;
@@ -21,7 +23,7 @@ use crate::times::DayUserTime;
 use std::alloc::Global;
 use std::collections::BTreeMap;
 use tally_clock::Clock;
-use tally_records::Memory;
+use tally_records::{LoginChoice, Memory};
 
 /// Adds the changes of a span's seconds from day to day, so many times, to those of a user. They are
 /// on its first two days, its last and the next.
@@ -160,24 +162,26 @@ fn add_rows(
 }
 
 impl Sessions {
-    /// The changes of the seconds of all sessions from day to day, for each user.
+    /// The changes of the seconds of the chosen sessions from day to day, for each user.
     fn user_changes(
         &self,
         alloc: Global,
         clock: &Clock,
         offset: i32,
+        choice: &LoginChoice,
         until: Option<i32>,
     ) -> Result<BTreeMap<DayUser, i64>, Memory>
         requires { days.IsOffset offset }
-        ensures few { IfOk result (λ _. length (sessions_of self.now.entries until) ≤ ENTRY_LIMIT) }
-        ensures value { IfOk result (λ changes. (k : Key) → day_change changes.entries k ≡ change_of_day_user (local clock.now offset) k (sessions_of self.now.entries until)) }
-        ensures days { IfOk result (λ _. (k : Key) → 0 < seconds_of_day_user (local clock.now offset) k.day k.user (sessions_of self.now.entries until) → days.IsDay k.day) }
+        ensures few { IfOk result (λ _. length (sessions_of choice.now self.now.entries until) ≤ ENTRY_LIMIT) }
+        ensures value { IfOk result (λ changes. (k : Key) → day_change changes.entries k ≡ change_of_day_user (local clock.now offset) k (sessions_of choice.now self.now.entries until)) }
+        ensures days { IfOk result (λ _. (k : Key) → 0 < seconds_of_day_user (local clock.now offset) k.day k.user (sessions_of choice.now self.now.entries until) → days.IsDay k.day) }
     {
         let mut changes = BTreeMap::new(alloc);
         let mut counts = BTreeMap::new(alloc);
         let entries = self.entries();
+        let named = has_names(choice);
         let mut at = Place::first();
-        while let Some(session) = self.next_session(entries, &mut at, until) {
+        while let Some(session) = self.next_session(entries, &mut at, choice, named, until) {
             add_session(&mut changes, &mut counts, clock, offset, &session)?;
         }
         add_rows(&mut changes, &mut counts, clock, offset)?;
@@ -191,13 +195,14 @@ impl Sessions {
         alloc: Global,
         clock: &Clock,
         offset: i32,
+        choice: &LoginChoice,
         until: Option<i32>,
     ) -> Result<Vec<DayUserTime>, Memory>
         requires { days.IsOffset offset }
-        ensures rows { IfOk result (λ rows. rows.items ≡ session_rows (local clock.now offset) (sessions_of self.now.entries until)) }
+        ensures rows { IfOk result (λ rows. rows.items ≡ day_user_times (local clock.now offset) (sessions_of choice.now self.now.entries until)) }
         ensures days { IfOk result (λ rows. All (λ row. days.IsDay row.day) rows.items) }
     {
-        let mut changes = self.user_changes(alloc, clock, offset, until)?;
+        let mut changes = self.user_changes(alloc, clock, offset, choice, until)?;
         let mut rows = Vec::new(alloc);
         while let Some((at, seconds)) = changes.pop_first() {
             let day = at.day;

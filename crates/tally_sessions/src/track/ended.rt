@@ -1,8 +1,10 @@
-//! The lengths of sessions that have ended, summed as they end.
-ghost use Rattle.std.specs.Prelude.{◌≡◌, ◌≤◌, ◌<◌, ◌+◌, ◌^◌, ℕ, List, Option, Some, OnOk, if◌then◌else◌, length};
+//! The lengths of sessions, summed as they end.
+ghost use Rattle.std.specs.Prelude.{◌≡◌, ◌≤◌, ◌<◌, ◌+◌, ◌^◌, ℕ, List, Option, Some, OnOk, if◌then◌else◌, length, sum_by};
 ghost use Rattle.std.specs.Cmp.Lexicographic.{slice_cmp};
+ghost use Rattle.std.specs.List.{zip};
 ghost use Rattle.std.specs.Map.{keys_of};
 ghost use Rattle.std.specs.Ordering.{nat_cmp};
+ghost use Rattle.tally_sessions.specs.inside.Chosen.{number_of};
 ghost use Rattle.tally_sessions.specs.inside.Sums.{sum_at};
 ghost use Rattle.tally_sessions.specs.inside.Numbers.{StandsAt};
 ghost use Rattle.tally_sessions.specs.inside.Track.{covers, sum_of};
@@ -89,6 +91,25 @@ impl EndedSums {
         for place in 0..self.users.len() {
             let (user, seconds) = self.users.pair_at(place);
             add_for(sums, &user, seconds)?;
+        }
+        Ok(())
+    }
+
+    /// Adds a number for each user, by its place, to another.
+    pub(crate) fn add_each(
+        &self,
+        numbers: &[u64],
+        sums: &mut BTreeMap<NameKey, u64>,
+    ) -> Result<(), Memory>
+        requires users { length numbers.now ≡ length self.now.users.entries }
+        requires room { (user : List ℕ) → sum_at (slice_cmp nat_cmp) sums.old.entries user
+            + sum_by (number_of user) (zip (keys_of self.now.users.entries) numbers.now) < 2 ^ 64 }
+        ensures { OnOk result ((user : List ℕ) → sum_at (slice_cmp nat_cmp) sums.new.entries user
+            ≡ sum_at (slice_cmp nat_cmp) sums.old.entries user + sum_by (number_of user) (zip (keys_of self.now.users.entries) numbers.now)) }
+    {
+        for place in 0..self.users.len() {
+            let (user, _) = self.users.pair_at(place);
+            add_for(sums, &user, numbers[place])?;
         }
         Ok(())
     }

@@ -42,11 +42,14 @@ pub(crate) struct TrackedStay {
     pub(crate) ended: KeptEnding,
     /// The place of the entry that started it.
     pub(crate) entry: u32,
-    /// Where the sum of a session's user stands.
+    /// Where the sum of a session's user stands; of a running time no place.
     pub(crate) user: u32,
     /// When that entry's record was written.
     pub(crate) start: i32,
 }
+
+/// The place of no user.
+pub(crate) const NO_USER: u32 = u32::MAX;
 
 /// The end of a stay at an event, where the clock moved so far between its start and this.
 fn ending_at(start: i32, moved: i64, by_time: i32, event: Event) -> Ending

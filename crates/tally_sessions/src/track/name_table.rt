@@ -1,15 +1,18 @@
 //! A table by names, which first looks where a name of the same mark was last found.
-ghost use Rattle.std.specs.Prelude.{◌≡◌, ◌≤◌, ◌<◌, ◌+◌, ◌^◌, ◌++◌, [], ◌∷◌, ℕ, List, Option, Some, None, true, IfSome, IfNone, OnOk, bytes_eq, if◌then◌else◌, length, slice_get, unwrap_or};
+ghost use Rattle.std.specs.Prelude.{◌≡◌, ◌≤◌, ◌<◌, ◌+◌, ◌^◌, ◌++◌, [], ◌∷◌, ℕ, List, Option, Some, None, true, IfSome, IfNone, OnOk, bytes_eq, if◌then◌else◌, length, nat_eq, slice_get, unwrap_or};
 ghost use Rattle.std.specs.List.{IsDistinct};
 ghost use Rattle.std.specs.Map.{keys_of, lookup};
+ghost use Rattle.tally_records.specs.Choice.{is_name};
+ghost use Rattle.tally_sessions.specs.inside.Chosen.{ArePlacesOf};
 ghost use Rattle.tally_sessions.specs.inside.Numbers.{StandsAt};
 
+use crate::track::ending::NO_USER;
 use indexmap::IndexMap;
 use std::alloc::Global;
 use std::hash::RandomState;
 use std::marker::Model;
 use std::mem;
-use tally_records::{Hints, Key, Memory, Name};
+use tally_records::{Hints, Key, Memory, NAMED_LIMIT, Name, Names};
 
 /// A number for each name, in the order in which the names came.
 #[derive(Drop)]
@@ -112,6 +115,33 @@ impl NameTable {
             return Some(hint);
         }
         self.search(name)
+    }
+
+    /// Where a name that a choice has stands; the place after all names where it stands nowhere, or where there is no name.
+    pub(crate) fn place_among(&self, wanted: &Option<Name>) -> u32
+        requires { length self.now.entries < NO_USER }
+        ensures { (place : ℕ) (user : List ℕ) → StandsAt self.now place user → place < NO_USER → nat_eq result place ≡ is_name user wanted.now }
+    {
+        let count = self.len() as u32;
+        match wanted {
+            Some(name) => match self.place_of(&Key::of(name)) {
+                Some(place) => place as u32,
+                None => count,
+            },
+            None => count,
+        }
+    }
+
+    /// Where the names that a choice has stand.
+    pub(crate) fn places_among(&self, names: &Names) -> [u32; NAMED_LIMIT]
+        requires { length self.now.entries < NO_USER }
+        ensures { ArePlacesOf self.now names.now result }
+    {
+        let mut places = [NO_USER; NAMED_LIMIT];
+        for k in 0..NAMED_LIMIT {
+            places[k] = self.place_among(&names[k]);
+        }
+        places
     }
 
     /// The number of a name.

@@ -1,21 +1,43 @@
 //! What the track of a host answers.
-ghost use Rattle.std.specs.Prelude.{◌≡◌, ◌≤◌, ◌<◌, ◌+◌, ◌*◌, ◌^◌, [], ◌∷◌, All, IfNone, IfSome, IfOk, length, reverse, slice_index_or, take, unwrap_or, vec_len};
+ghost use Rattle.std.specs.Prelude.{◌≡◌, ◌≤◌, ◌<◌, ◌+◌, ◌*◌, ◌^◌, ◌++◌, [], ◌∷◌, All, IfOk, OnOk, filter, if◌then◌else◌, length, reverse, slice_index_or, take, unwrap_or, vec_len};
+ghost use Rattle.tally_sessions.specs.Choice.{is_shown};
 ghost use Rattle.tally_sessions.specs.Hosts.{of_host};
 ghost use Rattle.tally_sessions.specs.Lent.{entries_in};
-ghost use Rattle.tally_sessions.specs.Sums.{sessions_among};
 ghost use Rattle.tally_sessions.specs.inside.Totals.{seconds_of};
 ghost use Rattle.tally_sessions.specs.Totals.{stays_of};
 ghost use Rattle.tally_sessions.specs.inside.Track as spec;
 
+use crate::chosen::is_shown;
 use crate::entries::Entries;
 use crate::entry::Stay;
 use crate::sessions::ENTRY_LIMIT;
-use crate::sums::Session;
 use crate::track::Track;
 use crate::track::ending::{Ending, TrackedStay, still};
-use crate::track::rules::{is_boot, is_counted, is_login};
-use std::alloc::Global;
-use tally_records::{Key, List, LoginRecord, Memory};
+use crate::track::rules::{is_boot, is_counted};
+use std::alloc::{AllocError, Global};
+use tally_records::{Key, List, LoginChoice, LoginRecord, Memory};
+
+/// For how many of so many stays room is made at first: where some may be left out, for none.
+fn room_for(choice: &LoginChoice, count: usize) -> usize
+    ensures { result ≤ count }
+{
+    if choice.is_every() { count } else { 0 }
+}
+
+/// Adds a stay at the end, where it is shown.
+fn push_shown(
+    found: &mut Vec<Stay>,
+    choice: &LoginChoice,
+    until: Option<i32>,
+    stay: Stay,
+) -> Result<(), AllocError>
+    ensures { OnOk result (found.new.items ≡ found.old.items ++ (if is_shown choice.now until stay then stay ∷ [] else [])) }
+{
+    if is_shown(choice, until, &stay) {
+        found.push(stay)?;
+    }
+    Ok(())
+}
 
 impl Track {
     /// Up to when pending stays are counted: a moment, or else the time of the last record.
@@ -26,7 +48,7 @@ impl Track {
     }
 
     /// The end of a stay as it stands at a time.
-    fn ending(&self, entries: Entries<'_>, stay: &TrackedStay, time: i32) -> Ending
+    pub(crate) fn ending(&self, entries: Entries<'_>, stay: &TrackedStay, time: i32) -> Ending
         requires placed { stay.now.entry < length (entries_in entries) }
         requires before { spec.IsWithin ENTRY_LIMIT stay.now.clock_at }
         requires now { spec.IsWithin ENTRY_LIMIT self.now.clock }
@@ -95,26 +117,28 @@ impl Track {
         found.length = u64::from(ending.length());
     }
 
-    /// The stays of the host, that of the latest record first, and no more than the limit.
+    /// The chosen stays of the host, that of the latest record first, and no more than the limit.
     pub(crate) fn latest(
         &self,
         alloc: Global,
         host: u32,
         entries: Entries<'_>,
         limit: usize,
+        choice: &LoginChoice,
         until: Option<i32>,
     ) -> Result<List<Stay>, Memory>
         requires few { length (entries_in entries) ≤ ENTRY_LIMIT }
         requires track { spec.IsTrack host (entries_in entries) (length (entries_in entries)) self.now }
-        ensures value { IfOk result (λ found. found ≡ take limit (reverse (stays_of host (entries_in entries.entry) until))) }
+        ensures value { IfOk result (λ found. found ≡ take limit (reverse (filter (is_shown choice.now until) (stays_of host (entries_in entries.entry) until)))) }
         ensures lengths { IfOk result (All (λ s. s.length < 2 ^ 32)) }
     {
         let time = self.time_now(until);
         let mut i = self.stays.len();
-        let mut found = Vec::with_capacity(alloc, limit.min(i))?;
+        let mut found = Vec::with_capacity(alloc, room_for(choice, limit.min(i)))?;
         while i > 0 && found.len() < limit {
             i -= 1;
-            found.push(self.stay(host, entries, i, time))?;
+            let stay = self.stay(host, entries, i, time);
+            push_shown(&mut found, choice, until, stay)?;
         }
         List::from_vec(alloc, found)
     }
@@ -154,33 +178,6 @@ impl Track {
     {
         let time = self.time_now(until);
         self.put_stay(host, entries, self.stays.len() - place - 1, time, found);
-    }
-
-    /// The session that the stay at a place is, unless it is a boot's.
-    pub(crate) fn session_at(
-        &self,
-        host: u32,
-        entries: Entries<'_>,
-        i: usize,
-        until: Option<i32>,
-    ) -> Option<Session>
-        requires i_in { i < vec_len self.now.stays }
-        requires few { length (entries_in entries) ≤ ENTRY_LIMIT }
-        requires track { spec.IsTrack host (entries_in entries) (length (entries_in entries)) self.now }
-        ensures session { IfSome result (λ s. sessions_among (spec.stay_now host (entries_in entries.entry) self.now.clock (unwrap_or until self.now.last) (spec.stay_at self.now.stays.items i) ∷ []) ≡ s ∷ []) }
-        ensures none { IfNone result (sessions_among (spec.stay_now host (entries_in entries.entry) self.now.clock (unwrap_or until self.now.last) (spec.stay_at self.now.stays.items i) ∷ []) ≡ []) }
-    {
-        let stay = &self.stays[i];
-        let ending = self.ending(entries, stay, self.time_now(until));
-        let record = entries.record(stay.entry as usize);
-        if !is_login(record.event()) {
-            return None;
-        }
-        Some(Session {
-            user: record.user(),
-            begin: ending.begin,
-            end_time: ending.end_time,
-        })
     }
 
     /// The place of the stay that a line leads to, by the line's place.

@@ -19,8 +19,8 @@ held_day d is = let low = is.low in let high = is.high in omega (arith, ints)
 
 pub loop-session-init : goal.loop-session-init
 loop-session-init c =
-    let all = sessions_of c.args.self.now.entries c.args.until in
-    subst (λ ss. HasSecondsBut (local c.args.clock.now (held c.args.offset)) (held c.args.first) c.args.users.now c.args.cells.now all ss) (sym (c.first-at.ensures c.args.self.now.entries c.args.until))
+    let all = sessions_of c.args.choice.now c.args.self.now.entries c.args.until in
+    subst (λ ss. HasSecondsBut (local c.args.clock.now (held c.args.offset)) (held c.args.first) c.args.users.now c.args.cells.now all ss) (sym (c.first-at.ensures c.args.choice.now c.args.self.now.entries c.args.until))
     (seconds_start (local c.args.clock.now (held c.args.offset)) (held c.args.first) c.args.users.now c.args.cells.now all c.requires.empty)
 
 pub add_session-requires-clause-few : goal.add_session-requires-clause-few
@@ -28,10 +28,10 @@ add_session-requires-clause-few c place =
     let users = c.args.users.now in
     let rank = c.in-Some-rank_by.rank in
     let first = held c.args.first in
-    let all = sessions_of c.args.self.now.entries c.args.until in
+    let all = sessions_of c.args.choice.now c.args.self.now.entries c.args.until in
     let clock = local c.args.clock.now (held c.args.offset) in
     let near = near_local c.args.clock.now (held c.args.offset) (subst IsOffset (sym (to_z-of_z w32 c.args.offset c.ranges.offset)) c.requires.offset_in) in
-    let few = few_sessions c.args.until c.entries-entries.ensures.value c.entries-entries.ensures.few in
+    let few = few_sessions c.args.choice.now c.args.until c.entries-entries.ensures.value c.entries-entries.ensures.few in
     cell-le clock first users c.loop-session.cells all _ place rank c.loop-session.invariant (slice_get_within users rank _ c.in-Some-rank_by.ensures)
     (seconds_of_day_user-le clock (key_at first users place rank) all near few)
 
@@ -40,7 +40,7 @@ loop-session-preserved c =
     let users = c.args.users.now in
     let rank = c.in-Some-rank_by.rank in
     let first = held c.args.first in
-    let all = sessions_of c.args.self.now.entries c.args.until in
+    let all = sessions_of c.args.choice.now c.args.self.now.entries c.args.until in
     let clock = local c.args.clock.now (held c.args.offset) in
     let cells = c.loop-session.cells in
     let s = c.in-Some.session in
@@ -54,7 +54,7 @@ loop-session-preserved c =
 
 pub returns : goal.returns
 returns c done =
-    let all = sessions_of c.args.self.now.entries c.args.until in
+    let all = sessions_of c.args.choice.now c.args.self.now.entries c.args.until in
     let users = c.args.users.now in
     let cells = c.loop-session.cells in
     let end = subst (λ ss. HasSecondsBut (local c.args.clock.now (held c.args.offset)) (held c.args.first) users cells all ss) c.in_default.ensures.end c.loop-session.invariant in

@@ -13,8 +13,8 @@ returns-clause-value c =
     let es : List Entry = c.args.self.now.entries in
     let offset = to_z-of_z w32 c.args.offset (search rules) in
     IfOk-weaker c.from_vec.result _ _ (λ rows is. is ∙ c.in_ok-day_rows.ensures.rows
-    ∙ day_rows_are (local c.args.clock.now c.args.offset) es c.args.until c.in_ok-sums.sums.entries c.in_ok-day_rows.ensures.ordered
-    (λ day. c.in_ok-sums.ensures.value day ∙ ap (λ (z : ℤ). seconds_of_day (local c.args.clock.now z) day (sessions_of es c.args.until)) offset)) c.from_vec.ensures
+    ∙ day_rows_are (local c.args.clock.now c.args.offset) (sessions_of c.args.choice.now es c.args.until) c.in_ok-sums.sums.entries c.in_ok-day_rows.ensures.ordered
+    (λ day. c.in_ok-sums.ensures.value day ∙ ap (λ (z : ℤ). seconds_of_day (local c.args.clock.now z) day (sessions_of c.args.choice.now es c.args.until)) offset)) c.from_vec.ensures
 
 pub returns-clause-days : goal.returns-clause-days
 returns-clause-days c =

@@ -6,7 +6,7 @@ use Rattle.tally_sessions.proofs.connect.DayTable.{HasAllBut}
 use Rattle.tally_sessions.proofs.sessions.Sessions.day_changes.Given as goal
 
 abbrev pub invariant-loop-session : goal.invariant-loop-session
-invariant-loop-session l = HasAllBut (local l.clock l.offset) l.clock.rows (sessions_of l.self.entries l.until) (sessions_ahead l.at l.self.entries l.until) l.table.items l.counts.items
+invariant-loop-session l = HasAllBut (local l.clock l.offset) l.clock.rows (sessions_of l.choice l.self.entries l.until) (sessions_ahead l.at l.choice l.self.entries l.until) l.table.items l.counts.items
 
 abbrev pub decreases-loop-session : goal.decreases-loop-session
-decreases-loop-session l = length (sessions_ahead l.at l.self.entries l.until)
+decreases-loop-session l = length (sessions_ahead l.at l.choice l.self.entries l.until)

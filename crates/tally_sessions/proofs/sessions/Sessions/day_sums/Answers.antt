@@ -60,7 +60,7 @@ amount_is z n is = ap unsigned_abs is
 
 pub loop-place-init : goal.loop-place-init
 loop-place-init c =
-    let ss = sessions_of c.args.self.now.entries c.args.until in
+    let ss = sessions_of c.args.choice.now c.args.self.now.entries c.args.until in
     let clock = local c.args.clock.now (held c.args.offset) in
     let days : (d : ℤ) → 0 < seconds_of_day clock d ss → IsDay d = c.in_ok-table.ensures.days in record {
       seconds = ap pos (sym (none_earlier clock (day_at 0 -ℤ pos 1) ss days (omega (arith, ints))));
@@ -70,7 +70,7 @@ loop-place-init c =
 
 pub overflow_add-seconds : goal.overflow_add-seconds
 overflow_add-seconds c =
-    let ss = sessions_of c.args.self.now.entries c.args.until in
+    let ss = sessions_of c.args.choice.now c.args.self.now.entries c.args.until in
     let clock = local c.args.clock.now (held c.args.offset) in
     let place = c.loop-place.place in
     let within : place < 49717 = omega (arith, c.loop-place-test.true, c.deref-change-items.ensures.len, c.in_ok-table.ensures.all_days) in
@@ -78,7 +78,7 @@ overflow_add-seconds c =
 
 pub add-requires : goal.add-requires
 add-requires c =
-    let ss = sessions_of c.args.self.now.entries c.args.until in
+    let ss = sessions_of c.args.choice.now c.args.self.now.entries c.args.until in
     let clock = local c.args.clock.now (held c.args.offset) in
     let place = c.loop-place.place in
     let within : place < 49717 = omega (arith, c.loop-place-test.true, c.deref-change-items.ensures.len, c.in_ok-table.ensures.all_days) in
@@ -91,7 +91,7 @@ add-requires c =
 
 pub loop-place-preserved : goal.loop-place-preserved
 loop-place-preserved c =
-    let ss = sessions_of c.args.self.now.entries c.args.until in
+    let ss = sessions_of c.args.choice.now c.args.self.now.entries c.args.until in
     let clock = local c.args.clock.now (held c.args.offset) in
     let place = c.loop-place.place in
     let within : place < 49717 = omega (arith, c.loop-place-test.true, c.deref-change-items.ensures.len, c.in_ok-table.ensures.all_days) in
@@ -116,7 +116,7 @@ loop-place-preserved c =
 
 pub returns-clause-value : goal.returns-clause-value
 returns-clause-value c day =
-    let ss = sessions_of c.args.self.now.entries c.args.until in
+    let ss = sessions_of c.args.choice.now c.args.self.now.entries c.args.until in
     let clock = local c.args.clock.now (held c.args.offset) in
     let place = c.loop-place.place in
     let offset_is : held c.args.offset ≡ c.args.offset = to_z-of_z w32 c.args.offset (search rules) in
@@ -129,6 +129,6 @@ returns-clause-value c day =
 
 pub returns-clause-days : goal.returns-clause-days
 returns-clause-days c day lt =
-    let ss = sessions_of c.args.self.now.entries c.args.until in
+    let ss = sessions_of c.args.choice.now c.args.self.now.entries c.args.until in
     let offset_is : held c.args.offset ≡ c.args.offset = to_z-of_z w32 c.args.offset (search rules) in
     c.in_ok-table.ensures.days day (subst (λ n. 0 < n) (returns-clause-value c day ∙ ap (λ (z : ℤ). seconds_of_day (local c.args.clock.now z) day ss) (sym offset_is)) lt)

@@ -9,6 +9,6 @@ use Rattle.tally_sessions.proofs.sessions.Sessions.day_sums.Given as goal
 
 abbrev pub invariant-loop-place : goal.invariant-loop-place
 invariant-loop-place l = record {
-  seconds : l.seconds ≡ pos (seconds_of_day (local l.clock l.offset) (day_at l.place -ℤ pos 1) (sessions_of l.self.entries l.fn.until));
-  walked : IsWalked ◌+◌ (λ (d : ℤ). seconds_of_day (local l.clock l.offset) d (sessions_of l.self.entries l.fn.until)) (λ (d : ℤ). 0) (sum_at int_cmp l.sums.entries) (day_at l.place);
+  seconds : l.seconds ≡ pos (seconds_of_day (local l.clock l.offset) (day_at l.place -ℤ pos 1) (sessions_of l.choice l.self.entries l.fn.until));
+  walked : IsWalked ◌+◌ (λ (d : ℤ). seconds_of_day (local l.clock l.offset) d (sessions_of l.choice l.self.entries l.fn.until)) (λ (d : ℤ). 0) (sum_at int_cmp l.sums.entries) (day_at l.place);
 }

@@ -4,7 +4,8 @@ use Rattle.std.specs.Prelude.{int_lt, unsigned_abs}
 use Rattle.tally_sessions.specs.declared.connect.keys.DayUser.{DayUser}
 use Rattle.tally_sessions.specs.declared.sums.Session.{Session}
 use Rattle.tally_sessions.specs.declared.times.DayUserTime.{DayUserTime}
-use Rattle.tally_sessions.specs.inside.Changes.{day_change, days_from, session_rows}
+use Rattle.tally_sessions.specs.inside.Changes.{day_change, days_from}
+use Rattle.tally_sessions.specs.Rows.{day_user_times}
 use Rattle.tally_sessions.specs.Days.{IsDay, IsOffset, local}
 use Rattle.tally_sessions.specs.Sums.{seconds_of_day_user, sessions_of}
 use Rattle.tally_sessions.proofs.connect.DaySpread.{spread_end}
@@ -61,7 +62,7 @@ pub overflow_add-day : goal.overflow_add-day
 overflow_add-day c =
     let clock = local c.args.clock.now (held c.args.offset) in
     let near = near_local c.args.clock.now (held c.args.offset) (subst IsOffset (sym (to_z-of_z w32 c.args.offset c.ranges.offset)) c.requires) in
-    let ss = sessions_of c.args.self.now.entries c.args.until in
+    let ss = sessions_of c.args.choice.now c.args.self.now.entries c.args.until in
     let out : IsPopped c.loop-at.changes.entries c.pop_first.new.self.entries c.in-Some.at c.in-Some.seconds = record { value = c.in-Some.ensures.value; least = c.in-Some.ensures.least; updates = c.in-Some.ensures.updates.0 } in
     let first = first_is clock ss c.loop-at.rows.items _ _ c.in-Some.at c.in-Some.seconds near c.in_ok-changes.ensures.few c.in_ok-changes.ensures.days c.loop-at.invariant out in
     day_fits c.in-Some.at.day (c.in_ok-changes.ensures.days c.in-Some.at (some_if _ (subst (λ z. int_lt (pos 0) z ≡ true) first.kept_amount c.if-seconds-gt0.true)))
@@ -69,12 +70,12 @@ overflow_add-day c =
 pub add_change-requires-clause-low : goal.add_change-requires-clause-low
 add_change-requires-clause-low c =
     let out : IsPopped c.loop-at.changes.entries c.pop_first.new.self.entries c.in-Some.at c.in-Some.seconds = record { value = c.in-Some.ensures.value; least = c.in-Some.ensures.least; updates = c.in-Some.ensures.updates.0 } in
-    popped_low (all_of (local c.args.clock.now (held c.args.offset)) (sessions_of c.args.self.now.entries c.args.until)) c.loop-at.rows.items _ _ c.in-Some.at c.in-Some.seconds c.loop-at.invariant out _ (λ j. seconds_of_day_user-le (local c.args.clock.now (held c.args.offset)) j (sessions_of c.args.self.now.entries c.args.until) (near_local c.args.clock.now (held c.args.offset) (subst IsOffset (sym (to_z-of_z w32 c.args.offset c.ranges.offset)) c.requires)) c.in_ok-changes.ensures.few)
+    popped_low (all_of (local c.args.clock.now (held c.args.offset)) (sessions_of c.args.choice.now c.args.self.now.entries c.args.until)) c.loop-at.rows.items _ _ c.in-Some.at c.in-Some.seconds c.loop-at.invariant out _ (λ j. seconds_of_day_user-le (local c.args.clock.now (held c.args.offset)) j (sessions_of c.args.choice.now c.args.self.now.entries c.args.until) (near_local c.args.clock.now (held c.args.offset) (subst IsOffset (sym (to_z-of_z w32 c.args.offset c.ranges.offset)) c.requires)) c.in_ok-changes.ensures.few)
 
 pub add_change-requires-clause-high : goal.add_change-requires-clause-high
 add_change-requires-clause-high c =
     let out : IsPopped c.loop-at.changes.entries c.pop_first.new.self.entries c.in-Some.at c.in-Some.seconds = record { value = c.in-Some.ensures.value; least = c.in-Some.ensures.least; updates = c.in-Some.ensures.updates.0 } in
-    popped_high (all_of (local c.args.clock.now (held c.args.offset)) (sessions_of c.args.self.now.entries c.args.until)) c.loop-at.rows.items _ _ c.in-Some.at c.in-Some.seconds c.loop-at.invariant out _ (λ j. seconds_of_day_user-le (local c.args.clock.now (held c.args.offset)) j (sessions_of c.args.self.now.entries c.args.until) (near_local c.args.clock.now (held c.args.offset) (subst IsOffset (sym (to_z-of_z w32 c.args.offset c.ranges.offset)) c.requires)) c.in_ok-changes.ensures.few)
+    popped_high (all_of (local c.args.clock.now (held c.args.offset)) (sessions_of c.args.choice.now c.args.self.now.entries c.args.until)) c.loop-at.rows.items _ _ c.in-Some.at c.in-Some.seconds c.loop-at.invariant out _ (λ j. seconds_of_day_user-le (local c.args.clock.now (held c.args.offset)) j (sessions_of c.args.choice.now c.args.self.now.entries c.args.until) (near_local c.args.clock.now (held c.args.offset) (subst IsOffset (sym (to_z-of_z w32 c.args.offset c.ranges.offset)) c.requires)) c.in_ok-changes.ensures.few)
 
 small : (z : ℤ) (n : ℕ) → z ≡ pos n → n ≤ 2 ^ 40 → z ≤ℤ pos (2 ^ 61)
 small z n is few = omega (arith, ints)
@@ -82,7 +83,7 @@ small z n is few = omega (arith, ints)
 pub add_change-requires-clause-more_high : goal.add_change-requires-clause-more_high
 add_change-requires-clause-more_high c =
     let out : IsPopped c.loop-at.changes.entries c.pop_first.new.self.entries c.in-Some.at c.in-Some.seconds = record { value = c.in-Some.ensures.value; least = c.in-Some.ensures.least; updates = c.in-Some.ensures.updates.0 } in
-    let first = first_is (local c.args.clock.now (held c.args.offset)) (sessions_of c.args.self.now.entries c.args.until) c.loop-at.rows.items _ _ c.in-Some.at c.in-Some.seconds (near_local c.args.clock.now (held c.args.offset) (subst IsOffset (sym (to_z-of_z w32 c.args.offset c.ranges.offset)) c.requires)) c.in_ok-changes.ensures.few c.in_ok-changes.ensures.days c.loop-at.invariant out in
+    let first = first_is (local c.args.clock.now (held c.args.offset)) (sessions_of c.args.choice.now c.args.self.now.entries c.args.until) c.loop-at.rows.items _ _ c.in-Some.at c.in-Some.seconds (near_local c.args.clock.now (held c.args.offset) (subst IsOffset (sym (to_z-of_z w32 c.args.offset c.ranges.offset)) c.requires)) c.in_ok-changes.ensures.few c.in_ok-changes.ensures.days c.loop-at.invariant out in
     small _ _ first.kept_amount first.few
 
 next_day : (d : ℤ) → IsDay d → held (held d +ℤ pos 1) ≡ d +ℤ pos 1
@@ -95,7 +96,7 @@ pub loop-at-smaller-in-Continue-branch-3 : goal.loop-at-smaller-in-Continue-bran
 loop-at-smaller-in-Continue-branch-3 c =
     let clock = local c.args.clock.now (held c.args.offset) in
     let near = near_local c.args.clock.now (held c.args.offset) (subst IsOffset (sym (to_z-of_z w32 c.args.offset c.ranges.offset)) c.requires) in
-    let ss = sessions_of c.args.self.now.entries c.args.until in
+    let ss = sessions_of c.args.choice.now c.args.self.now.entries c.args.until in
     let out : IsPopped c.loop-at.changes.entries c.pop_first.new.self.entries c.in-Some.at c.in-Some.seconds = record { value = c.in-Some.ensures.value; least = c.in-Some.ensures.least; updates = c.in-Some.ensures.updates.0 } in
     let first = first_is clock ss c.loop-at.rows.items _ _ c.in-Some.at c.in-Some.seconds near c.in_ok-changes.ensures.few c.in_ok-changes.ensures.days c.loop-at.invariant out in
     let day = c.in_ok-changes.ensures.days c.in-Some.at (some_if _ (subst (λ z. int_lt (pos 0) z ≡ true) first.kept_amount c.if-seconds-gt0.true)) in
@@ -105,7 +106,7 @@ pub loop-at-preserved-in-Continue-branch-3 : goal.loop-at-preserved-in-Continue-
 loop-at-preserved-in-Continue-branch-3 c =
     let clock = local c.args.clock.now (held c.args.offset) in
     let near = near_local c.args.clock.now (held c.args.offset) (subst IsOffset (sym (to_z-of_z w32 c.args.offset c.ranges.offset)) c.requires) in
-    let ss = sessions_of c.args.self.now.entries c.args.until in
+    let ss = sessions_of c.args.choice.now c.args.self.now.entries c.args.until in
     let at = c.in-Some.at in
     let out : IsPopped c.loop-at.changes.entries c.pop_first.new.self.entries c.in-Some.at c.in-Some.seconds = record { value = c.in-Some.ensures.value; least = c.in-Some.ensures.least; updates = c.in-Some.ensures.updates.0 } in
     let first = first_is clock ss c.loop-at.rows.items _ _ at c.in-Some.seconds near c.in_ok-changes.ensures.few c.in_ok-changes.ensures.days c.loop-at.invariant out in
@@ -123,7 +124,7 @@ pub loop-at-preserved : goal.loop-at-preserved
 loop-at-preserved c =
     let clock = local c.args.clock.now (held c.args.offset) in
     let near = near_local c.args.clock.now (held c.args.offset) (subst IsOffset (sym (to_z-of_z w32 c.args.offset c.ranges.offset)) c.requires) in
-    let ss = sessions_of c.args.self.now.entries c.args.until in
+    let ss = sessions_of c.args.choice.now c.args.self.now.entries c.args.until in
     let out : IsPopped c.loop-at.changes.entries c.pop_first.new.self.entries c.in-Some.at c.in-Some.seconds = record { value = c.in-Some.ensures.value; least = c.in-Some.ensures.least; updates = c.in-Some.ensures.updates.0 } in
     let first = first_is clock ss c.loop-at.rows.items _ _ c.in-Some.at c.in-Some.seconds near c.in_ok-changes.ensures.few c.in_ok-changes.ensures.days c.loop-at.invariant out in
     walk_past (all_of clock ss) c.loop-at.rows.items _ _ c.in-Some.at c.in-Some.seconds c.loop-at.invariant out
@@ -135,7 +136,7 @@ no_entries (e ∷ es) none k = absurd (let no = none (omega arith) in cc)
 
 pub returns-clause-rows : goal.returns-clause-rows
 returns-clause-rows c =
-    let ss = sessions_of c.args.self.now.entries c.args.until in
+    let ss = sessions_of c.args.choice.now c.args.self.now.entries c.args.until in
     let clock = local c.args.clock.now (held c.args.offset) in
     let near = near_local c.args.clock.now (held c.args.offset) (subst IsOffset (sym (to_z-of_z w32 c.args.offset c.ranges.offset)) c.requires) in
     let offset_is : held c.args.offset ≡ c.args.offset = to_z-of_z w32 c.args.offset c.ranges.offset in
@@ -143,13 +144,13 @@ returns-clause-rows c =
     sym (rows_of_sums c.loop-at.rows.items h.ordered.timed)
     ∙ day_user_rows_are clock ss (sums_of c.loop-at.rows.items) h.ordered.up
     (λ k. spread_end (all_of clock ss) (given_by c.loop-at.rows.items) (day_change c.loop-at.changes.entries) c.in_ok-changes.ensures.days h.spread (no_entries c.loop-at.changes.entries c.in_default.ensures.variant.1) k)
-    ∙ ap (λ (z : ℤ). session_rows (local c.args.clock.now z) ss) offset_is
+    ∙ ap (λ (z : ℤ). day_user_times (local c.args.clock.now z) ss) offset_is
 
 pub returns-clause-days : goal.returns-clause-days
 returns-clause-days c =
     let clock = local c.args.clock.now (held c.args.offset) in
     let near = near_local c.args.clock.now (held c.args.offset) (subst IsOffset (sym (to_z-of_z w32 c.args.offset c.ranges.offset)) c.requires) in
-    let ss = sessions_of c.args.self.now.entries c.args.until in
+    let ss = sessions_of c.args.choice.now c.args.self.now.entries c.args.until in
     let h = c.loop-at.invariant in
     subst (All (λ (r : DayUserTime). IsDay r.day)) (rows_of_sums c.loop-at.rows.items h.ordered.timed)
     (day_user_rows_days (sums_of c.loop-at.rows.items) h.ordered.up (λ k lt. c.in_ok-changes.ensures.days k

@@ -9,4 +9,4 @@ abbrev pub decreases-loop-at : goal.decreases-loop-at
 decreases-loop-at l = days_ahead l.changes.entries
 
 abbrev pub invariant-loop-at : goal.invariant-loop-at
-invariant-loop-at l = IsWalk (λ (k : DayUser). seconds_of_day_user (local l.clock l.offset) k.day k.user (sessions_of l.self.entries l.fn.until)) l.rows.items l.changes.entries
+invariant-loop-at l = IsWalk (λ (k : DayUser). seconds_of_day_user (local l.clock l.offset) k.day k.user (sessions_of l.choice l.self.entries l.fn.until)) l.rows.items l.changes.entries

@@ -1,5 +1,4 @@
 use Rattle.std.proofs.Common.{◌∙◌, ap, arith, length, sym}
-use Rattle.std.proofs.lemmas.List.{length-reverse}
 use Rattle.tally_sessions.specs.Lent.{entries_in}
 use Rattle.tally_sessions.specs.State.{State}
 use Rattle.tally_sessions.specs.Totals.{stays_of}
@@ -13,8 +12,7 @@ latest_at-requires-clause-place c =
     let es = entries_in c.entries.result in
     let track = track_of c.self.inside c.args.self.now es c.args.host c.index.result.now c.self.invariant c.self.view_is c.entries.ensures.value
     (omega (arith, hosts, c.requires.host, c.self.invariant.few_hosts)) c.index.ensures in
-    let count = length-reverse (stays_of c.args.host c.args.self.now.entries c.args.until)
-    ∙ ap (λ xs. length (stays_of c.args.host xs c.args.until)) (sym c.entries.ensures.value)
+    let count = ap (λ xs. length (stays_of c.args.host xs c.args.until)) (sym c.entries.ensures.value)
     ∙ same_count c.args.host es c.index.result.now c.args.until track in
     omega (arith, count, c.requires.place, c.index.result.now.stays.ok.0)
 

@@ -1,7 +1,5 @@
-use Rattle.std.proofs.Common.{◌∙◌, ap, arith, refl}
-use Rattle.std.proofs.lemmas.List.{length-reverse}
+use Rattle.std.proofs.Common.{ap, arith, refl}
 use Rattle.tally_sessions.specs.State.{State}
-use Rattle.tally_sessions.specs.Totals.{stays_of}
 use Rattle.tally_sessions.proofs.sessions.Staging.{track_of}
 use Rattle.tally_sessions.proofs.track.StaysNow.{same_count}
 use Rattle.tally_sessions.proofs.sessions.Sessions.stay_count.Goals as goal
@@ -12,5 +10,5 @@ returns c until =
     let es = c.args.self.now.entries in
     let track = track_of c.self.inside c.args.self.now es c.args.host c.index.result.now c.self.invariant c.self.view_is refl
     (omega (arith, hosts, c.requires, c.self.invariant.few_hosts)) c.index.ensures in
-    let count = length-reverse (stays_of c.args.host es until) ∙ same_count c.args.host es c.index.result.now until track in
+    let count = same_count c.args.host es c.index.result.now until track in
     omega (arith, count, c.len.ensures, c.index.result.now.stays.ok.0)

@@ -1,6 +1,7 @@
-use Rattle.std.proofs.Common.{◌≡◌, ℕ, sym, ap, ◌∙◌, subst, List, take, reverse, IfOk, arith}
+use Rattle.std.proofs.Common.{◌≡◌, ℕ, sym, ap, ◌∙◌, subst, List, filter, take, reverse, IfOk, arith}
 use Rattle.tally_sessions.specs.declared.entry.Entry.{Entry}
 use Rattle.tally_sessions.specs.declared.entry.Stay.{Stay}
+use Rattle.tally_sessions.specs.Choice.{is_shown}
 use Rattle.tally_sessions.specs.Lent.{entries_in}
 use Rattle.tally_sessions.specs.State.{State}
 use Rattle.tally_sessions.specs.Totals.{latest_stays, limited, stays_of}
@@ -23,9 +24,10 @@ latest-requires-in-None-clause-track c =
 pub returns-in-None-clause-value : goal.returns-in-None-clause-value
 returns-in-None-clause-value c =
     let es : List Entry = (entries_in c.entries-entries.result) in
-    let all : take c.len.result (reverse (stays_of c.args.host es c.args.until)) ≡ latest_stays c.args.host c.args.limit c.args.self.now.entries c.args.until =
-    ap (λ (n : ℕ). take n (reverse (stays_of c.args.host es c.args.until))) c.len.ensures
-    ∙ stays_of-all c.args.host es c.args.until
-    ∙ ap (λ (xs : List Entry). reverse (stays_of c.args.host xs c.args.until)) c.entries-entries.ensures.value
-    ∙ sym (ap (λ o. limited o (reverse (stays_of c.args.host c.args.self.now.entries c.args.until))) c.in-None.is) in
+    let p = is_shown c.args.choice.now c.args.until in
+    let all : take c.len.result (reverse (filter p (stays_of c.args.host es c.args.until))) ≡ latest_stays c.args.host c.args.limit c.args.choice.now c.args.self.now.entries c.args.until =
+    ap (λ (n : ℕ). take n (reverse (filter p (stays_of c.args.host es c.args.until)))) c.len.ensures
+    ∙ stays_of-all p c.args.host es c.args.until
+    ∙ ap (λ (xs : List Entry). reverse (filter p (stays_of c.args.host xs c.args.until))) c.entries-entries.ensures.value
+    ∙ sym (ap (λ o. limited o (reverse (filter p (stays_of c.args.host c.args.self.now.entries c.args.until)))) c.in-None.is) in
     subst (λ (xs : List Stay). IfOk c.latest-in-None.result (λ found. found ≡ xs)) all c.latest-in-None.ensures.value

@@ -30,25 +30,25 @@ none_counted es none name row = ap (λ xs. count_of xs name row) none
 pub loop-session-init : goal.loop-session-init
 loop-session-init c =
     let es = c.args.self.now.entries in
-    let all = sessions_of es c.args.until in
+    let all = sessions_of c.args.choice.now es c.args.until in
     let clock = local c.args.clock.now (held c.args.offset) in
     let rows = c.args.clock.now.rows in
     let changes = c.new-changes.result.entries in
     let counts = c.new-counts.result.entries in
-    let few = few_sessions c.args.until c.entries-entries.ensures.value c.entries-entries.ensures.few in
-    subst (λ ss. HasUsersBut clock rows all ss changes counts) (sym (c.first-at.ensures es c.args.until))
+    let few = few_sessions c.args.choice.now c.args.until c.entries-entries.ensures.value c.entries-entries.ensures.few in
+    subst (λ ss. HasUsersBut clock rows all ss changes counts) (sym (c.first-at.ensures c.args.choice.now es c.args.until))
     (user_table-start clock rows all changes counts few (none_within counts (length rows) c.new-counts.ensures.empty) (none_changed changes c.new-changes.ensures.empty) (none_counted counts c.new-counts.ensures.empty))
 
 pub add_session-requires-clause-low : goal.add_session-requires-clause-low
 add_session-requires-clause-low c k =
     let near = near_local c.args.clock.now (held c.args.offset) (subst IsOffset (sym (to_z-of_z w32 c.args.offset c.ranges.offset)) c.requires) in
-    let few = few_sessions c.args.until c.entries-entries.ensures.value c.entries-entries.ensures.few in
+    let few = few_sessions c.args.choice.now c.args.until c.entries-entries.ensures.value c.entries-entries.ensures.few in
     (user_table-within _ _ _ _ c.loop-session.changes.entries c.loop-session.counts.entries near few c.loop-session.invariant k).0
 
 pub add_session-requires-clause-high : goal.add_session-requires-clause-high
 add_session-requires-clause-high c k =
     let near = near_local c.args.clock.now (held c.args.offset) (subst IsOffset (sym (to_z-of_z w32 c.args.offset c.ranges.offset)) c.requires) in
-    let few = few_sessions c.args.until c.entries-entries.ensures.value c.entries-entries.ensures.few in
+    let few = few_sessions c.args.choice.now c.args.until c.entries-entries.ensures.value c.entries-entries.ensures.few in
     (user_table-within _ _ _ _ c.loop-session.changes.entries c.loop-session.counts.entries near few c.loop-session.invariant k).1
 
 pub add_session-requires-clause-small : goal.add_session-requires-clause-small
@@ -57,7 +57,7 @@ add_session-requires-clause-small c = user_table-small _ _ _ _ c.loop-session.ch
 pub loop-session-preserved : goal.loop-session-preserved
 loop-session-preserved c =
     let es = c.args.self.now.entries in
-    let all = sessions_of es c.args.until in
+    let all = sessions_of c.args.choice.now es c.args.until in
     let clock = local c.args.clock.now (held c.args.offset) in
     let rows = c.args.clock.now.rows in
     let changes = c.loop-session.changes.entries in
@@ -69,27 +69,27 @@ loop-session-preserved c =
 pub add_rows-requires-clause-low : goal.add_rows-requires-clause-low
 add_rows-requires-clause-low c k =
     let near = near_local c.args.clock.now (held c.args.offset) (subst IsOffset (sym (to_z-of_z w32 c.args.offset c.ranges.offset)) c.requires) in
-    let few = few_sessions c.args.until c.entries-entries.ensures.value c.entries-entries.ensures.few in
+    let few = few_sessions c.args.choice.now c.args.until c.entries-entries.ensures.value c.entries-entries.ensures.few in
     (user_table-told _ _ _ _ c.loop-session.changes.entries c.loop-session.counts.entries near few c.loop-session.invariant k).0
 
 pub add_rows-requires-clause-high : goal.add_rows-requires-clause-high
 add_rows-requires-clause-high c k =
     let near = near_local c.args.clock.now (held c.args.offset) (subst IsOffset (sym (to_z-of_z w32 c.args.offset c.ranges.offset)) c.requires) in
-    let few = few_sessions c.args.until c.entries-entries.ensures.value c.entries-entries.ensures.few in
+    let few = few_sessions c.args.choice.now c.args.until c.entries-entries.ensures.value c.entries-entries.ensures.few in
     (user_table-told _ _ _ _ c.loop-session.changes.entries c.loop-session.counts.entries near few c.loop-session.invariant k).1
 
 pub add_rows-requires-clause-small : goal.add_rows-requires-clause-small
 add_rows-requires-clause-small c = user_table-small _ _ _ _ c.loop-session.changes.entries c.loop-session.counts.entries c.loop-session.invariant
 
 pub returns-clause-few : goal.returns-clause-few
-returns-clause-few c = few_sessions c.args.until c.entries-entries.ensures.value c.entries-entries.ensures.few
+returns-clause-few c = few_sessions c.args.choice.now c.args.until c.entries-entries.ensures.value c.entries-entries.ensures.few
 
 end_value : (now told all : ℤ) → now ≡ told → told +ℤ pos 0 ≡ all → now ≡ all
 end_value now told all is whole = omega (arith, ints)
 
 pub returns-clause-value : goal.returns-clause-value
 returns-clause-value c k =
-    let all = sessions_of c.args.self.now.entries c.args.until in
+    let all = sessions_of c.args.choice.now c.args.self.now.entries c.args.until in
     let rows = c.args.clock.now.rows in
     let clock = local c.args.clock.now (held c.args.offset) in
     let changes = c.loop-session.changes.entries in
@@ -100,7 +100,7 @@ returns-clause-value c k =
 
 pub returns-clause-days : goal.returns-clause-days
 returns-clause-days c =
-    let all = sessions_of c.args.self.now.entries c.args.until in
+    let all = sessions_of c.args.choice.now c.args.self.now.entries c.args.until in
     let rows = c.args.clock.now.rows in
     let end = subst (λ ss. HasUsersBut (local c.args.clock.now (held c.args.offset)) rows all ss c.loop-session.changes.entries c.loop-session.counts.entries) c.in_default.ensures.end c.loop-session.invariant in
     let done = subst (λ z. HasUsersBut (local c.args.clock.now z) rows all [] c.loop-session.changes.entries c.loop-session.counts.entries) (to_z-of_z w32 c.args.offset c.ranges.offset) end in

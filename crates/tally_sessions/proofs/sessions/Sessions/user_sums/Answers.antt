@@ -1,45 +1,13 @@
-use Rattle.std.proofs.Common.{◌≡◌, ◌∙◌, ◌+◌, ℕ, List, Some, map, sum, sym, ap, arith}
-use Rattle.std.proofs.lemmas.List.FromFn.{sum_by-map-range_with_len_more}
-use Rattle.std.specs.Cmp.Lexicographic.{slice_cmp}
-use Rattle.std.specs.Ordering.{nat_cmp}
-use Rattle.tally_sessions.specs.declared.entry.Entry.{Entry}
-use Rattle.tally_sessions.specs.Lent.{entries_in}
-use Rattle.tally_sessions.specs.inside.Sums.{sum_at}
-use Rattle.tally_sessions.specs.Totals.{connect_of, stays_of}
-use Rattle.tally_sessions.specs.inside.Totals.{seconds_of}
-use Rattle.tally_sessions.proofs.sessions.EveryHost.{every_host_is}
-use Rattle.tally_sessions.proofs.sessions.HostCounts.{count_below-le, count_below-more}
-use Rattle.tally_sessions.proofs.sessions.Staging.{track_of}
+use Rattle.std.proofs.Common.{◌∙◌, ap, sym}
+use Rattle.std.proofs.lemmas.Result.{IfOk-weaker}
+use Rattle.tally_sessions.specs.declared.sums.Session.{Session}
+use Rattle.std.proofs.Common.{List}
+use Rattle.tally_sessions.specs.Sums.{seconds_of_user}
+use Rattle.tally_sessions.proofs.sums.EverySession.{every_chosen, every_user}
 use Rattle.tally_sessions.proofs.sessions.Sessions.user_sums.Goals as goal
 
-pub loop-host-init : goal.loop-host-init
-loop-host-init c = record {
-  told = λ user. ap (λ es. sum_at (slice_cmp nat_cmp) es user) c.new-sums.ensures.empty;
-  fits = λ user. let none : sum_at (slice_cmp nat_cmp) c.new-sums.result.entries user ≡ 0 = ap (λ es. sum_at (slice_cmp nat_cmp) es user) c.new-sums.ensures.empty in omega arith;
-}
-
-pub add_seconds-requires-clause-track : goal.add_seconds-requires-clause-track
-add_seconds-requires-clause-track c =
-    track_of c.self.inside c.args.self.now (entries_in c.entries-entries.result) c.loop-host.host c.index.result.now c.self.invariant c.self.view_is c.entries-entries.ensures.value (omega arith) c.index.ensures
-
-pub add_seconds-requires-clause-room : goal.add_seconds-requires-clause-room
-add_seconds-requires-clause-room c user =
-    omega (arith, c.loop-host.invariant.fits user, c.entries-entries.ensures.few, count_below-le c.loop-host.host (entries_in c.entries-entries.result))
-
-pub loop-host-preserved : goal.loop-host-preserved
-loop-host-preserved c =
-    let es : List Entry = entries_in c.entries-entries.result in
-    let of : List ℕ → ℕ → ℕ = λ user host. seconds_of (Some user) (stays_of host es c.args.until) in
-    let host = c.loop-host.host in record {
-      told = λ user.
-          let more = sum_by-map-range_with_len_more (λ (x : ℕ). x) (of user) 0 host host (omega arith) in
-          c.in_ok-add_seconds.ensures.value user ∙ ap (λ n. n + of user host) (c.loop-host.invariant.told user) ∙ sym more;
-      fits = λ user. omega (arith, c.in_ok-add_seconds.ensures.value user, c.in_ok-add_seconds.ensures.fits user, c.loop-host.invariant.fits user, count_below-more host es);
-    }
-
-pub returns : goal.returns
-returns c user =
-    let all = every_host_is c.loop-host.host (omega arith) in
-    c.loop-host.invariant.told user
-    ∙ ap (λ (hosts : List ℕ). sum (map (λ (host : ℕ). seconds_of (Some user) (stays_of host (entries_in c.entries-entries.result) c.args.until)) hosts)) all
-    ∙ ap (λ (es : List Entry). connect_of user es c.args.until) c.entries-entries.ensures.value
+pub returns-then-is_every : goal.returns-then-is_every
+returns-then-is_every c =
+    let es = c.args.self.now.entries in
+    let all = every_chosen c.args.choice.now es c.args.until (sym c.is_every.ensures ∙ c.if-is_every.true) in
+    IfOk-weaker c.all_user_sums.result _ _ (λ sums at user. at user ∙ every_user user es c.args.until ∙ ap (λ (ss : List Session). seconds_of_user user ss) (sym all)) c.all_user_sums.ensures

@@ -8,7 +8,7 @@ use Rattle.std.specs.Prelude.{FitsSigned}
 use Rattle.tally_sessions.proofs.track.Lengths.{held}
 use Rattle.tally_records.specs.declared.login.Event.{Event}
 use Rattle.tally_records.specs.declared.login.LoginRecord.{LoginRecord}
-use Rattle.tally_records.specs.declared.login.Event.TheVariants.{Login}
+use Rattle.tally_records.specs.declared.login.Event.TheVariants.{Boot, Login}
 use Rattle.tally_records.specs.Event.{event_of}
 use Rattle.tally_sessions.specs.Clock.{shift_at}
 use Rattle.tally_sessions.specs.inside.Tracking.{pending_at}
@@ -16,6 +16,7 @@ use Rattle.tally_sessions.specs.inside.Entries.{entry_at, record_in}
 use Rattle.tally_sessions.specs.inside.Numbers.{Numbers, StandsAt}
 use Rattle.tally_sessions.specs.inside.Track.{after, ends_every_stay, started_from, CanStart, HasSums, IsTrack, IsWithin, LeadsTo}
 use Rattle.tally_sessions.specs.declared.track.Track.{Track}
+use Rattle.tally_sessions.specs.declared.track.ending.TheConstants.{NO_USER}
 use Rattle.tally_sessions.proofs.track.TrackAdvance.{IsTrack-step, CanStart-swept}
 use Rattle.tally_sessions.proofs.track.TrackedAdvance.{IsWithin-all}
 use Rattle.tally_sessions.proofs.track.Track.advance.Goals as goal
@@ -53,15 +54,16 @@ returns-clause-after c =
     let started_is = started.1 ∙ ap (λ (r : LoginRecord). c.if-ends_every.self.stays.items ++ started_from r n c.if-ends_every.self.clock started.0) x in
     let entered : event_of (entry_at es n).item ≡ Login → StandsAt c.start.new.self.sums.users started.0 (entry_at es n).item.user =
     λ login. subst (λ (r : LoginRecord). StandsAt c.start.new.self.sums.users started.0 r.user) x (started.2 (event ∙ login)) in
+    let boot : event_of (entry_at es n).item ≡ Boot → started.0 ≡ NO_USER = λ is. started.3 (event ∙ is) in
     elim c.if-ends_every.branch [
       | then-ends_every w ↦
           IsTrack-step es n c.args.self.now.lines lined c.tick.new.self c.if-ends_every.self c.start.new.self c.end_pending.new.stays c.end_pending.new.sums _ started.0 c.requires.of.within before leads clock_is t.moved old_time_is (t.first ∙ ap (λ (z : ℤ). Some (unwrap_or lined.first z)) time) (t.last ∙ time) t.lines t.stays
           ended w.self-is (inr (w.len-self.ensures ∙ ap (λ v. v.len) t.stays ∙ lined.stays.ok.0, ap ends_every_stay (sym event) ∙ sym c.ends_every.ensures ∙ w.if-ends_every.true)) started_is c.start.ensures.rest
-          ended_sums c.start.ensures.sums c.start.ensures.kept entered c.start.ensures.few_users
+          ended_sums c.start.ensures.sums c.start.ensures.kept entered boot c.start.ensures.few_users
       | else-ends_every w ↦
           IsTrack-step es n c.args.self.now.lines lined c.tick.new.self c.if-ends_every.self c.start.new.self c.end_pending.new.stays c.end_pending.new.sums _ started.0 c.requires.of.within before leads clock_is t.moved old_time_is (t.first ∙ ap (λ (z : ℤ). Some (unwrap_or lined.first z)) time) (t.last ∙ time) t.lines t.stays
           ended w.self-is (inl t.swept) started_is c.start.ensures.rest
-          ended_sums c.start.ensures.sums c.start.ensures.kept entered c.start.ensures.few_users
+          ended_sums c.start.ensures.sums c.start.ensures.kept entered boot c.start.ensures.few_users
     ]
 
 pub end_pending-requires-clause-now : goal.end_pending-requires-clause-now

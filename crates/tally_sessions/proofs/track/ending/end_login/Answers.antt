@@ -20,7 +20,7 @@ use Rattle.tally_sessions.proofs.track.ending.end_login.Goals as goal
 pub add-requires-clause-entered : goal.add-requires-clause-entered
 add-requires-clause-entered c =
     let here = get_or_default c.args.stays.now c.args.i no_stay c.index-stays-i.result c.requires.i_in in
-    let there = c.requires.sums.entered c.args.i c.requires.i_in c.requires.login in
+    let there = (c.requires.sums.entered c.args.i c.requires.i_in).login c.requires.login in
     let within = slice_get_within (keys_of c.args.sums.now.users.entries) _ _ there in
     omega (arith, within, length-keys_of c.args.sums.now.users.entries, ap (λ (t : TrackedStay). t.user) here)
 
@@ -60,7 +60,7 @@ returns-clause-sums c =
     let here : t ≡ read = get_or_default stays i no_stay c.index-stays-i.result c.requires.i_in in
     let again : t ≡ get_or stays i c.index-stays-i-2.result = get_or_default stays i no_stay c.index-stays-i-2.result c.requires.i_in in
     let pending = none_from t.ended (ap (λ (u : TrackedStay). is_some u.ended) here ∙ sym c.is_some.ensures ∙ c.if-is_some.false) in
-    let there = subst (λ (u : TrackedStay). StandsAt c.args.sums.now.users u.user (start_of es t).user) here (c.requires.sums.entered i c.requires.i_in c.requires.login) in
+    let there = subst (λ (u : TrackedStay). StandsAt c.args.sums.now.users u.user (start_of es t).user) here ((c.requires.sums.entered i c.requires.i_in).login c.requires.login) in
     let more = λ (who : Option (List ℕ)). c.add.ensures.sums (start_of es t).user there who
     ∙ ap (λ n. sum_of c.args.sums.now who + cond (spec.covers who (start_of es t).user) n 0) c.length.ensures
     ∙ ap (λ b. sum_of c.args.sums.now who + cond b (length_of ending) 0) (sym (counts_alike (start_of es t) c.requires.login who)) in

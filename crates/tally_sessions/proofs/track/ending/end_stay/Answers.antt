@@ -22,7 +22,7 @@ count-requires-clause-entered c login =
     let t = stay_at c.args.stays.now c.args.i in
     let here = get_or_default c.args.stays.now c.args.i no_stay c.index-stays-i.result c.requires.i_in in
     let first : record_in c.record-start.result ≡ start_of es t = c.record-start.ensures.is ∙ ap (λ (u : TrackedStay). start_of es u) (sym here) in
-    let there = c.requires.sums.entered c.args.i c.requires.i_in (ap event_of (sym first) ∙ login) in
+    let there = (c.requires.sums.entered c.args.i c.requires.i_in).login (ap event_of (sym first) ∙ login) in
     subst (λ (r : LoginRecord). StandsAt c.args.sums.now.users (get_or c.args.stays.now c.args.i c.index-stays-i.result).user r.user) (sym first)
     (subst (λ (u : TrackedStay). StandsAt c.args.sums.now.users u.user (start_of es t).user) here there)
 
