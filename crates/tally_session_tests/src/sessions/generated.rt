@@ -7,6 +7,7 @@ use crate::sessions::{login_record, scan};
 use std::alloc::Global;
 use std::process::Abort;
 use std::random::RandomSource;
+use tally_records::EVERY_LOGIN;
 use tally_sessions::{Entry, Sessions};
 
 /// Numbers that follow no rule that a session knows.
@@ -84,7 +85,7 @@ fn agrees_at(
     requires { host < sessions.now.hosts }
 {
     let found = sessions
-        .stays(alloc, host, None, until)
+        .stays(alloc, host, None, &EVERY_LOGIN, until)
         .expect(rt, "memory");
     let wanted = scan::stays(rt, alloc, entries, host, until);
     let same = found.as_slice() == wanted.as_slice();
@@ -108,7 +109,7 @@ fn agrees(
             return false;
         }
     }
-    sessions.total(until) == scan::total(entries, until)
+    sessions.total(&EVERY_LOGIN, until) == scan::total(entries, until)
 }
 
 /// Asserts that the sessions of a list agree with the scan over their entries, up to some moments.

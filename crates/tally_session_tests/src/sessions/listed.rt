@@ -5,13 +5,15 @@ use crate::equal::expect_equal;
 use crate::sessions::scripts::{new_keys, played};
 use std::alloc::Global;
 use std::process::Abort;
+use tally_records::EVERY_LOGIN;
 use tally_sessions::{EntryList, Sessions};
 
 /// How many stays a host has.
 fn count(rt: &impl Abort, alloc: Global, sessions: &Sessions, host: u32) -> u64
     requires { host < sessions.now.hosts }
 {
-    let rows = sessions.stays(alloc, host, None, None).expect(rt, "memory");
+    let rows = sessions.stays(alloc, host, None, &EVERY_LOGIN, None);
+    let rows = rows.expect(rt, "memory");
     let count = rows.len() as u64;
     drop(rows);
     count
@@ -25,7 +27,7 @@ fn numbers(rt: &impl Abort, alloc: Global, sessions: &Sessions) -> [u64; 4]
         count(rt, alloc, sessions, 0),
         count(rt, alloc, sessions, 1),
         count(rt, alloc, sessions, 2),
-        sessions.total(None),
+        sessions.total(&EVERY_LOGIN, None),
     ]
 }
 

@@ -7,18 +7,19 @@ use crate::sessions::scripts::played;
 use crate::sessions::{login_record, name};
 use std::alloc::Global;
 use std::process::Abort;
-use tally_records::Batch;
+use tally_records::{Batch, EVERY_LOGIN};
 use tally_sessions::Sessions;
 
 /// What a refused `prepare` must leave as it is: count of entries, total, ann's time, users.
 fn answers(rt: &impl Abort, alloc: Global, sessions: &Sessions) -> [u64; 4] {
-    let rows = sessions.connect_by_user(alloc, None).expect(rt, "memory");
+    let rows = sessions.connect_by_user(alloc, &EVERY_LOGIN, None);
+    let rows = rows.expect(rt, "memory");
     let users = rows.len() as u64;
     drop(rows);
     let ann = sessions.connect(&name("ann"), None);
     [
         sessions.entries().len() as u64,
-        sessions.total(None),
+        sessions.total(&EVERY_LOGIN, None),
         ann,
         users,
     ]

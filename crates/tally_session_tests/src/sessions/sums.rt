@@ -7,6 +7,7 @@ use crate::sessions::scripts::played;
 use crate::sessions::texts::{Asked, expect};
 use std::process::Abort;
 use tally_clock::Clock;
+use tally_records::EVERY_LOGIN;
 use tally_sessions::Sessions;
 
 /// Asserts the total, ann's time and the first second of host 0.
@@ -15,7 +16,7 @@ fn expect_sums(rt: &impl Abort, sessions: &Sessions)
 {
     let ann = sessions.connect(&name("ann"), None);
     let first = sessions.first(0);
-    expect_equal(rt, &[sessions.total(None), ann], &[770, 670]);
+    expect_equal(rt, &[sessions.total(&EVERY_LOGIN, None), ann], &[770, 670]);
     expect_equal(rt, &first, &Some(1000));
 }
 

@@ -8,8 +8,8 @@ use std::fmt::Write;
 use std::process::Abort;
 use std::random::RandomSource;
 use tally_clock::Clock;
-use tally_records::Name;
-use tally_sessions::Sessions;
+use tally_records::{EVERY_LOGIN, LoginChoice, Name};
+use tally_sessions::{Sessions, Stay};
 
 /// Appends the text of a name.
 fn push_name(rt: &impl Abort, text: &mut String, name: &Name) {
@@ -20,28 +20,57 @@ fn push_name(rt: &impl Abort, text: &mut String, name: &Name) {
     }
 }
 
-/// User, end, begin, end time and length of each stay of host 0.
+/// Appends user, end, begin, end time and length of a stay.
+fn push_stay(rt: &impl Abort, text: &mut String, stay: &Stay) {
+    push_name(rt, text, &stay.user);
+    write!(
+        text,
+        " {:?} {} {} {};",
+        stay.end, stay.begin, stay.end_time, stay.length
+    )
+    .expect(rt, "memory");
+}
+
+/// User, end, begin, end time and length of each chosen stay of host 0.
 fn stays(
     rt: &impl Abort,
     alloc: Global,
     sessions: &Sessions,
     limit: Option<u32>,
+    choice: &LoginChoice,
     until: Option<i32>,
 ) -> String
     requires { 0 < sessions.now.hosts }
 {
-    let rows = sessions.stays(alloc, 0, limit, until).expect(rt, "memory");
+    let rows = sessions.stays(alloc, 0, limit, choice, until);
+    let rows = rows.expect(rt, "memory");
     let mut text = String::new(alloc);
     for stay in rows.as_slice() {
-        push_name(rt, &mut text, &stay.user);
-        write!(
-            &mut text,
-            " {:?} {} {} {};",
-            stay.end, stay.begin, stay.end_time, stay.length
-        )
-        .expect(rt, "memory");
+        push_stay(rt, &mut text, stay);
     }
     drop(rows);
+    text
+}
+
+/// The same one after another, of which no list is made.
+fn shown(
+    rt: &impl Abort,
+    alloc: Global,
+    sessions: &Sessions,
+    choice: &LoginChoice,
+    until: Option<i32>,
+) -> String
+    requires { 0 < sessions.now.hosts }
+{
+    let mut text = String::new(alloc);
+    let mut from = 0;
+    for _stay in 0..sessions.stay_count(0) {
+        let Some(place) = sessions.next_shown(0, from, choice, until) else {
+            break;
+        };
+        push_stay(rt, &mut text, &sessions.latest_stay(0, place, until));
+        from = place + 1;
+    }
     text
 }
 
@@ -53,8 +82,15 @@ fn seconds(rt: &impl Abort, alloc: Global, seconds: u64) -> String {
 }
 
 /// User and seconds of each row by user.
-fn users(rt: &impl Abort, alloc: Global, sessions: &Sessions, until: Option<i32>) -> String {
-    let rows = sessions.connect_by_user(alloc, until).expect(rt, "memory");
+fn users(
+    rt: &impl Abort,
+    alloc: Global,
+    sessions: &Sessions,
+    choice: &LoginChoice,
+    until: Option<i32>,
+) -> String {
+    let rows = sessions.connect_by_user(alloc, choice, until);
+    let rows = rows.expect(rt, "memory");
     let mut text = String::new(alloc);
     for row in rows.as_slice() {
         push_name(rt, &mut text, &row.user);
@@ -71,10 +107,11 @@ fn days(
     sessions: &Sessions,
     clock: &Clock,
     offset: u8,
+    choice: &LoginChoice,
     until: Option<i32>,
 ) -> String {
     let offset = i32::from(offset);
-    let rows = sessions.connect_by_day(alloc, clock, offset, until);
+    let rows = sessions.connect_by_day(alloc, clock, offset, choice, until);
     let rows = rows.expect(rt, "memory");
     let mut text = String::new(alloc);
     for row in rows.as_slice() {
@@ -90,9 +127,10 @@ fn day_users(
     alloc: Global,
     sessions: &Sessions,
     clock: &Clock,
+    choice: &LoginChoice,
     until: Option<i32>,
 ) -> String {
-    let rows = sessions.connect_by_day_user(alloc, clock, 0, until);
+    let rows = sessions.connect_by_day_user(alloc, clock, 0, choice, until);
     let rows = rows.expect(rt, "memory");
     let mut text = String::new(alloc);
     for row in rows.as_slice() {
@@ -109,6 +147,8 @@ fn day_users(
 pub(crate) enum Asked<'a> {
     /// User, end, begin, end time and length of so many stays of host 0, the latest first.
     Stays(Option<u32>),
+    /// The same of all, one after another.
+    Shown,
     /// Seconds of all sessions.
     Total,
     /// Seconds of a user's sessions.
@@ -121,23 +161,25 @@ pub(crate) enum Asked<'a> {
     DayUsers(&'a Clock),
 }
 
-/// What sessions answer, up to a moment.
+/// What sessions answer of a choice, up to a moment.
 fn answer(
     rt: &impl Abort,
     alloc: Global,
     sessions: &Sessions,
     asked: Asked,
+    choice: &LoginChoice,
     until: Option<i32>,
 ) -> String
     requires { sessions.now.hosts ≡ 3 }
 {
     match asked {
-        Asked::Stays(limit) => stays(rt, alloc, sessions, limit, until),
-        Asked::Total => seconds(rt, alloc, sessions.total(until)),
+        Asked::Stays(limit) => stays(rt, alloc, sessions, limit, choice, until),
+        Asked::Shown => shown(rt, alloc, sessions, choice, until),
+        Asked::Total => seconds(rt, alloc, sessions.total(choice, until)),
         Asked::User(user) => seconds(rt, alloc, sessions.connect(&name(user), until)),
-        Asked::Users => users(rt, alloc, sessions, until),
-        Asked::Days(clock, offset) => days(rt, alloc, sessions, clock, offset, until),
-        Asked::DayUsers(clock) => day_users(rt, alloc, sessions, clock, until),
+        Asked::Users => users(rt, alloc, sessions, choice, until),
+        Asked::Days(clock, offset) => days(rt, alloc, sessions, clock, offset, choice, until),
+        Asked::DayUsers(clock) => day_users(rt, alloc, sessions, clock, choice, until),
     }
 }
 
@@ -146,7 +188,24 @@ fn expect_text(rt: &impl Abort, text: &str, told: &str, script: &str, until: Opt
     assert_eq!(rt; text, told, "{script} until {until:?}");
 }
 
-/// Plays a script, and asserts what its sessions answer, up to a moment.
+/// Plays a script, and asserts what its sessions answer of a choice, up to a moment.
+pub(crate) fn expect_of<R: Abort + RandomSource>(
+    rt: &R,
+    alloc: Global,
+    script: &str,
+    asked: Asked,
+    choice: &LoginChoice,
+    until: Option<i32>,
+    told: &str,
+) {
+    let sessions = played(rt, alloc, script);
+    let text = answer(rt, alloc, &sessions, asked, choice, until);
+    drop(sessions);
+    expect_text(rt, text.as_str(), told, script, until);
+    drop(text);
+}
+
+/// The same of all sessions.
 pub(crate) fn expect_until<R: Abort + RandomSource>(
     rt: &R,
     alloc: Global,
@@ -155,11 +214,7 @@ pub(crate) fn expect_until<R: Abort + RandomSource>(
     until: Option<i32>,
     told: &str,
 ) {
-    let sessions = played(rt, alloc, script);
-    let text = answer(rt, alloc, &sessions, asked, until);
-    drop(sessions);
-    expect_text(rt, text.as_str(), told, script, until);
-    drop(text);
+    expect_of(rt, alloc, script, asked, &EVERY_LOGIN, until, told);
 }
 
 /// The same up to the last record.
