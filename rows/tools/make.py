@@ -13,6 +13,8 @@ import struct
 import sys
 
 sys.dont_write_bytecode = True
+from choice_faults import add_rows as add_choice_faults
+from choice_rows import add_rows as add_choice_rows
 from common import ROOMS, TOP
 from moment_rows import add_rows as add_moment_rows
 from moments import NO_RANGE
@@ -510,6 +512,11 @@ add_zone_rows(row, lines, session)
 
 add_moment_rows(row, lines, U, ODD_OFFSET)
 
+# --- some users, some lines, a part of time
+
+add_choice_rows(row, lines, U, session)
+add_choice_faults(row, session)
+
 # --- closed standard streams
 
 BESIDE = 'A file and standard input, with '
@@ -576,6 +583,26 @@ row('example-open-up-to-half-past-ten', 'ac,ac -p,until,moment,zone', 'bob is op
           'total                       13.00'), files={'july.1.wtmp': example('july.1.wtmp')})
 row('example-up-to-now', 'ac,until,moment', 'All sessions of the morning have ended.', ['ac', '--until', 'now', 'morning.wtmp'],
     lines('total                        6.75'), files={'morning.wtmp': example('morning.wtmp')})
+row('example-who-was-on', 'last,choice', 'Who was logged in at 10:30, and the running time.', ['last', '--at', '2026-03-02 10:30', 'morning.wtmp'],
+    lines('ann      tty1                          2026-03-02 10:00:00 - down                (01:45)',
+          'bob      pts/0        192.0.2.7        2026-03-02 08:30:00 - down                (03:15)',
+          'reboot   system boot  6.1.0-18-amd64   2026-03-02 07:55:00 - down                (03:50)', '',
+          'wtmp begins 2026-03-02 07:55:00'), files={'morning.wtmp': example('morning.wtmp')})
+row('example-latest-stay-of-a-user', 'last,last -n,choice', 'The latest session of ann.', ['last', '-n', '1', '--user', 'ann', 'morning.wtmp'],
+    lines('ann      tty1                          2026-03-02 10:00:00 - down                (01:45)', '',
+          'wtmp begins 2026-03-02 07:55:00'), files={'morning.wtmp': example('morning.wtmp')})
+row('example-running-times-of-a-morning', 'last,choice', 'Two running times.', ['last', '--user', 'reboot', 'morning.wtmp'],
+    lines('reboot   system boot  6.1.0-18-amd64   2026-03-02 11:50:00   still running',
+          'reboot   system boot  6.1.0-18-amd64   2026-03-02 07:55:00 - down                (03:50)', '',
+          'wtmp begins 2026-03-02 07:55:00'), files={'morning.wtmp': example('morning.wtmp')})
+row('example-july-of-a-user', 'ac,choice,offset', 'July of bob an hour east of UTC, over a rotated log: half an hour of 8.50.',
+    ['ac', '--user', 'bob', '--in', '2026-07', '--east', '60', '/dev/stdin'], lines('total                        0.50'),
+    stdin=example('july.1.wtmp') + example('july.wtmp'))
+row('example-july-of-a-user-as-a-table', 'last,csv,choice,offset', 'The same 1800 seconds from a row.',
+    ['last', '--csv', '--user', 'bob', '--in', '2026-07', '--east', '60', '/dev/stdin'],
+    lines('file,user,line,remote,start,start_at,begin,end,end_time,end_at,seconds,within',
+          '1,bob,pts/0,host7.example,1785537000,2026-07-31T23:30:00+01:00,1785537000,logout,1785567600,2026-08-01T08:00:00+01:00,30600,1800'),
+    stdin=example('july.1.wtmp') + example('july.wtmp'))
 row('example-commands-of-a-server', 'sa,version3', 'Records of version 3, as the kernel writes them.', ['sa', 'server.acct'],
     lines('       9     20637.87re         0.81cp          0avio      92787k',
           '       2         0.72re         0.68cp          0avio     102491k cc1',
@@ -756,8 +783,8 @@ In a folder:
 
 Needs: `ac`, `last`, `sa`, `all` are the subcommands, with `ac -d` and the like for flags; `offset` is
 `--east` and `--west`; `clock` that clock changes move sessions; `files` several files; `feeders`, `askers`,
-`until`, `csv` and `zone` these options; `moment` that `--until` takes more than a number of seconds; `version3` acct records of
-version 3; `big` an input of 402 MB; `full-device` /dev/full.
+`until`, `csv` and `zone` these options; `moment` that `--until` takes more than a number of seconds; `choice` reports on some users,
+some lines or a period; `version3` acct records of version 3; `big` an input of 402 MB; `full-device` /dev/full.
 
 What is refused with status 2 has no fixed text where it is that of the command line parser.
 

@@ -1,91 +1,32 @@
 """What the program prints, slowly, from the definitions of docs/SPECIFICATION.md.
 
 Each rule looks at the whole list of records, as the definitions do. Nothing here is taken from the
-program's code or its output. Local time stands in clocks.py, the words of --until in moments.py.
+program's code or its output. Records stand in records.py, what a report is over in choices.py, moments and periods in moments.py,
+local time in clocks.py.
 """
 import csv
 import datetime
 import io
-import struct
 
 import moments
+from choices import cut, is_chosen, is_met, look
 from clocks import fixed, of_zone
+from records import Fault, records_of
 
-BLOCK = 1024                      # records that are read at once
-SIZES = {'w': 384, 'p': 64}
-VERSIONS = (2, 3)
 ENDS = {'Login': 'Next', 'Logout': 'Logout', 'Down': 'down', 'Boot': 'crash'}
 
 
-class Fault(Exception):
-    pass
+class Asked:
+    """What a job asks for: its clock, if it is no other, the moment up to which open stays are counted, its period, and its words."""
 
+    def __init__(self, job, clock=None):
+        look(job)
+        self.job, self.limit, self.clock = job, job.get('limit'), clock or clock_of(job)
+        self.until, self.period = moments.settled(job, self.clock)
+        self.has_within = any(name in job for name in ('from', 'to', 'in'))
 
-# Records
-
-def text_of(field):
-    return field.split(b'\0')[0]
-
-
-def comp(word):
-    return (word % 8192) * 8 ** (word // 8192)
-
-
-def elapsed(word):
-    """The ticks of a word of version 3, rounded down."""
-    sign, exponent, fraction = word >> 31, (word >> 23) % 256, word % 2 ** 23
-    if sign or exponent == 0:
-        return 0
-    if exponent > 190:
-        return 2 ** 64 - 1
-    return (2 ** 23 + fraction) * 2 ** exponent // 2 ** 150
-
-
-def login(raw, at):
-    kind, = struct.unpack_from('<h', raw)
-    if not 0 <= kind <= 9:
-        raise Fault('record %d has login type %d' % (at, kind))
-    time, = struct.unpack_from('<i', raw, 340)
-    record = dict(line=text_of(raw[8:40]), user=text_of(raw[44:76]), remote=text_of(raw[76:332]), time=time)
-    return dict(record, event=event(kind, record['line'], record['user']))
-
-
-def event(kind, line, user):
-    if kind == 7 and user and line:
-        return 'Login'
-    if kind in (7, 8) and line and (kind == 8 or not user):
-        return 'Logout'
-    if kind == 1 and user == b'shutdown' and line[:1] == b'~':
-        return 'Down'
-    return {2: 'Boot', 3: 'NewTime', 4: 'OldTime'}.get(kind, 'Nothing')
-
-
-def process(raw, at):
-    version = raw[1]
-    if version not in VERSIONS:
-        raise Fault('record %d has version %d' % (at, version))
-    if version == 2:
-        user, system, real, mem, io = map(comp, struct.unpack_from('<5H', raw, 12))
-        name, (uid,) = raw[36:53], struct.unpack_from('<I', raw, 56)
-    else:
-        (uid,), (word,) = struct.unpack_from('<I', raw, 8), struct.unpack_from('<I', raw, 28)
-        user, system, mem, io = map(comp, struct.unpack_from('<4H', raw, 32))
-        real, name = elapsed(word), raw[48:64]
-    cpu = user + system
-    return dict(name=text_of(name), forked=raw[0] % 2 == 1, uid=uid, real=real, cpu=cpu, io=io, mem_cpu=mem * cpu)
-
-
-def records_of(kind, raw):
-    """The records of a file, or the fault of its first faulty block."""
-    size, found = SIZES[kind], []
-    for start in range(0, len(raw), BLOCK * size):
-        block = raw[start:start + BLOCK * size]
-        if len(block) % size:
-            raise Fault('torn after %d records, %d bytes left' % (len(raw) // size, len(raw) % size))
-        for at in range(0, len(block), size):
-            read = login if kind == 'w' else process
-            found.append(read(block[at:at + size], (start + at) // size))
-    return found
+    def has(self, flag):
+        return self.job.get(flag, False)
 
 
 # Sessions
@@ -123,6 +64,18 @@ def stays_of(host, until):
     return [stay_of(host, at, until) for at in reversed(range(len(host))) if host[at]['event'] in ('Login', 'Boot')]
 
 
+def stays_shown(host, asked):
+    """The stays of a host that are asked for and have some part in the period, whole."""
+    chosen = [stay for stay in stays_of(host, asked.until) if is_chosen(asked.job, stay)]
+    return [stay for stay in chosen if is_met(stay, asked.period, asked.until)][:asked.limit]
+
+
+def sessions_of(hosts, asked):
+    """The sessions that are asked for, cut to the period."""
+    stays = [stay for host in hosts for stay in stays_of(host, asked.until) if not stay['is_boot']]
+    return [cut(stay, asked.period) for stay in stays if is_chosen(asked.job, stay)]
+
+
 # Text
 
 def shown(text):
@@ -150,25 +103,25 @@ def span(seconds):
     return '(%d+%s)' % (days, clock) if days else '(%s)' % clock
 
 
-def tail(stay, clock, until):
+def tail(stay, asked):
     length = span(stay['seconds'])
     if stay['end'] == 'Still':
         how = 'still running' if stay['is_boot'] else 'still logged in'
-        return '   ' + how if until is None else ' - %-19s %s' % (how, length)
+        return '   ' + how if asked.until is None else ' - %-19s %s' % (how, length)
     if stay['end'] in ('down', 'crash'):
         return ' - %-19s %s' % (stay['end'], length)
-    return ' - %s %s' % (moment(stay['end_time'], clock), length)
+    return ' - %s %s' % (moment(stay['end_time'], asked.clock), length)
 
 
-def last_text(host, limit, clock, until):
+def last_text(host, asked):
     if not host:
         return 'wtmp has no records\n'
     text = ''
-    for stay in stays_of(host, until)[:limit]:
+    for stay in stays_shown(host, asked):
         user, line = ('reboot', 'system boot') if stay['is_boot'] else (shown(stay['user']), shown(stay['line']))
-        start = moment(stay['time'], clock)
-        text += '%-8s %-12s %-16s %s%s\n' % (user, line, shown(stay['remote']), start, tail(stay, clock, until))
-    return text + '\nwtmp begins %s\n' % moment(host[0]['time'], clock)
+        start = moment(stay['time'], asked.clock)
+        text += '%-8s %-12s %-16s %s%s\n' % (user, line, shown(stay['remote']), start, tail(stay, asked))
+    return text + '\nwtmp begins %s\n' % moment(host[0]['time'], asked.clock)
 
 
 def ac_line(name, seconds, day=None):
@@ -176,16 +129,13 @@ def ac_line(name, seconds, day=None):
     return '%s%-20s %12s\n' % (date, name, hundredths((seconds + 18) // 36))
 
 
-def sessions_of(hosts, until):
-    return [stay for host in hosts for stay in stays_of(host, until) if not stay['is_boot']]
-
-
-def ac_rows(stays, by_day, by_user, clock):
+def ac_rows(stays, asked):
     """Day, user and seconds of each row; the day or the user is None where it is not asked for."""
-    names = sorted({stay['user'] for stay in stays}) if by_user else [None]
-    by_days = [(stay['user'], clock.seconds_by_day(stay['begin'], stay['end_time']) if by_day else {None: stay['seconds']}) for stay in stays]
+    by_day, names = asked.has('d'), sorted({stay['user'] for stay in stays}) if asked.has('p') else [None]
+    by_days = [(stay['user'], asked.clock.seconds_by_day(stay['begin'], stay['end_time']) if by_day else {None: stay['seconds']})
+               for stay in stays]
     rows = []
-    for day in sorted({day for _, days in by_days for day in days}) if by_day or by_user else []:
+    for day in sorted({day for _, days in by_days for day in days}) if by_day or asked.has('p') else []:
         for name in names:
             seconds = sum(days.get(day, 0) for user, days in by_days if name is None or user == name)
             if seconds:
@@ -193,10 +143,10 @@ def ac_rows(stays, by_day, by_user, clock):
     return rows
 
 
-def ac_text(hosts, by_day, by_user, clock, until):
-    stays = sessions_of(hosts, until)
+def ac_text(hosts, asked):
+    stays = sessions_of(hosts, asked)
     text = ''
-    for day, name, seconds in ac_rows(stays, by_day, by_user, clock):
+    for day, name, seconds in ac_rows(stays, asked):
         text += ac_line('total' if name is None else shown(name), seconds, day)
     return text + ac_line('total', sum(stay['seconds'] for stay in stays))
 
@@ -265,23 +215,25 @@ def iso(time, clock):
     return moment(time, clock).replace(' ', 'T') + zone
 
 
-def last_table(hosts, limit, clock, until):
+def last_table(hosts, asked):
     rows = []
     for number, host in enumerate(hosts, 1):
-        for stay in stays_of(host, until)[:limit]:
+        for stay in stays_shown(host, asked):
             who = ('reboot', '') if stay['is_boot'] else (shown(stay['user']), shown(stay['line']))
-            rows.append((number, *who, shown(stay['remote']), stay['time'], iso(stay['time'], clock), stay['begin'],
-                         stay['end'].lower(), stay['end_time'], iso(stay['end_time'], clock), stay['seconds']))
-    return table('file,user,line,remote,start,start_at,begin,end,end_time,end_at,seconds', rows)
+            within = (cut(stay, asked.period)['seconds'],) if asked.has_within else ()
+            rows.append((number, *who, shown(stay['remote']), stay['time'], iso(stay['time'], asked.clock), stay['begin'],
+                         stay['end'].lower(), stay['end_time'], iso(stay['end_time'], asked.clock), stay['seconds'], *within))
+    names = 'file,user,line,remote,start,start_at,begin,end,end_time,end_at,seconds'
+    return table(names + ',within' * asked.has_within, rows)
 
 
-def ac_table(hosts, by_day, by_user, clock, until):
-    stays = sessions_of(hosts, until)
+def ac_table(hosts, asked):
+    stays, by_day, by_user = sessions_of(hosts, asked), asked.has('d'), asked.has('p')
     if not by_day and not by_user:
         return table('seconds', [(sum(stay['seconds'] for stay in stays),)])
     names = 'day,' * by_day + 'user,' * by_user + 'seconds'
     return table(names, [([date_of(day)] if by_day else []) + ([shown(name)] if by_user else []) + [seconds]
-                         for day, name, seconds in ac_rows(stays, by_day, by_user, clock)])
+                         for day, name, seconds in ac_rows(stays, asked)])
 
 
 def sums(use):
@@ -305,11 +257,11 @@ def clock_of(job):
 
 def output(job, files):
     """Status, standard output and standard error of a job over files, each a kind, a path and bytes."""
-    clock, read = clock_of(job), []
     try:
-        until = moments.until(job['until'], clock) if 'until' in job else None
+        asked = Asked(job)
     except moments.Refused as refused:
         return 2, '', str(refused)
+    read = []
     for kind, path, raw in files:
         try:
             read.append((kind, records_of(kind, raw)))
@@ -317,20 +269,20 @@ def output(job, files):
             return 1, '', 'tally: %s: %s\n' % (path, fault)
     hosts = [records for kind, records in read if kind == 'w']
     processes = [record for kind, records in read if kind == 'p' for record in records]
-    flag = lambda name: job.get(name, False)
+    flag = asked.has
     if flag('csv'):
         return 0, {
-            'last': lambda: last_table(hosts, job.get('limit'), clock, until),
-            'ac': lambda: ac_table(hosts, flag('d'), flag('p'), clock, until),
+            'last': lambda: last_table(hosts, asked),
+            'ac': lambda: ac_table(hosts, asked),
             'sa': lambda: users_table(processes, flag('n'), flag('r')) if flag('m')
             else sa_table(processes, flag('a'), flag('n'), flag('r')),
         }[job['command']](), ''
-    lasts = [last_text(host, job.get('limit'), clock, until) for host in hosts]
+    lasts = [last_text(host, asked) for host in hosts]
     sections = {
         'last': lambda: lasts,
-        'ac': lambda: [ac_text(hosts, flag('d'), flag('p'), clock, until)],
+        'ac': lambda: [ac_text(hosts, asked)],
         'sa': lambda: [users_text(processes, flag('n'), flag('r')) if flag('m')
                        else sa_text(processes, flag('a'), flag('n'), flag('r'))],
-        'all': lambda: lasts + [ac_text(hosts, False, False, clock, until), sa_text(processes, False, False, False)],
+        'all': lambda: lasts + [ac_text(hosts, asked), sa_text(processes, False, False, False)],
     }[job['command']]()
     return 0, '\n'.join(sections), ''

@@ -1,4 +1,4 @@
-"""Random words of --until: in each form but `now`, near the changes of a clock, out of range, and none at all."""
+"""Random words of moments: in each form but `now`, near the changes of a clock, out of range, and none at all."""
 import datetime
 
 EDGES = (-2 ** 31, -1, 0, 1, 2 ** 31 - 1, 2 ** 31, 2 ** 32, 2 ** 63 - 1, 2 ** 63)
@@ -33,9 +33,9 @@ def offset(generator):
     return '%s%02d%s%02d' % (generator.choice('+-'), generator.choice((0, 1, 2, 14, 23)), generator.choice((':', '')), generator.choice((0, 30, 59)))
 
 
-def right_word(generator, clock):
-    """A word that names a second, in range or not."""
-    odd, time = generator.random(), time_near(generator, clock)
+def word_of(generator, clock, time):
+    """A word that names a second, in range or not: mostly one near another."""
+    odd = generator.random()
     if odd < 0.1:
         return generator.choice(('@%d', '%d')) % generator.choice(EDGES)
     if odd < 0.2:
@@ -54,9 +54,14 @@ def bent(generator, word):
     return word[:at] + generator.choice(('', generator.choice(SIGNS), word[at] + generator.choice(SIGNS))) + word[at + 1:]
 
 
-def until_word(generator, clock):
+def moment_word(generator, clock, time):
+    """The same, or a word that is none."""
     odd = generator.random()
     if odd < 0.05:
         return generator.choice(NO_MOMENTS)
-    word = right_word(generator, clock)
+    word = word_of(generator, clock, time)
     return bent(generator, word) if odd < 0.12 else word
+
+
+def until_word(generator, clock):
+    return moment_word(generator, clock, time_near(generator, clock))

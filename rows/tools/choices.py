@@ -1,0 +1,46 @@
+"""What a report is over, slowly: some users, some lines and a part of time."""
+import math
+
+from moments import TRY_HELP, Refused
+
+MOST, LONGEST = 8, 32             # names of one kind, and the bytes of one
+MANY_USERS, MANY_LINES = ('error: --%s can be used eight times at most' % option + TRY_HELP for option in ('user', 'line'))
+NO_USER = 'error: --user takes a name of 1 to 32 bytes' + TRY_HELP
+NO_LINE = 'error: --line takes a name of 1 to 32 bytes, as tty1' + TRY_HELP
+
+
+def look(job):
+    """Refuses the names of a job where they are too many, or one of them is too long or empty."""
+    for option, many, other in (('user', MANY_USERS, NO_USER), ('line', MANY_LINES, NO_LINE)):
+        names = job.get(option, [])
+        if len(names) > MOST:
+            raise Refused(many)
+        if not all(1 <= len(name) <= LONGEST for name in names):
+            raise Refused(other)
+
+
+def is_chosen(job, stay):
+    """Whether a stay is of a user and on a line that are chosen; a running time is of reboot, and on no line."""
+    user, line = (b'reboot', None) if stay['is_boot'] else (stay['user'], stay['line'])
+    return user in job.get('user', [user]) and line in job.get('line', [line])
+
+
+def bounds(period):
+    """From which number up to which the seconds of a period are."""
+    first, last = period
+    return -math.inf if first is None else first, math.inf if last is None else last
+
+
+def is_met(stay, period, until):
+    """Whether some second of a stay is in the period. One that nothing has ended goes on, or up to the moment that is given.
+    One without seconds stands at its begin alone."""
+    first, last = bounds(period)
+    end = math.inf if stay['end'] == 'Still' and until is None else max(stay['end_time'], stay['begin'] + 1)
+    return max(first, stay['begin']) < min(last, end)
+
+
+def cut(stay, period):
+    """The part of a stay that is in the period."""
+    first, last = bounds(period)
+    begin, end_time = max(first, stay['begin']), min(last, stay['end_time'])
+    return dict(stay, begin=begin, end_time=end_time, seconds=max(0, end_time - begin))
