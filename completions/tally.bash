@@ -16,8 +16,8 @@ _tally() {
         return
     fi
     case ${COMP_WORDS[1]} in
-        last) options='-n --until --csv --feeders --east --west --zone -h --help' ;;
-        ac) options='-d -p --until --csv --feeders --east --west --zone -h --help' ;;
+        last) options='-n --user --line -s --from -t --to --in -p --at --until --csv --feeders --east --west --zone -h --help' ;;
+        ac) options='-d -p --user --line --from --to --in --until --csv --feeders --east --west --zone -h --help' ;;
         sa) options='-a -m -n -r --csv --feeders --east --west --zone -h --help' ;;
         all) options='--askers --until --feeders --east --west --zone -h --help' ;;
         help)
@@ -33,10 +33,15 @@ _tally() {
         return
     fi
     case ${COMP_WORDS[1]}:$before in
-        last:--until | ac:--until | all:--until)
+        last:--user | ac:--user)
+            COMPREPLY=($(compgen -u -- "$word"))
+            return
+            ;;
+        last:--until | ac:--until | all:--until | last:--from | ac:--from | last:--to | ac:--to | last:--at | last:-[stp])
             COMPREPLY=($(compgen -W now -- "$word"))
             return
             ;;
+        last:--line | ac:--line | last:--in | ac:--in) return ;;
         last:-n | *:--feeders | *:--east | *:--west | *:--askers) return ;;
     esac
     case $word in

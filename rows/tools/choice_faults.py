@@ -45,7 +45,7 @@ def add_words_of_periods(fault):
 def add_ranges(fault):
     fault('from-too-early', 'A second before the first moment.', ['last', '--from', '@-2147483649'], NO_FROM_RANGE)
     fault('to-too-late', 'A second after the last moment.', ['ac', '--to', '4294967296'], NO_TO_RANGE)
-    fault('at-too-late', 'A day after the last moment.', ['last', '--at', '2106-02-08'], NO_AT_RANGE)
+    fault('at-too-late', 'The first day that begins after the last moment.', ['last', '--at', '2106-02-08'], NO_AT_RANGE)
     fault('from-after-to', 'A period that goes back.', ['ac', '--from', '@1000001', '--to', '@1000000'], BACKWARD)
 
 
