@@ -595,11 +595,12 @@ row('example-running-times-of-a-morning', 'last,choice', 'Two running times.', [
     lines('reboot   system boot  6.1.0-18-amd64   2026-03-02 11:50:00   still running',
           'reboot   system boot  6.1.0-18-amd64   2026-03-02 07:55:00 - down                (03:50)', '',
           'wtmp begins 2026-03-02 07:55:00'), files={'morning.wtmp': example('morning.wtmp')})
-row('example-july-of-a-user', 'ac,choice,offset', 'July of bob an hour east of UTC, over a rotated log: half an hour of 8.50.',
-    ['ac', '--user', 'bob', '--in', '2026-07', '--east', '60', '/dev/stdin'], lines('total                        0.50'),
+LONDON = 'GMT0BST,M3.5.0/1,M10.5.0'
+row('example-july-of-a-user', 'ac,choice,zone', 'July of bob by the days of London, over a rotated log: half an hour of 8.50.',
+    ['ac', '--user', 'bob', '--in', '2026-07', '--zone', LONDON, '/dev/stdin'], lines('total                        0.50'),
     stdin=example('july.1.wtmp') + example('july.wtmp'))
-row('example-july-of-a-user-as-a-table', 'last,csv,choice,offset', 'The same 1800 seconds from a row.',
-    ['last', '--csv', '--user', 'bob', '--in', '2026-07', '--east', '60', '/dev/stdin'],
+row('example-july-of-a-user-as-a-table', 'last,csv,choice,zone', 'The same 1800 seconds from a row.',
+    ['last', '--csv', '--user', 'bob', '--in', '2026-07', '--zone', LONDON, '/dev/stdin'],
     lines('file,user,line,remote,start,start_at,begin,end,end_time,end_at,seconds,within',
           '1,bob,pts/0,host7.example,1785537000,2026-07-31T23:30:00+01:00,1785537000,logout,1785567600,2026-08-01T08:00:00+01:00,30600,1800'),
     stdin=example('july.1.wtmp') + example('july.wtmp'))
