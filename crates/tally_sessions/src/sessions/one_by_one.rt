@@ -1,5 +1,6 @@
 //! The stays of a host one by one, for those who do not keep them all.
 ghost use Rattle.std.specs.Prelude.{◌≡◌, ◌<◌, ◌+◌, ◌^◌, ◌∷◌, [], ℕ, ℤ, IfNone, IfSome, IsTrue, Option, drop, filter, length, reverse, slice_index_or};
+ghost use Rattle.tally_records.specs.Choice.{is_every_login};
 ghost use Rattle.tally_sessions.specs.Choice.{is_shown};
 ghost use Rattle.tally_sessions.specs.Totals.{latest_stays, limited, stays_of};
 ghost use Rattle.tally_sessions.specs.declared.entry.Stay.{Stay as Found};
@@ -41,7 +42,8 @@ impl Sessions {
 
     /// Whether a choice leaves out no stay, so that each place has one that is shown.
     pub fn shows_all(&self, choice: &LoginChoice) -> bool
-        ensures { IsTrue result → (host : ℕ) (limit : Option ℕ) (until : Option ℤ)
+        ensures value { result ≡ is_every_login choice.now }
+        ensures all { IsTrue result → (host : ℕ) (limit : Option ℕ) (until : Option ℤ)
             → latest_stays host limit choice.now self.now.entries until ≡ limited limit (reverse (stays_of host self.now.entries until)) }
     {
         choice.is_every()
