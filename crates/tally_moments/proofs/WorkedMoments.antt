@@ -3,7 +3,7 @@ use Rattle.std.proofs.Common.{◌≡◌, zero, suc, [], ◌∷◌, map, None, So
 use Rattle.std.proofs.lemmas.Int.{ints}
 use Rattle.std.specs.Prelude.{codes}
 use Rattle.jiff_core.specs.Calendar.{day_count, days_from_civil, days_of_months, days_of_years}
-use Rattle.tally_moments.specs.Moments.{moment_of}
+use Rattle.tally_moments.specs.Moments.{clear_moment_of, moment_of, period_of}
 use Rattle.tally_clock.specs.Rows.{ClockRows, IsRising, utc}
 use Rattle.tally_moments.specs.Seconds.{IsSecondOf, local}
 use Rattle.tally_moments.specs.inside.Reach.{IsNotReached}
@@ -41,9 +41,34 @@ digits : map moment_of (codes "20260701" ∷ codes "0020260701" ∷ codes "20260
     ≡ Some (Second (pos 20260701)) ∷ Some (Second (pos 20260701)) ∷ Some (Second (pos 20260701103000)) ∷ Some Now ∷ None ∷ []
 digits = refl
 
+-- as many digits as a date has without signs are no clear moment, and other numbers of digits are
+clear_digits : map clear_moment_of (codes "20260701" ∷ codes "+20260701" ∷ codes "20260701103000" ∷ codes "@20260701" ∷ codes "2026070" ∷ codes "1782864000" ∷ codes "now" ∷ [])
+    ≡ None ∷ None ∷ None ∷ Some (Second (pos 20260701)) ∷ Some (Second (pos 2026070)) ∷ Some (Second (pos 1782864000)) ∷ Some Now ∷ []
+clear_digits = refl
+
 -- a minus alone may stand before zero
 minus_zero : map moment_of (codes "-0" ∷ codes "-00" ∷ codes "-1" ∷ codes "-" ∷ []) ≡ Some (Second (pos 0)) ∷ Some (Second (pos 0)) ∷ None ∷ None ∷ []
 minus_zero = refl
+
+-- ---- periods
+
+-- a year, of 365 days or of 366
+years : map period_of (codes "2026" ∷ codes "2024" ∷ codes "1970" ∷ codes "26" ∷ codes "02026" ∷ codes "+2026" ∷ [])
+    ≡ Some (Day (pos 20454), Day (pos 20819)) ∷ Some (Day (pos 19723), Day (pos 20089)) ∷ Some (Day (pos 0), Day (pos 365)) ∷ None ∷ None ∷ None ∷ []
+unfolding days_from_civil day_count days_of_years days_of_months
+years = refl
+
+-- a month: December goes up to the next year, and February has a day more in leap years
+months : map period_of (codes "2026-12" ∷ codes "2024-02" ∷ codes "2026-02" ∷ codes "2026-13" ∷ codes "2026-00" ∷ codes "202607" ∷ codes "2026-7" ∷ [])
+    ≡ Some (Day (pos 20788), Day (pos 20819)) ∷ Some (Day (pos 19754), Day (pos 19783)) ∷ Some (Day (pos 20485), Day (pos 20513)) ∷ None ∷ None ∷ None ∷ None ∷ []
+unfolding days_from_civil day_count days_of_years days_of_months
+months = refl
+
+-- a day: the calendar of now counts back to before it was in use, so that 10 October of 1582 is a day as any other
+days : map period_of (codes "2026-07-31" ∷ codes "2024-02-29" ∷ codes "2026-02-29" ∷ codes "1582-10-10" ∷ codes "1582-10-15" ∷ codes "1969-12-31" ∷ codes "2026-07-31T00:00" ∷ [])
+    ≡ Some (Day (pos 20665), Day (pos 20666)) ∷ Some (Day (pos 19782), Day (pos 19783)) ∷ None ∷ Some (Day (neg_ℤ (pos 141432)), Day (neg_ℤ (pos 141431))) ∷ Some (Day (neg_ℤ (pos 141427)), Day (neg_ℤ (pos 141426))) ∷ Some (Day (neg_ℤ (pos 1)), Day (pos 0)) ∷ None ∷ []
+unfolding days_from_civil day_count days_of_years days_of_months
+days = refl
 
 -- ---- clocks
 

@@ -2,8 +2,8 @@
 use Rattle.std.specs.Prelude.{ℕ, ℤ, pos, neg_ℤ, ◌+◌, ◌*◌, ◌==◌, ◌&&◌, ◌||◌, ◌+ℤ◌, ◌-ℤ◌, ◌*ℤ◌, Bool, List, [], ◌∷◌, Option, Some, None, bytes_eq, codes, drop, nat_le, option_and_then, option_map, slice_index, take, if◌then◌else◌}
 use Rattle.std.specs.Option.{option_or}
 use Rattle.std.specs.Str.Parse.{without_leading_plus}
-use Rattle.tally_moments.specs.Dates.{day_named}
-use Rattle.tally_moments.specs.Shapes.{after, is_like, number_of, two_at}
+use Rattle.tally_moments.specs.Dates.{day_named, days_named}
+use Rattle.tally_moments.specs.Shapes.{after, is_like, looks_like_date, number_of, two_at}
 use Rattle.tally_moments.specs.declared.moment.Moment.{Moment}
 use Rattle.tally_moments.specs.declared.moment.Moment.TheVariants.{Day, Now, Second, Time}
 use Rattle.tally_moments.specs.declared.time.ToldBy.{ToldBy}
@@ -86,3 +86,11 @@ abbrev pub moment_of : List ℕ → Option Moment
 moment_of word =
     if bytes_eq word (codes "now") then Some Now
     else option_or (counted word) (option_or (dated word) (timed word))
+
+-- the same, but not of digits that could be a date
+abbrev pub clear_moment_of : List ℕ → Option Moment
+clear_moment_of word = if looks_like_date word then None else moment_of word
+
+-- a moment up to another: from the first day of what a word names up to the day after its last
+abbrev pub period_of : List ℕ → Option (Moment × Moment)
+period_of word = option_map (λ days. (Day days.0, Day (days.1 +ℤ pos 1))) (days_named word)

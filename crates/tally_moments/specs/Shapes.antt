@@ -1,8 +1,8 @@
 -- Texts with digits at fixed places, and numbers.
-use Rattle.std.specs.Prelude.{ℕ, ◌+◌, ◌-◌, ◌*◌, ◌^◌, ◌==◌, ◌&&◌, Bool, List, [], ◌∷◌, Option, Some, None, length, nat_lt, not, slice_index, if◌then◌else◌}
+use Rattle.std.specs.Prelude.{ℕ, ◌+◌, ◌-◌, ◌*◌, ◌^◌, ◌==◌, ◌&&◌, ◌||◌, Bool, List, [], ◌∷◌, Option, Some, None, length, nat_lt, not, slice_index, if◌then◌else◌}
 use Rattle.std.specs.Char.{is_ascii_digit}
 use Rattle.std.specs.List.{list_all, zip}
-use Rattle.std.specs.Str.Parse.{digits_value}
+use Rattle.std.specs.Str.Parse.{digits_value, without_leading_plus}
 
 -- a byte that may stand at a place of a picture: any digit where that has 0, and else the same byte
 abbrev pub fits_place : ℕ → ℕ → Bool
@@ -36,3 +36,9 @@ number_of text = if is_digits text && nat_lt (digits_value 10 text) (2 ^ 63) the
 abbrev pub after : ℕ → List ℕ → Option (List ℕ)
 after byte [] = None
 after byte (first ∷ rest) = if first == byte then Some rest else None
+
+-- as many digits as a date has without signs, or a date and a time; a plus may stand before them
+abbrev pub looks_like_date : List ℕ → Bool
+looks_like_date word =
+    let digits = without_leading_plus word in
+    is_digits digits && ((length digits == 8) || (length digits == 14))

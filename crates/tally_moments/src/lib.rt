@@ -1,4 +1,4 @@
-//! Moments, as words say them, and the second of each on a clock.
+//! Moments, as words say them, periods between two, and the second of each moment on a clock.
 //!
 //! A `moment` is said by `dates` of the calendar and a `time` of day, whose `shapes` are looked at first, or by
 //! seconds. `second` finds it on a clock.
@@ -10,5 +10,5 @@ mod second;
 mod shapes;
 mod time;
 
-pub use moment::{Moment, moment_of};
+pub use moment::{Moment, clear_moment_of, moment_of, period_of};
 pub use second::{second_of, seconds_agree};

@@ -1,9 +1,12 @@
 //! Moments, as words say them.
 ghost use Rattle.std.specs.Prelude.{◌≡◌, ◌+ℤ◌, ◌-ℤ◌, ◌*ℤ◌, pos};
+ghost use Rattle.jiff_core.specs.Calendar.{IsEpochDay};
 ghost use Rattle.tally_moments.specs.Moments as Spec;
 
-use crate::dates::day_named;
-use crate::shapes::{after_at, after_minus, byte_at, front, number_of, rest, without_plus};
+use crate::dates::{day_named, days_named};
+use crate::shapes::{
+    after_at, after_minus, byte_at, front, looks_like_date, number_of, rest, without_plus,
+};
 use crate::time::{ToldBy, second_on, time_in, told_by};
 
 /// A moment, on a clock that need not be known yet.
@@ -30,6 +33,34 @@ pub fn moment_of(word: &str) -> Option<Moment>
     counted(word)
         .or(dated(word.as_bytes()))
         .or(timed(word.as_bytes()))
+}
+
+/// The same, but of eight or fourteen digits alone, which could be a date, it is none.
+pub fn clear_moment_of(word: &str) -> Option<Moment>
+    ensures { result ≡ Spec.clear_moment_of word.now }
+{
+    if looks_like_date(word) {
+        None
+    } else {
+        moment_of(word)
+    }
+}
+
+/// The moment from which a year, a month or a day goes, and that up to which, as `2026`, `2026-07` or
+/// `2026-07-31` names it.
+pub fn period_of(word: &str) -> Option<(Moment, Moment)>
+    ensures { result ≡ Spec.period_of word.now }
+{
+    let (first, last) = days_named(word.as_bytes())?;
+    Some((Moment::Day(first), day_after(last)))
+}
+
+/// The beginning of the next day.
+fn day_after(day: i32) -> Moment
+    requires { IsEpochDay day }
+    ensures { result ≡ Moment.Day (day +ℤ pos 1) }
+{
+    Moment::Day(day + 1)
 }
 
 /// The moment of whole seconds since 1970, after an at sign or alone.

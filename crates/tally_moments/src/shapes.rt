@@ -120,3 +120,11 @@ pub(crate) fn without_plus<'a>(text: &'a str) -> &'a str
 {
     text.strip_prefix('+').unwrap_or(text)
 }
+
+/// Whether a word is as many digits as a date has without signs, or a date and a time.
+pub(crate) fn looks_like_date(word: &str) -> bool
+    ensures { result ≡ Spec.looks_like_date word.now }
+{
+    let digits = without_plus(word).as_bytes();
+    are_digits(digits) && (digits.len() == 8 || digits.len() == 14)
+}
