@@ -12,6 +12,7 @@ use Rattle.clap.specs.Faults.{built_fault, defaults_fault, entered_fault, level_
 use Rattle.clap.specs.Walk.{Row, Rule, Text, answers_to, is_empty, nothing_held, rows_after, walk, walk_from}
 use Rattle.clap.proofs.SimpleLemmas.{is_false, is_nil}
 use Rattle.clap.proofs.WalkLemmas.{both}
+use Rattle.tally_records.specs.Choice.{every_login}
 use Rattle.tally_usage.specs.declared.order.Order.TheVariants.{Cpu}
 use Rattle.tally_line.specs.CommandLine.{tally_app}
 use Rattle.tally_line.specs.Lines.{AreAccepted, met_in, name_of, words_in}
@@ -102,9 +103,9 @@ is_known s = is_empty s.aliases && (bytes_eq s.name (codes "help") || (wants_fil
 
 named_report : (name : Text) → names_report name ≡ true → (r : Report) × (name ≡ name_of r)
 named_report name e = elim (either (bytes_eq name (codes "last")) _ e) [
-  | inl is ↦ (report.Last None, same_text name (codes "last") is)
+  | inl is ↦ (report.Last None every_login false, same_text name (codes "last") is)
   | inr others ↦ elim (either (bytes_eq name (codes "ac")) _ others) [
-    | inl is ↦ (report.Connect false false, same_text name (codes "ac") is)
+    | inl is ↦ (report.Connect false false every_login, same_text name (codes "ac") is)
     | inr rest ↦ elim (either (bytes_eq name (codes "sa")) _ rest) [
       | inl is ↦ (report.Users Cpu false, same_text name (codes "sa") is)
       | inr is ↦ (report.All, same_text name (codes "all") is)

@@ -2,7 +2,9 @@ pub mod Accepted
 pub mod CommandLemmas
 pub mod FileLemmas
 pub mod FilledRows
+pub mod GivenLemmas
 pub mod LineLemmas
+pub mod NamedLemmas
 pub mod OffsetLemmas
 pub mod OptionLemmas
 pub mod SettledLemmas

@@ -16,7 +16,7 @@ use Rattle.clap.proofs.WalkLemmas.{one_text-rows, raw_values-rows}
 use Rattle.tally_line.proofs.Accepted.{accepted_are_complete}
 use Rattle.tally_line.specs.CommandLine.{tally_app}
 use Rattle.tally_line.specs.FileWords.{IsFirstBare, NamesFiles}
-use Rattle.tally_line.specs.Lines.{Answers, AreAccepted, AsksFor, HasNoWord, HasSoundTimes, AsksForm, IsRunOf, Refuses, file_words, met_in, name_of, rows_met, words_in}
+use Rattle.tally_line.specs.Lines.{Answers, AreAccepted, AsksFor, HasNoWord, AreSound, AsksForm, IsRunOf, Refuses, file_words, met_in, name_of, rows_met, words_in}
 use Rattle.tally_line.specs.inside.LineSteps.{IsComplete, IsFaultFor, IsHelpFor, IsFaultOf, IsFileFault, IsLineOf, IsMemoryOrUsage}
 use Rattle.tally_line.specs.Jobs.{IsRunnable, TakesUntil}
 use Rattle.tally_line.specs.Times.{times_in}
@@ -71,7 +71,7 @@ file_fault name rows r words (fault.Prefix index) named words_are h =
 
 pub run_found : (name : Text) (rows : List Row) (r : Report) (words : List (Bor Text)) (job : Job) (times : Times) (zone : Option (String Global)) (files : List FileArg) → name ≡ name_of r
     → words_in rows ≡ texts words → 0 < length (words_in rows) → job.report ≡ r → IsRunnable job → job.askers ≤ 64 → (job.askers ≡ 0) ⊎ (r ≡ report.All)
-    → AsksForm r rows job.form → SetsJob rows job → times ≡ times_in r rows → TakesUntil r times.until → IsZoneOf rows zone → HasSoundTimes rows → NamesFiles r (texts words) files
+    → AsksForm r rows job.form → SetsJob rows job → times ≡ times_in r rows → TakesUntil r times.until → IsZoneOf rows zone → AreSound rows → NamesFiles r (texts words) files
     → IsRunOf (Some (name, rows)) job times zone files
 run_found name rows r words job times word files named words_are some is runnable few asked form options moments until zone_word sound names = record {
   named = ap Some (named ∙ ap name_of (sym is));
@@ -126,7 +126,7 @@ module _ (words : List Text) (command : Command) (is : app_of command ≡ tally_
       → (is_simple_and_free (app_of command) ≡ true → fault_of (app_of command) words ≡ [])
       → IsFaultOf (subcommand_rows_of m) f → Refuses words f
   refuses m fault.Memory has taken found = tt
-  refuses m (fault.Usage text) has taken found = inr (accepted taken, subst (λ met. ¬ HasSoundTimes (rows_met met)) (met_in_words m has) found)
+  refuses m (fault.Usage text) has taken found = inr (accepted taken, subst (λ met. ¬ AreSound (rows_met met)) (met_in_words m has) found)
   refuses m (fault.Prefix index) has taken found =
       let all = subst (λ met. AsksFor report.All met × IsFirstBare (file_words met) index) (met_in_words m has) found in (accepted taken, all.0, all.1)
 

@@ -1,27 +1,84 @@
 -- Worked examples, computed by the definitions.
-use Rattle.std.proofs.Common.{◌≡◌, [], ◌∷◌, None, Some, true, false, map, pos, neg_ℤ, refl}
+use Rattle.std.proofs.Common.{◌≡◌, [], ◌∷◌, None, Some, Err, true, false, map, pos, neg_ℤ, refl}
 use Rattle.std.specs.Prelude.{codes}
+use Rattle.tally_moments.specs.declared.moment.Moment.{Moment}
 use Rattle.tally_moments.specs.declared.moment.Moment.TheVariants.{Day, Now, Second, Time}
+use Rattle.tally_records.specs.Choice.{every_login}
 use Rattle.tally_records.specs.declared.batch.Kind.TheVariants.{Login, Proc}
+use Rattle.tally_records.specs.declared.period.Period.{Period}
+use Rattle.tally_usage.specs.declared.order.Order.TheVariants.{Cpu}
 use Rattle.tally_line.specs.FileWords.{word_of}
-use Rattle.tally_line.specs.Settled.{is_until, known_fault}
+use Rattle.tally_line.specs.Named.{names_of}
+use Rattle.tally_line.specs.Settled.{is_moment, is_until, known_fault, over, period_by, settled}
 use Rattle.tally_line.specs.Times.{ask_now}
+use Rattle.tally_line.specs.declared.job.Form.TheVariants.{Text}
+use Rattle.tally_line.specs.declared.job.Job.{Job}
 use Rattle.tally_line.specs.declared.job.Report.TheVariants as report
 use Rattle.tally_line.specs.declared.settling.TimesFault.TheVariants as fault
+use Rattle.tally_line.specs.declared.times.Times.{Times}
 
 -- a file of `all` has the prefix of its kind, and no other file has one
-words : word_of report.All Login (codes "f") ∷ word_of report.All Proc (codes "f") ∷ word_of (report.Last None) Login (codes "f") ∷ [] ≡ codes "w:f" ∷ codes "p:f" ∷ codes "f" ∷ []
+words : word_of report.All Login (codes "f") ∷ word_of report.All Proc (codes "f") ∷ word_of (report.Last None every_login false) Login (codes "f") ∷ [] ≡ codes "w:f" ∷ codes "p:f" ∷ codes "f" ∷ []
 words = refl
+
+-- ---- seconds
 
 -- `--until` takes the seconds from 1970 up to the last that a login record can have
 range : map is_until (None ∷ Some (pos 0) ∷ Some (pos 2147483647) ∷ Some (pos 2147483648) ∷ Some (neg_ℤ (pos 1)) ∷ []) ≡ true ∷ true ∷ true ∷ false ∷ false ∷ []
 range = refl
 
+-- a period takes the seconds from the first that a login record can have up to the last that a process record can have
+wide_range : map is_moment (None ∷ Some (neg_ℤ (pos 2147483648)) ∷ Some (pos 4294967295) ∷ Some (neg_ℤ (pos 2147483649)) ∷ Some (pos 4294967296) ∷ []) ≡ true ∷ true ∷ true ∷ false ∷ false ∷ []
+wide_range = refl
+
+-- ---- faults
+
+abbrev until_at : Moment → Times
+until_at moment = record { until = Some moment; from = None; to = None; at = None }
+
+abbrev from_to : Moment → Moment → Times
+from_to from to = record { until = None; from = Some from; to = Some to; at = None }
+
+abbrev at_one : Moment → Times
+at_one moment = record { until = None; from = None; to = None; at = Some moment }
+
 -- a second out of range is refused without a clock, and a day or a time waits for one
-faults : map (λ moment. known_fault (record { until = moment })) (None ∷ Some (Second (pos 5)) ∷ Some (Second (pos 2147483648)) ∷ Some (Second (neg_ℤ (pos 1))) ∷ Some (Day (neg_ℤ (pos 1))) ∷ Some (Time (pos 30000) 0) ∷ Some Now ∷ [])
-    ≡ None ∷ None ∷ Some fault.Until ∷ Some fault.Until ∷ None ∷ None ∷ None ∷ []
+faults : map (λ moment. known_fault (until_at moment)) (Second (pos 5) ∷ Second (pos 2147483648) ∷ Second (neg_ℤ (pos 1)) ∷ Day (neg_ℤ (pos 1)) ∷ Time (pos 30000) 0 ∷ Now ∷ [])
+    ≡ None ∷ Some fault.Until ∷ Some fault.Until ∷ None ∷ None ∷ None ∷ []
 faults = refl
 
--- the machine is asked for its time where the word is `now`
-asked : map (λ moment. ask_now (record { until = moment })) (None ∷ Some (Second (pos 5)) ∷ Some Now ∷ []) ≡ false ∷ false ∷ true ∷ []
+-- so is a period that ends before it begins, where both seconds are known; an empty one is taken
+period_faults : map known_fault (from_to (Second (pos 20)) (Second (pos 10)) ∷ from_to (Second (pos 10)) (Second (pos 10)) ∷ from_to (Day (pos 2)) (Day (pos 1)) ∷ from_to (Day (pos 2)) (Second (pos 4294967296)) ∷ from_to (Second (pos 4294967296)) (Second (pos 0)) ∷ at_one (Second (pos 4294967296)) ∷ [])
+    ≡ Some fault.Backward ∷ None ∷ None ∷ Some fault.To ∷ Some fault.From ∷ Some fault.At ∷ []
+period_faults = refl
+
+-- what is wrong on every clock is named before what a clock shows
+abbrev all_of_it : Job
+all_of_it = record { report = report.All; form = Text; feeders = 4; askers = 0; offset = pos 0; until = None }
+
+first_fault : settled (record { until = Some (Day (pos 30000)); from = Some (Second (pos 4294967296)); to = None; at = None }) all_of_it (record { until = Some (pos 2592000000); from = Some (pos 4294967296); to = None; at = None })
+    ∷ settled (record { until = Some (Day (pos 30000)); from = None; to = None; at = None }) all_of_it (record { until = Some (pos 2592000000); from = None; to = None; at = None }) ∷ []
+    ≡ Err fault.From ∷ Err fault.Until ∷ []
+first_fault = refl
+
+-- the machine is asked for its time where a word is `now`
+asked : map ask_now (until_at (Second (pos 5)) ∷ until_at Now ∷ from_to Now (Day (pos 1)) ∷ from_to (Day (pos 1)) Now ∷ at_one Now ∷ at_one (Day (pos 1)) ∷ []) ≡ false ∷ true ∷ true ∷ true ∷ true ∷ false ∷ []
 asked = refl
+
+-- ---- what reports are over
+
+-- a second is a period of its own
+periods : period_by None (Some (pos 10)) None ∷ period_by (Some (pos 10)) None None ∷ [] ≡ record { from = Some (pos 10); to = None } ∷ record { from = Some (pos 10); to = Some (pos 11) } ∷ []
+periods = refl
+
+abbrev decade : Period
+decade = record { from = Some (pos 10); to = Some (pos 20) }
+
+-- reports without sessions have no period
+over_a_period : over decade (report.Last (Some 3) every_login true) ∷ over decade (report.Connect true false every_login) ∷ over decade (report.Users Cpu true) ∷ over decade report.All ∷ []
+    ≡ report.Last (Some 3) (record every_login { period = decade }) true ∷ report.Connect true false (record every_login { period = decade }) ∷ report.Users Cpu true ∷ report.All ∷ []
+over_a_period = refl
+
+-- no words name nothing
+nobody : names_of [] ≡ every_login.users
+nobody = refl

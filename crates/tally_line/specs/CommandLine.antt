@@ -3,7 +3,7 @@ use Rattle.std.specs.Prelude.{◌∷◌, ℕ, [], Some, true, codes, pos}
 use Rattle.clap.specs.Lexer.{usize_max}
 use Rattle.clap.specs.Simple.{on_top}
 use Rattle.clap.specs.Words.{App, Rule, Text, new_app, new_rule, with_rule, with_subcommand}
-use Rattle.clap.specs.declared.builder.action.ArgAction.TheVariants.{SetTrue}
+use Rattle.clap.specs.declared.builder.action.ArgAction.TheVariants.{Append, SetTrue}
 use Rattle.clap.specs.declared.builder.value_parser.ValueParser.{ValueParser}
 use Rattle.clap.specs.declared.builder.value_parser.ValueParser.TheVariants.{NonEmptyString, Signed}
 
@@ -56,9 +56,21 @@ east_rule = minutes_rule (codes "east")
 abbrev pub west_rule : Rule
 west_rule = minutes_rule (codes "west")
 
--- the moment up to which stays that nothing has ended are counted: any word
+-- `--name WORD`, any word
+abbrev pub word_rule : Text → Rule
+word_rule name = record (new_rule name) { long = Some name; value_names = 1 }
+
+-- the same with a letter
+abbrev pub lettered_rule : Text → ℕ → Rule
+lettered_rule name letter = record (word_rule name) { short = Some letter }
+
+-- the same, which may be repeated
+abbrev pub repeated_rule : Text → Rule
+repeated_rule name = record (word_rule name) { action = Some Append }
+
+-- the moment up to which stays that nothing has ended are counted
 abbrev pub until_rule : Rule
-until_rule = record (new_rule (codes "until")) { long = Some (codes "until"); value_names = 1 }
+until_rule = word_rule (codes "until")
 
 -- the zone whose local time is shown: any word but the empty one
 abbrev pub zone_rule : Rule
@@ -81,15 +93,36 @@ abbrev pub with_common : App → App
 with_common app =
     with_rule (with_rule (with_rule (with_rule (with_rule app feeders_rule) east_rule) west_rule) zone_rule) file_rule
 
+-- the users and lines that a report is over
+abbrev pub with_names : App → App
+with_names app = with_rule (with_rule app (repeated_rule (codes "user"))) (repeated_rule (codes "line"))
+
+-- the period that `ac` is over
+abbrev pub with_period : App → App
+with_period app =
+    with_rule (with_rule (with_rule app (word_rule (codes "from"))) (word_rule (codes "to"))) (word_rule (codes "in"))
+
+-- the period that `last` is over
+abbrev pub with_lettered_period : App → App
+with_lettered_period app =
+    with_rule (with_rule (with_rule app
+    (lettered_rule (codes "from") 115))
+    (lettered_rule (codes "to") 116))
+    (word_rule (codes "in"))
+
 -- `last`
 abbrev pub last_app : App
-last_app = with_common (with_rule (with_rule (with_rule (new_app (codes "last")) limit_rule) until_rule) csv_rule)
+last_app = with_common (with_rule (with_rule (with_rule (with_lettered_period (with_names
+    (with_rule (new_app (codes "last")) limit_rule)))
+    (lettered_rule (codes "at") 112))
+    until_rule)
+    csv_rule)
 
 -- `ac`
 abbrev pub connect_app : App
-connect_app = with_common (with_rule (with_rule (with_rule (with_rule (new_app (codes "ac"))
+connect_app = with_common (with_rule (with_rule (with_period (with_names (with_rule (with_rule (new_app (codes "ac"))
     (flag_rule (codes "by_day") 100))
-    (flag_rule (codes "by_user") 112))
+    (flag_rule (codes "by_user") 112))))
     until_rule)
     csv_rule)
 

@@ -20,8 +20,8 @@ word_of _ kind path = path
 
 -- a report reads files of this kind
 abbrev pub Reads : Report → Kind → Type 0
-Reads (report.Last limit) kind = kind ≡ Login
-Reads (report.Connect by_day by_user) kind = kind ≡ Login
+Reads (report.Last limit choice within) kind = kind ≡ Login
+Reads (report.Connect by_day by_user choice) kind = kind ≡ Login
 Reads (report.Commands order reverse all) kind = kind ≡ Proc
 Reads (report.Users order reverse) kind = kind ≡ Proc
 Reads report.All kind = ⊤

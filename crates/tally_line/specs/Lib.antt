@@ -2,6 +2,7 @@ pub mod CommandLine
 pub mod FileWords
 pub mod Jobs
 pub mod Lines
+pub mod Named
 pub mod Offsets
 pub mod Options
 pub mod Settled

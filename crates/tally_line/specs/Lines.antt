@@ -7,6 +7,7 @@ use Rattle.clap.specs.declared.error.kind.ErrorKind.TheVariants as kind
 use Rattle.tally_line.specs.CommandLine.{tally_app}
 use Rattle.tally_line.specs.FileWords.{IsFirstBare, NamesFiles}
 use Rattle.tally_line.specs.Jobs.{IsRunnable, TakesUntil}
+use Rattle.tally_line.specs.Named.{AreNamed}
 use Rattle.tally_line.specs.Offsets.{HasPlainOffsets}
 use Rattle.tally_line.specs.Options.{SetsJob}
 use Rattle.tally_line.specs.Times.{AreMoments, times_in}
@@ -59,8 +60,8 @@ AsksForm r rows f = IsFormOf rows f
 
 -- the subcommand of a report
 abbrev pub name_of : Report → Text
-name_of (report.Last limit) = codes "last"
-name_of (report.Connect by_day by_user) = codes "ac"
+name_of (report.Last limit choice within) = codes "last"
+name_of (report.Connect by_day by_user choice) = codes "ac"
 name_of (report.Commands order reverse all) = codes "sa"
 name_of (report.Users order reverse) = codes "sa"
 name_of report.All = codes "all"
@@ -69,10 +70,11 @@ name_of report.All = codes "all"
 abbrev pub AsksFor : Report → Met → Type 0
 AsksFor r met = option_map (λ found. found.0) met ≡ Some (name_of r)
 
--- offsets are plain, none stands beside a zone, and the words that say moments are as they have to be
-pub record HasSoundTimes (rows : List Row) : Type 0 where
+-- offsets are plain, none stands beside a zone, and the words that name or say moments are as they have to be
+pub record AreSound (rows : List Row) : Type 0 where
   pub offsets : HasPlainOffsets rows
   pub clock : HasOneClock rows
+  pub named : AreNamed rows
   pub moments : AreMoments rows
 
 -- a run that the matches ask for
@@ -86,7 +88,7 @@ pub record IsRunOf (met : Met) (job : Job) (times : Times) (zone : Option (Strin
   pub moments : times ≡ times_in job.report (rows_met met)
   pub until : TakesUntil job.report times.until
   pub zone_word : IsZoneOf (rows_met met) zone
-  pub sound : HasSoundTimes (rows_met met)
+  pub sound : AreSound (rows_met met)
   pub some_file : 0 < length files
   pub names_files : NamesFiles job.report (file_words met) files
 
@@ -118,7 +120,7 @@ Answers words (line.Help text) = AskForHelp words
 -- why words are refused
 abbrev pub Refuses : List Text → LineFault → Type 0
 Refuses words fault.Memory = ⊤
-Refuses words (fault.Usage text) = AreMistaken words ⊎ (AreAccepted words × ¬ HasSoundTimes (rows_met (met_in words)))
+Refuses words (fault.Usage text) = AreMistaken words ⊎ (AreAccepted words × ¬ AreSound (rows_met (met_in words)))
 Refuses words (fault.Prefix index) =
     AreAccepted words × AsksFor report.All (met_in words) × IsFirstBare (file_words (met_in words)) index
 

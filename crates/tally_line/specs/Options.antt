@@ -2,6 +2,8 @@
 use Rattle.std.specs.Prelude.{◌≡◌, ◌≤◌, ◌-ℤ◌, ℕ, ℤ, pos, Bool, true, false, List, Option, None, Some, ⊤, codes}
 use Rattle.std.specs.Str.Parse.{IsNumeral, digits_value, without_leading_plus}
 use Rattle.clap.specs.Words.{Row, Text, one_of}
+use Rattle.tally_line.specs.Named.{login_choice}
+use Rattle.tally_line.specs.Times.{has_period}
 use Rattle.tally_line.specs.declared.job.Job.{Job}
 use Rattle.tally_line.specs.declared.job.Report.{Report}
 use Rattle.tally_line.specs.declared.job.Report.TheVariants as report
@@ -39,10 +41,12 @@ abbrev pub is_by_calls : Order → Bool
 is_by_calls Calls = true
 is_by_calls Cpu = false
 
--- what is asked of a report
+-- what is asked of a report, before its period is known
 abbrev pub IsReportOf : Report → List Row → Type 0
-IsReportOf (report.Last limit) rows = IsOptional (codes "limit") 1 1048576 rows limit
-IsReportOf (report.Connect by_day by_user) rows = IsFlag (codes "by_day") rows by_day × IsFlag (codes "by_user") rows by_user
+IsReportOf (report.Last limit choice within) rows =
+    IsOptional (codes "limit") 1 1048576 rows limit × (choice ≡ login_choice rows) × (within ≡ has_period rows)
+IsReportOf (report.Connect by_day by_user choice) rows =
+    IsFlag (codes "by_day") rows by_day × IsFlag (codes "by_user") rows by_user × (choice ≡ login_choice rows)
 IsReportOf (report.Commands order reverse all) rows =
     IsFlag (codes "by_user") rows false × IsFlag (codes "by_calls") rows (is_by_calls order)
     × IsFlag (codes "reverse") rows reverse × IsFlag (codes "keep_all") rows all
@@ -64,7 +68,7 @@ pub record IsOffsetOf (rows : List Row) (offset : ℤ) : Type 0 where
   pub is_west : IsNumber (codes "west") 0 1439 0 rows west
   pub value : offset ≡ pos east -ℤ pos west
 
--- the matches set all of a job but its form and its moment, which is not settled
+-- the matches set all of a job but its form and its moments, which are not settled
 pub record SetsJob (rows : List Row) (job : Job) : Type 0 where
   pub report : IsReportOf job.report rows
   pub feeders : IsNumber (codes "feeders") 1 64 4 rows job.feeders

@@ -1,16 +1,24 @@
 //! The command line as `clap` reads it.
 ghost use Rattle.std.specs.Prelude.{◌≡◌, IfOk, false};
 ghost use Rattle.clap.specs.Words.{App, Rule, new_app, rule_of, with_rule, with_subcommand};
-ghost use Rattle.tally_line.specs.CommandLine.{all_app, askers_rule, connect_app, csv_rule, feeders_rule, file_rule, flag_rule, last_app, limit_rule};
+ghost use Rattle.tally_line.specs.CommandLine.{all_app, connect_app, last_app, tally_app, top_app, usage_app, with_common, with_lettered_period, with_names, with_period};
 ghost use Rattle.tally_line.specs.inside.Commands.{IsCommand};
-ghost use Rattle.tally_line.specs.CommandLine.{minutes_rule, number_rule, tally_app, top_app, until_rule, usage_app, with_common, zone_rule};
 
-use clap::builder::ValueParser;
-use clap::{Arg, ArgAction, Command, value_parser};
+use crate::args::{
+    askers, csv, feeders, file, flag, lettered, limit, minutes, repeated, until, word, zone,
+};
+use clap::{Arg, Command};
 use std::alloc::{AllocError, Global};
 
 /// The version, and by what its proofs were checked.
 const VERSION: &str = "1.0.0\nproved with Rattle, logic dac8208d650f15bf";
+
+const FROM: &str =
+    "Report from MOMENT on: a date as 2026-07-01, a time as 2026-07-01T10:30, seconds as @1782864000, or now";
+
+const TO: &str = "Report up to, without, MOMENT, which is as for --from";
+
+const IN: &str = "Report on a year, a month or a day, as 2026, 2026-07 or 2026-07-31";
 
 /// A command, where there was memory for it.
 type Made<'a> = Result<Command<'a>, AllocError>;
@@ -68,6 +76,15 @@ fn last<'a>(alloc: Global) -> Made<'a>
 {
     let about = "List login sessions and running times, as last(1) does";
     let command = with(Ok(named(alloc, "last", about)), limit(alloc));
+    let command = with_names(
+        alloc,
+        command,
+        "Show stays of the user NAME, up to eight times; running times are of reboot",
+        "Show stays on the line NAME, as tty1, up to eight times",
+    );
+    let command = with_lettered_period(alloc, command);
+    let help = "Show who was logged in at MOMENT, which is as for --from";
+    let command = with(command, lettered(alloc, "at", 'p', help));
     let command = with(command, until(alloc));
     let command = with(command, csv(alloc));
     with_options(alloc, command, "Read the login records of FILE")
@@ -88,6 +105,13 @@ fn connect<'a>(alloc: Global) -> Made<'a>
         ),
     );
     let command = with(command, flag(alloc, "by_user", 'p', "Sum by user"));
+    let command = with_names(
+        alloc,
+        command,
+        "Sum sessions of the user NAME, up to eight times",
+        "Sum sessions on the line NAME, as tty1, up to eight times",
+    );
+    let command = with_period(alloc, command);
     let command = with(command, until(alloc));
     let command = with(command, csv(alloc));
     with_options(alloc, command, "Read the login records of FILE")
@@ -134,6 +158,35 @@ fn all<'a>(alloc: Global) -> Made<'a>
     )
 }
 
+/// The users and lines that sessions are chosen by.
+#[inline(never)]
+fn with_names<'a>(alloc: Global, command: Made<'a>, user: &'a str, line: &'a str) -> Made<'a>
+    ensures { (app : App) → IfOk command.entry (IsCommand app) → IfOk result (IsCommand (with_names app)) }
+{
+    let command = with(command, repeated(alloc, "user", "NAME", user));
+    with(command, repeated(alloc, "line", "NAME", line))
+}
+
+/// The period that a report is over.
+#[inline(never)]
+fn with_period<'a>(alloc: Global, command: Made<'a>) -> Made<'a>
+    ensures { (app : App) → IfOk command.entry (IsCommand app) → IfOk result (IsCommand (with_period app)) }
+{
+    let command = with(command, word(alloc, "from", "MOMENT", FROM));
+    let command = with(command, word(alloc, "to", "MOMENT", TO));
+    with(command, word(alloc, "in", "PERIOD", IN))
+}
+
+/// The same with the letters that last(1) has.
+#[inline(never)]
+fn with_lettered_period<'a>(alloc: Global, command: Made<'a>) -> Made<'a>
+    ensures { (app : App) → IfOk command.entry (IsCommand app) → IfOk result (IsCommand (with_lettered_period app)) }
+{
+    let command = with(command, lettered(alloc, "from", 's', FROM));
+    let command = with(command, lettered(alloc, "to", 't', TO));
+    with(command, word(alloc, "in", "PERIOD", IN))
+}
+
 /// The options and the files that each subcommand has.
 #[inline(never)]
 fn with_options<'a>(alloc: Global, command: Made<'a>, files: &'a str) -> Made<'a>
@@ -165,111 +218,4 @@ fn named<'a>(alloc: Global, name: &'a str, about: &'a str) -> Command<'a>
     ensures { IsCommand (new_app name.entry.now) result }
 {
     Command::new(alloc, name).about(about)
-}
-
-fn limit<'a>(alloc: Global) -> Arg<'a>
-    ensures rule { rule_of result ≡ limit_rule }
-    ensures local { result.global ≡ false }
-{
-    Arg::new(alloc, "limit")
-        .short('n')
-        .value_name("N")
-        .help("Show the latest N stays of each file, as in -n 5, 1 to 1048576 [default: all]")
-        .value_parser(value_parser!(u32).range(1..=1_048_576))
-}
-
-fn flag<'a>(alloc: Global, id: &'a str, short: char, help: &'a str) -> Arg<'a>
-    ensures rule { rule_of result ≡ flag_rule id.entry.now short }
-    ensures local { result.global ≡ false }
-{
-    Arg::new(alloc, id)
-        .short(short)
-        .help(help)
-        .action(ArgAction::SetTrue)
-}
-
-fn csv<'a>(alloc: Global) -> Arg<'a>
-    ensures rule { rule_of result ≡ csv_rule }
-    ensures local { result.global ≡ false }
-{
-    Arg::new(alloc, "csv")
-        .long("csv")
-        .help("Print one table in CSV, in seconds and whole numbers, for other programs")
-        .action(ArgAction::SetTrue)
-}
-
-fn askers<'a>(alloc: Global) -> Arg<'a>
-    ensures rule { rule_of result ≡ askers_rule }
-    ensures local { result.global ≡ false }
-{
-    number(alloc, "askers", value_parser!(u32).range(0..=64), "0").help(
-        "Ask reports with N threads while files are read, and print none of them, 0 to 64",
-    )
-}
-
-fn feeders<'a>(alloc: Global) -> Arg<'a>
-    ensures rule { rule_of result ≡ feeders_rule }
-    ensures local { result.global ≡ false }
-{
-    number(alloc, "feeders", value_parser!(u32).range(1..=64), "4").help(
-        "Read files with up to N threads, one a file, 1 to 64",
-    )
-}
-
-fn until<'a>(alloc: Global) -> Arg<'a>
-    ensures rule { rule_of result ≡ until_rule }
-    ensures local { result.global ≡ false }
-{
-    Arg::new(alloc, "until")
-        .long("until")
-        .value_name("MOMENT")
-        .help(
-            "Count open sessions up to MOMENT, as 2026-07-01, 2026-07-01T10:30, @1782864000 or now [default: the last record]",
-        )
-}
-
-fn zone<'a>(alloc: Global) -> Arg<'a>
-    ensures rule { rule_of result ≡ zone_rule }
-    ensures local { result.global ≡ false }
-{
-    Arg::new(alloc, "zone")
-        .long("zone")
-        .value_name("ZONE")
-        .help(
-            "Show times, cut days and read moments by the local time of ZONE: local, a name as Europe/Berlin, a file or a rule",
-        )
-        .value_parser(ValueParser::NonEmptyString)
-}
-
-fn file<'a>(alloc: Global, help: &'a str) -> Arg<'a>
-    ensures rule { rule_of result ≡ file_rule }
-    ensures local { result.global ≡ false }
-{
-    Arg::new(alloc, "file")
-        .value_name("FILE")
-        .help(help)
-        .required(true)
-        .num_args(1..)
-}
-
-/// A long option with minutes from UTC.
-fn minutes<'a>(alloc: Global, name: &'a str, help: &'a str) -> Arg<'a>
-    ensures rule { rule_of result ≡ minutes_rule name.entry.now }
-    ensures local { result.global ≡ false }
-{
-    number(alloc, name, value_parser!(u32).range(0..=1439), "0")
-        .value_name("M")
-        .help(help)
-}
-
-/// A long option with a number.
-fn number<'a>(alloc: Global, name: &'a str, parser: ValueParser<'a>, default: &'a str) -> Arg<'a>
-    ensures rule { rule_of result ≡ number_rule name.entry.now parser.entry default.entry.now }
-    ensures local { result.global ≡ false }
-{
-    Arg::new(alloc, name)
-        .long(name)
-        .value_name("N")
-        .value_parser(parser)
-        .default_value(default)
 }

@@ -1,17 +1,22 @@
 //! What a run of the program is to do.
+use tally_records::LoginChoice;
 use tally_usage::Order;
 
-/// The report that is asked for.
+/// The report that is asked for, and what it is over.
 #[derive(Clone, Copy, Debug, PartialEq, Eq)]
 pub enum Report {
-    /// The stays of each file, the latest first, as last(1) lists them.
+    /// The stays of each file, the latest first, as last(1) lists them; as a table with the seconds
+    /// within the period, where `within`.
     Last {
         limit: Option<u32>,
+        choice: LoginChoice,
+        within: bool,
     },
     /// Connect time over all files, as ac(1) sums it.
     Connect {
         by_day: bool,
         by_user: bool,
+        choice: LoginChoice,
     },
     /// The usage of commands over all files, as sa(8) sums it.
     Commands {

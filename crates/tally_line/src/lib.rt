@@ -1,17 +1,19 @@
 //! The command line of `tally`, read as a job.
 //!
-//! `words` makes a `line` of the words: `command` is what the parser knows, `given` are the words of options, `options` what the
-//! options of a report set, `moments` its `times`, `offsets` refuses what only looks like minutes, `zones` a zone beside an
-//! offset, `files` the files that the words name, `refused` the answer where the parser gives no matches. A `line` asks for a
-//! `job`, or for help; `settling` makes a second of the moment of a job.
+//! `words` makes a `line` of the words: `command` is what the parser knows and `args` its arguments, `given` are the words of
+//! options, `options` what the options of a report set, `named` the users and lines, `moments` its `times`, `offsets` refuses
+//! what only looks like minutes, `zones` a zone beside an offset, `files` the files that the words name, `refused` the answer
+//! where the parser gives no matches. A `line` asks for a `job`, or for help; `settling` makes seconds of the times of a job.
 #![tactic(auto)]
 
+mod args;
 mod command;
 mod files;
 mod given;
 mod job;
 mod line;
 mod moments;
+mod named;
 mod offsets;
 mod options;
 mod refused;

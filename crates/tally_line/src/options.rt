@@ -3,15 +3,19 @@ ghost use Rattle.std.specs.Prelude.{◌≡◌, ◌≢◌, ◌⊎◌, ◌≤◌, 
 ghost use Rattle.clap.specs.Words.{found_of, rows_of};
 ghost use Rattle.tally_line.specs.Jobs.{IsRunnable, TakesForm};
 ghost use Rattle.tally_line.specs.Lines.{AsksForm, IsFormOf, name_of};
+ghost use Rattle.tally_line.specs.Named.{AreNamed};
 ghost use Rattle.tally_line.specs.Options.{AreAskersOf, IsFlag, IsNumber, IsOffsetOf, IsOptional, IsReportOf, SetsJob, is_by_calls};
 ghost use Rattle.tally_line.specs.declared.job.Report.{Report};
 
 use crate::job::{Form, Job, Report};
+use crate::moments::has_period;
+use crate::named::login_choice;
 use clap::ArgMatches;
 use tally_usage::Order;
 
 /// The report that a subcommand's name and matches ask for.
 pub(crate) fn report_of(name: &str, matches: &ArgMatches<'_>) -> Option<Report>
+    requires { AreNamed (rows_of (found_of matches.now)) }
     ensures named { IfSome result (λ r. name.now ≡ name_of r) }
     ensures options { IfSome result (λ r. IsReportOf r (rows_of (found_of matches.now))) }
     ensures none { IfNone result ((r : Report) → name.now ≢ name_of r) }
@@ -19,10 +23,13 @@ pub(crate) fn report_of(name: &str, matches: &ArgMatches<'_>) -> Option<Report>
     match name {
         "last" => Some(Report::Last {
             limit: optional(matches, "limit", 1, 1_048_576),
+            choice: login_choice(matches),
+            within: has_period(matches),
         }),
         "ac" => Some(Report::Connect {
             by_day: flag(matches, "by_day"),
             by_user: flag(matches, "by_user"),
+            choice: login_choice(matches),
         }),
         "sa" => Some(usage_report(matches)),
         "all" => Some(Report::All),

@@ -9,6 +9,12 @@ use tally_moments::Moment;
 pub struct Times {
     /// `--until`: up to when stays count that nothing has ended.
     pub until: Option<Moment>,
+    /// `--from`, or the beginning of `--in`.
+    pub from: Option<Moment>,
+    /// `--to`, or the end of `--in`.
+    pub to: Option<Moment>,
+    /// `--at`, beside which there is none of these two.
+    pub at: Option<Moment>,
 }
 
 fn is_now(moment: Option<Moment>) -> bool
@@ -27,6 +33,6 @@ impl Times {
     pub fn ask_now(&self) -> bool
         ensures { result ≡ ask_now self.now }
     {
-        is_now(self.until)
+        is_now(self.until) || is_now(self.from) || is_now(self.to) || is_now(self.at)
     }
 }

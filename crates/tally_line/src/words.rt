@@ -1,13 +1,14 @@
 //! The command line's words read as a job.
 ghost use Rattle.std.specs.Prelude.{◌≡◌, [], Some, IfErr, IfNone, IfOk, IfSome, map, slice_index_or, string_bytes};
 ghost use Rattle.clap.specs.Words.{found_of, rows_of, subcommand_rows_of};
-ghost use Rattle.tally_line.specs.Lines.{Answers, HasNoWord, HasSoundTimes, Refuses, file_words, met_in, words_in};
+ghost use Rattle.tally_line.specs.Lines.{Answers, AreSound, HasNoWord, Refuses, file_words, met_in, words_in};
 ghost use Rattle.tally_line.specs.inside.LineSteps.{IsComplete, IsFaultOf, IsLineOf};
 
 use crate::command;
 use crate::files::files_of;
 use crate::line::{Line, LineFault};
 use crate::moments::{mistake_in_moments, times_in};
+use crate::named::mistake_in_names;
 use crate::offsets::{NOT_PLAIN, has_plain_offsets};
 use crate::options::{job_from, report_of};
 use crate::refused::{fault_of, refused};
@@ -82,16 +83,16 @@ fn run_under(alloc: Global, name: &str, matches: &ArgMatches<'_>) -> Result<Line
     ensures ok { IfOk result (IsLineOf (Some (name.now, rows_of (found_of matches.now)))) }
     ensures err { IfErr result (IsFaultOf (Some (name.now, rows_of (found_of matches.now)))) }
 {
+    if let Some(mistake) = mistake_in(matches) {
+        let text = String::from_str(alloc, mistake)?;
+        return Err(LineFault::Usage { text });
+    }
     let Some(report) = report_of(name, matches) else {
         unreachable!()
     };
     let Some(words) = matches.get_raw("file") else {
         unreachable!()
     };
-    if let Some(mistake) = mistake_in(matches) {
-        let text = String::from_str(alloc, mistake)?;
-        return Err(LineFault::Usage { text });
-    }
     let files = files_of(alloc, report, words)?;
     let zone = zone_of(alloc, matches)?;
     let job = job_from(report, matches);
@@ -104,16 +105,16 @@ fn run_under(alloc: Global, name: &str, matches: &ArgMatches<'_>) -> Result<Line
     })
 }
 
-/// What is wrong with the offsets, the zone and the moments, where anything is.
+/// What is wrong with the values of options, where anything is.
 fn mistake_in(matches: &ArgMatches<'_>) -> Option<&'static str>
-    ensures some { IfSome result (λ text. ¬ HasSoundTimes (rows_of (found_of matches.now))) }
-    ensures none { IfNone result (HasSoundTimes (rows_of (found_of matches.now))) }
+    ensures some { IfSome result (λ text. ¬ AreSound (rows_of (found_of matches.now))) }
+    ensures none { IfNone result (AreSound (rows_of (found_of matches.now))) }
 {
     if !has_plain_offsets(matches) {
         Some(NOT_PLAIN)
     } else if !has_one_clock(matches) {
         Some(TWO_CLOCKS)
     } else {
-        mistake_in_moments(matches)
+        mistake_in_names(matches).or(mistake_in_moments(matches))
     }
 }

@@ -6,7 +6,7 @@ use Rattle.tally_line.specs.FileWords.{IsFirstBare}
 use Rattle.tally_line.specs.declared.job.Report.{Report}
 use Rattle.tally_line.specs.declared.line.Line.{Line}
 use Rattle.tally_line.specs.declared.line.LineFault.{LineFault}
-use Rattle.tally_line.specs.Lines.{Met, file_words, rows_met, AsksFor, HasSoundTimes, IsRunOf, IsShown}
+use Rattle.tally_line.specs.Lines.{Met, file_words, rows_met, AsksFor, AreSound, IsRunOf, IsShown}
 use Rattle.tally_line.specs.declared.job.Report.TheVariants as report
 use Rattle.tally_line.specs.declared.line.Line.TheVariants as line
 use Rattle.tally_line.specs.declared.line.LineFault.TheVariants as fault
@@ -19,7 +19,7 @@ IsLineOf met (line.Help text) = ⊥
 -- why complete matches are refused
 abbrev pub IsFaultOf : Met → LineFault → Type 0
 IsFaultOf met fault.Memory = ⊤
-IsFaultOf met (fault.Usage text) = ¬ HasSoundTimes (rows_met met)
+IsFaultOf met (fault.Usage text) = ¬ AreSound (rows_met met)
 IsFaultOf met (fault.Prefix index) = AsksFor report.All met × IsFirstBare (file_words met) index
 
 -- why words name no files to a report

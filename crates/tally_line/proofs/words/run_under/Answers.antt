@@ -11,9 +11,9 @@ unreachable-requires-in_default-get_raw c =
 pub returns-in_err-files-clause-err : goal.returns-in_err-files-clause-err
 returns-in_err-files-clause-err c =
     let p = err_from_is_err_and c.from_residual-in_err-files.result c.from_residual-in_err-files.ensures.1 in
-    rw (p.1, p.2) (file_fault c.args.name.now (rows_of (found_of c.args.matches.now)) _ _ _ c.in-Some.ensures.named (some_file_words (found_of c.args.matches.now) c.in-Some-get_raw.words.now c.in-Some-get_raw.ensures) c.in_err-files.ensures.err)
+    rw (p.1, p.2) (file_fault c.args.name.now (rows_of (found_of c.args.matches.now)) _ _ _ c.in-Some-report_of.ensures.named (some_file_words (found_of c.args.matches.now) c.in-Some-get_raw.words.now c.in-Some-get_raw.ensures) c.in_err-files.ensures.err)
 
 pub returns-clause-ok : goal.returns-clause-ok
 returns-clause-ok c =
-    run_found c.args.name.now (rows_of (found_of c.args.matches.now)) _ c.in-Some-get_raw.words.now _ _ _ _ c.in-Some.ensures.named (some_file_words (found_of c.args.matches.now) c.in-Some-get_raw.words.now c.in-Some-get_raw.ensures)
+    run_found c.args.name.now (rows_of (found_of c.args.matches.now)) _ c.in-Some-get_raw.words.now _ _ _ _ c.in-Some-report_of.ensures.named (some_file_words (found_of c.args.matches.now) c.in-Some-get_raw.words.now c.in-Some-get_raw.ensures)
     c.requires.file c.job_from-job.ensures.report c.job_from-job.ensures.runnable c.job_from-job.ensures.few c.job_from-job.ensures.asked c.job_from-job.ensures.form c.job_from-job.ensures.options c.times_in-times.ensures.value c.times_in-times.ensures.until c.in_ok-zone.ensures (search rules) c.in_ok-files.ensures.ok
