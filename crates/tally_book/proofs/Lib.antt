@@ -1,4 +1,3 @@
-pub mod AnswerLemmas
 pub mod AskLemmas
 pub mod Growth
 pub mod Own

@@ -1,15 +1,23 @@
 //! Answers of sessions and a summary to questions.
 ghost use Rattle.std.specs.Prelude.{◌≡◌, ◌≢◌, ◌<◌, IfOk, IfErr, OnOk};
-ghost use Rattle.tally_book.specs.Answers.{answer_of, HasDays, IsAskable, NamesHostBelow};
+ghost use Rattle.tally_book.specs.Answers.{answer_of, connect_rows, HasDays, IsAskable, NamesHostBelow};
 ghost use Rattle.tally_book.specs.inside.Refusals.{IsNoSuchHost};
+ghost use Rattle.tally_sessions.specs.Days.{IsOffset, local};
+ghost use Rattle.tally_sessions.specs.Sums.{seconds_in, sessions_of};
+ghost use Rattle.tally_sessions.specs.Totals.{first_time, latest_stays};
+ghost use Rattle.tally_usage.specs.Command.{command_rows};
+ghost use Rattle.tally_usage.specs.Totals.{records_of};
+ghost use Rattle.tally_usage.specs.Usage.{usage_of};
+ghost use Rattle.tally_usage.specs.User.{user_rows};
 
 use crate::connect::connect_rows;
 use crate::fault::AskFault;
 use crate::question::{Answer, Question};
 use std::alloc::Global;
 use tally_clock::Clock;
+use tally_records::{LoginChoice, Memory};
 use tally_sessions::Sessions;
-use tally_usage::Summary;
+use tally_usage::{Order, Summary};
 
 /// Sees that a question's host is one of so many.
 pub(crate) fn check_host(hosts: u32, question: &Question) -> Result<(), AskFault>
@@ -22,8 +30,112 @@ pub(crate) fn check_host(hosts: u32, question: &Question) -> Result<(), AskFault
     }
 }
 
-/// The answer to a question, with days by a clock.
+fn last_answer(
+    alloc: Global,
+    sessions: &Sessions,
+    host: u32,
+    limit: Option<u32>,
+    choice: &LoginChoice,
+    until: Option<i32>,
+) -> Result<Answer, Memory>
+    requires { host < sessions.now.hosts }
+    ensures { IfOk result (λ a. a ≡ Answer.Last (latest_stays host limit choice.now sessions.now.entries until) (first_time host sessions.now.entries)) }
+{
+    let rows = sessions.stays(alloc, host, limit, choice, until)?;
+    let first = sessions.first(host);
+    Ok(Answer::Last { rows, first })
+}
+
+fn connect_answer(
+    alloc: Global,
+    clock: &Clock,
+    sessions: &Sessions,
+    by_day: bool,
+    by_user: bool,
+    offset: i32,
+    choice: &LoginChoice,
+    until: Option<i32>,
+) -> Result<Answer, Memory>
+    requires { IsOffset offset }
+    ensures value { IfOk result (λ a. a ≡ Answer.Connect (connect_rows by_day by_user (local clock.now offset) choice.now sessions.now.entries until) (seconds_in (sessions_of choice.now sessions.now.entries until))) }
+    ensures days { IfOk result HasDays }
+{
+    let rows = connect_rows(
+        alloc, clock, sessions, by_day, by_user, offset, choice, until,
+    )?;
+    let total = sessions.total(choice, until);
+    Ok(Answer::Connect { rows, total })
+}
+
+fn commands_answer(
+    alloc: Global,
+    summary: &Summary,
+    order: Order,
+    reverse: bool,
+    all: bool,
+) -> Result<Answer, Memory>
+    ensures { IfOk result (λ a. a ≡ Answer.Commands (command_rows order all reverse (records_of summary.now.entries)) (usage_of (records_of summary.now.entries))) }
+{
+    let rows = summary.by_command(alloc, order, all, reverse)?;
+    let total = summary.total();
+    Ok(Answer::Commands { rows, total })
+}
+
+fn users_answer(
+    alloc: Global,
+    summary: &Summary,
+    order: Order,
+    reverse: bool,
+) -> Result<Answer, Memory>
+    ensures { IfOk result (λ a. a ≡ Answer.Users (user_rows order reverse (records_of summary.now.entries)) (usage_of (records_of summary.now.entries))) }
+{
+    let rows = summary.by_user(alloc, order, reverse)?;
+    let total = summary.total();
+    Ok(Answer::Users { rows, total })
+}
+
+/// The answer to a question, where there is memory for it.
 #[tactic(auto, unfolding(crate::specs::Answers::answer_of))]
+fn answer_in(
+    alloc: Global,
+    clock: &Clock,
+    sessions: &Sessions,
+    hosts: u32,
+    summary: &Summary,
+    question: &Question,
+) -> Result<Answer, Memory>
+    requires hosts { hosts ≡ sessions.now.hosts }
+    requires host { NamesHostBelow hosts question.now }
+    requires askable { IsAskable question.now }
+    ensures value { IfOk result (λ a. a ≡ answer_of clock.now question.now sessions.now.entries summary.now.entries) }
+    ensures days { IfOk result HasDays }
+{
+    match question {
+        Question::Last {
+            host,
+            limit,
+            choice,
+            until,
+        } => last_answer(alloc, sessions, *host, *limit, choice, *until),
+        Question::Connect {
+            by_day,
+            by_user,
+            offset,
+            choice,
+            until,
+        } => connect_answer(
+            alloc, clock, sessions, *by_day, *by_user, *offset, choice, *until,
+        ),
+        Question::Commands {
+            order,
+            reverse,
+            all,
+        } => commands_answer(alloc, summary, *order, *reverse, *all),
+        Question::Users { order, reverse } => users_answer(alloc, summary, *order, *reverse),
+    }
+}
+
+/// The answer to a question, with days by a clock.
 pub(crate) fn answer(
     alloc: Global,
     clock: &Clock,
@@ -39,31 +151,6 @@ pub(crate) fn answer(
     ensures days { IfOk result HasDays }
     ensures cause { IfErr result (λ f. f ≡ AskFault.Memory) }
 {
-    match *question {
-        Question::Last { host, limit, until } => Ok(Answer::Last {
-            rows: sessions.stays(alloc, host, limit, until)?,
-            first: sessions.first(host),
-        }),
-        Question::Connect {
-            by_day,
-            by_user,
-            offset,
-            until,
-        } => Ok(Answer::Connect {
-            rows: connect_rows(alloc, clock, sessions, by_day, by_user, offset, until)?,
-            total: sessions.total(until),
-        }),
-        Question::Commands {
-            order,
-            reverse,
-            all,
-        } => Ok(Answer::Commands {
-            rows: summary.by_command(alloc, order, all, reverse)?,
-            total: summary.total(),
-        }),
-        Question::Users { order, reverse } => Ok(Answer::Users {
-            rows: summary.by_user(alloc, order, reverse)?,
-            total: summary.total(),
-        }),
-    }
+    let answer = answer_in(alloc, clock, sessions, hosts, summary, question)?;
+    Ok(answer)
 }

@@ -6,7 +6,7 @@ ghost use Rattle.tally_sessions.specs.Days.{IsDay, IsOffset, local};
 use crate::question::ConnectRow;
 use std::alloc::{AllocError, Global};
 use tally_clock::Clock;
-use tally_records::{List, Memory};
+use tally_records::{List, LoginChoice, Memory};
 use tally_sessions::{DayTime, DayUserTime, Sessions, UserTime};
 
 fn user_rows(alloc: Global, times: &[UserTime]) -> Result<Vec<ConnectRow>, AllocError>
@@ -48,7 +48,8 @@ fn day_user_rows(alloc: Global, times: &[DayUserTime]) -> Result<Vec<ConnectRow>
         .collect(alloc)
 }
 
-/// The rows of connect times by day, by user, by both or none, with days by a clock and an offset in minutes east of it.
+/// The rows of connect times of the chosen sessions by day, by user, by both or none, with days by a clock and an offset in
+/// minutes east of it.
 pub(crate) fn connect_rows(
     alloc: Global,
     clock: &Clock,
@@ -56,24 +57,25 @@ pub(crate) fn connect_rows(
     by_day: bool,
     by_user: bool,
     offset: i32,
+    choice: &LoginChoice,
     until: Option<i32>,
 ) -> Result<List<ConnectRow>, Memory>
     requires { IsOffset offset }
-    ensures value { IfOk result (λ rows. rows ≡ connect_rows by_day by_user (local clock.now offset) sessions.now.entries until) }
+    ensures value { IfOk result (λ rows. rows ≡ connect_rows by_day by_user (local clock.now offset) choice.now sessions.now.entries until) }
     ensures days { IfOk result (All HasDay) }
 {
     match (by_day, by_user) {
         (false, false) => Ok(List::new(alloc)),
         (false, true) => {
-            let times = sessions.connect_by_user(alloc, until)?;
+            let times = sessions.connect_by_user(alloc, choice, until)?;
             List::from_vec(alloc, user_rows(alloc, times.as_slice())?)
         }
         (true, false) => {
-            let times = sessions.connect_by_day(alloc, clock, offset, until)?;
+            let times = sessions.connect_by_day(alloc, clock, offset, choice, until)?;
             List::from_vec(alloc, day_rows(alloc, times.as_slice())?)
         }
         (true, true) => {
-            let times = sessions.connect_by_day_user(alloc, clock, offset, until)?;
+            let times = sessions.connect_by_day_user(alloc, clock, offset, choice, until)?;
             List::from_vec(alloc, day_user_rows(alloc, times.as_slice())?)
         }
     }

@@ -1,27 +1,28 @@
 ghost use Rattle.std.specs.Prelude.{◌≡◌, IfOk};
 
 use std::alloc::Global;
-use tally_records::{List, Memory, Name};
+use tally_records::{List, LoginChoice, Memory, Name};
 use tally_sessions::Stay;
 use tally_usage::{CommandRow, Order, UidRow, Usage};
 
 /// A report that may be asked for.
 #[derive(Clone, Copy, Debug, PartialEq, Eq)]
 pub enum Question {
-    /// The stays of a host, the latest first, as last(1) lists them; the first `limit` of them.
-    /// Those that nothing has ended count up to `until`, in seconds since 1970, or else to the host's
-    /// last record.
+    /// The chosen stays of a host, the latest first, as last(1) lists them; the first `limit` of them. Those that nothing has
+    /// ended count up to `until`, in seconds since 1970, or else to the host's last record.
     Last {
         host: u32,
         limit: Option<u32>,
+        choice: LoginChoice,
         until: Option<i32>,
     },
-    /// Connect times, as ac(1) sums them; days at an offset in minutes east of UTC. Sessions that
+    /// Connect times of the chosen sessions, as ac(1) sums them; days at an offset in minutes east of UTC. Sessions that
     /// nothing has ended count as in the list of stays.
     Connect {
         by_day: bool,
         by_user: bool,
         offset: i32,
+        choice: LoginChoice,
         until: Option<i32>,
     },
     /// Usage by command, as sa(8) sums it.
