@@ -1,5 +1,5 @@
 -- What a reader gets from the tables.
-use Rattle.std.proofs.Common.{◌≡◌, ℕ, ℤ, ◌<◌, ◌^◌, ◌∷◌, ◌++◌, List, [], All, refl, ◌∙◌, Bool, true, false, ap, flat_map, map, arith}
+use Rattle.std.proofs.Common.{None, Some, ◌≡◌, ℕ, ℤ, ◌<◌, ◌^◌, ◌∷◌, ◌++◌, List, [], All, refl, ◌∙◌, Bool, true, false, ap, flat_map, map, arith}
 use Rattle.std.proofs.lemmas.Fmt.{decimal_is_IsNumeral}
 use Rattle.std.proofs.lemmas.List.Elements.{All-tail}
 use Rattle.std.proofs.lemmas.List.{map-append}
@@ -13,7 +13,8 @@ use Rattle.tally_usage.specs.declared.command.CommandRow.{CommandRow}
 use Rattle.tally_usage.specs.declared.user.UidRow.{UidRow}
 use Rattle.tally_print.specs.ConnectTable.{connect_fields, connect_header}
 use Rattle.tally_print.specs.ReportTable.{answer_rows, connect_rows, header, report_rows, table_text}
-use Rattle.tally_print.specs.StayTable.{stay_fields, stay_header, who_fields}
+use Rattle.tally_print.specs.StayTable.{part_fields, part_header, stay_fields, stay_header, who_fields}
+use Rattle.tally_records.specs.declared.period.Period.{Period}
 use Rattle.tally_print.specs.UsageTable.{command_fields, command_header, name_fields, user_fields, user_header}
 use Rattle.tally_print.specs.Tables.{Row, csv_rows, csv_text, last_number}
 use Rattle.tally_print.specs.declared.report_table.Table.{Table}
@@ -36,6 +37,10 @@ stay_fields-some : (clock : ℤ → ℤ) (stay : Stay) → read_back (stay_field
 unfolding stay_fields who_fields
 stay_fields-some clock stay = refl
 
+part_fields-some : (clock : ℤ → ℤ) (period : Period) (stay : Stay) → read_back (part_fields clock period stay) ≡ part_fields clock period stay
+unfolding part_fields stay_fields who_fields
+part_fields-some clock period stay = refl
+
 command_fields-some : (row : CommandRow) → read_back (command_fields row) ≡ command_fields row
 unfolding command_fields name_fields
 command_fields-some row = refl
@@ -46,10 +51,14 @@ user_fields-some row = refl
 
 -- the rows of an answer come back as they are
 same_answer : (table : Table) (clock : ℤ → ℤ) (answer : Answer) → map read_back (answer_rows table clock answer) ≡ answer_rows table clock answer
-same_answer Stays clock (answers.Last rows first) = same_rows (stay_fields clock) (stay_fields-some clock) rows
-same_answer Stays clock (answers.Connect rows total) = refl
-same_answer Stays clock (answers.Commands rows total) = refl
-same_answer Stays clock (answers.Users rows total) = refl
+same_answer (Stays None) clock (answers.Last rows first) = same_rows (stay_fields clock) (stay_fields-some clock) rows
+same_answer (Stays None) clock (answers.Connect rows total) = refl
+same_answer (Stays None) clock (answers.Commands rows total) = refl
+same_answer (Stays None) clock (answers.Users rows total) = refl
+same_answer (Stays (Some period)) clock (answers.Last rows first) = same_rows (part_fields clock period) (part_fields-some clock period) rows
+same_answer (Stays (Some period)) clock (answers.Connect rows total) = refl
+same_answer (Stays (Some period)) clock (answers.Commands rows total) = refl
+same_answer (Stays (Some period)) clock (answers.Users rows total) = refl
 same_answer (Connect by_day by_user) clock (answers.Last rows first) = refl
 same_answer (Connect by_day by_user) clock (answers.Connect rows total) =
     same_rows (connect_fields by_day by_user) (connect_fields-some by_day by_user) (connect_rows by_day by_user rows total)
@@ -72,8 +81,9 @@ same_answers table clock (answer ∷ all) =
 
 -- a header has a field, and begins with no byte order mark
 header-some : (table : Table) → read_back (header table) ≡ header table
-unfolding stay_header connect_header command_header user_header
-header-some Stays = refl
+unfolding part_header stay_header connect_header command_header user_header
+header-some (Stays None) = refl
+header-some (Stays (Some period)) = refl
 header-some (Connect true true) = refl
 header-some (Connect true false) = refl
 header-some (Connect false true) = refl
@@ -82,8 +92,9 @@ header-some Commands = refl
 header-some Users = refl
 
 header-plain : (table : Table) (rest : List ℕ) → strip_bom (row_text default_writer (header table) ++ rest) ≡ row_text default_writer (header table) ++ rest
-unfolding stay_header connect_header command_header user_header fields_text is_blank strip_bom
-header-plain Stays rest = refl
+unfolding part_header stay_header connect_header command_header user_header fields_text is_blank strip_bom
+header-plain (Stays None) rest = refl
+header-plain (Stays (Some period)) rest = refl
 header-plain (Connect true true) rest = refl
 header-plain (Connect true false) rest = refl
 header-plain (Connect false true) rest = refl

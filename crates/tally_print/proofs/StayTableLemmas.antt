@@ -8,7 +8,9 @@ use Rattle.std.proofs.lemmas.Grind.{flat_map-append}
 use Rattle.csv.specs.Writing.{default_writer, field_text, row_text}
 use Rattle.tally_clock.specs.Days.{day_of}
 use Rattle.tally_sessions.specs.declared.entry.Stay.{Stay}
-use Rattle.tally_print.specs.StayTable.{end_fields, end_word, iso_moment, line_field, start_fields, stay_fields, user_field, who_fields, zone}
+use Rattle.tally_print.specs.StayTable.{end_fields, end_word, iso_moment, line_field, part_fields, start_fields, stay_fields, user_field, who_fields, zone}
+use Rattle.tally_records.specs.declared.period.Period.{Period}
+use Rattle.tally_sessions.specs.Choice.{seconds_within}
 use Rattle.tally_print.specs.Tables.{Row}
 use Rattle.tally_print.specs.inside.Tables.{before_last}
 use Rattle.tally_print.specs.Text.{second_of_day, shown, time_of_day, two}
@@ -77,3 +79,37 @@ pub stay_row_text : (line : List ℕ) (clock : ℤ → ℤ) (stay : Stay)
     ++ (decimal stay.length ++ 10 ∷ []) ≡ line ++ row_text default_writer (stay_fields clock stay)
 stay_row_text line clock stay =
     rw (joined clock stay, who_text stay, start_text clock stay, ending_text clock stay) (five_parts line _ _ _ _)
+
+-- the parts of a row with the seconds in a period
+before_stay : (clock : ℤ → ℤ) (stay : Stay) → before_last (stay_fields clock stay)
+    ≡ ((before_last (who_fields stay) ++ before_last (start_fields clock stay)) ++ before_last (end_fields clock stay)) ++ (decimal stay.length ++ 44 ∷ [])
+before_stay clock stay =
+    let comma : List ℕ → List ℕ = λ field. field_text default_writer field ++ 44 ∷ [] in
+    ap before_last (opened clock stay)
+    ∙ rw (
+      flat_map-append comma ((who_fields stay ++ start_fields clock stay) ++ end_fields clock stay) (decimal stay.length ∷ []),
+      flat_map-append comma (who_fields stay ++ start_fields clock stay) (end_fields clock stay),
+      flat_map-append comma (who_fields stay) (start_fields clock stay),
+      number_as_field stay.length,
+      append-nil (decimal stay.length ++ 44 ∷ []),
+    ) refl
+
+six_parts : (a b d e f g : List ℕ) → ((((a ++ b) ++ d) ++ e) ++ f) ++ g ≡ a ++ ((((b ++ d) ++ e) ++ f) ++ g)
+six_parts a b d e f g = simp append_assoc
+
+pub part_row_text : (line : List ℕ) (clock : ℤ → ℤ) (period : Period) (stay : Stay)
+    → ((((line ++ (decimal (stay.host + 1) ++ 44 ∷ [] ++ field_text default_writer (user_field stay) ++ 44 ∷ [] ++ (field_text default_writer (line_field stay) ++ 44 ∷ [] ++ (field_text default_writer (shown stay.remote) ++ 44 ∷ []))))
+    ++ (signed_decimal stay.start ++ 44 ∷ [] ++ iso_moment stay.start clock ++ 44 ∷ [] ++ (signed_decimal stay.begin ++ 44 ∷ [])))
+    ++ (field_text default_writer (end_word stay.end) ++ 44 ∷ [] ++ signed_decimal stay.end_time ++ 44 ∷ [] ++ iso_moment stay.end_time clock ++ 44 ∷ []))
+    ++ (decimal stay.length ++ 44 ∷ [])) ++ (decimal (seconds_within period stay) ++ 10 ∷ []) ≡ line ++ row_text default_writer (part_fields clock period stay)
+unfolding part_fields
+part_row_text line clock period stay =
+    let n = seconds_within period stay in
+    rw (
+      row_text_last (stay_fields clock stay) (decimal n) (number_shows n),
+      number_as_field n,
+      before_stay clock stay,
+      who_text stay,
+      start_text clock stay,
+      ending_text clock stay,
+    ) (six_parts line _ _ _ _ _)

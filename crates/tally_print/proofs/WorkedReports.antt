@@ -2,6 +2,7 @@
 use Rattle.std.proofs.Common.{◌≡◌, [], ◌∷◌, ◌++◌, map, Bool, true, false, Some, None, ℤ, pos, refl}
 use Rattle.std.specs.Fmt.{digits}
 use Rattle.std.specs.Prelude.{codes}
+use Rattle.tally_records.specs.Period.{always}
 use Rattle.tally_records.specs.Text.{padded}
 use Rattle.tally_sessions.specs.declared.entry.End.{End}
 use Rattle.tally_sessions.specs.declared.entry.End.TheVariants.{Logout, Next, Down, Crash, Still}
@@ -11,7 +12,7 @@ use Rattle.tally_usage.specs.declared.usage.Usage.{Usage}
 use Rattle.tally_print.specs.ConnectTable.{connect_fields, connect_header}
 use Rattle.tally_print.specs.LastText.{beginning, ending, line_column, user_column}
 use Rattle.tally_print.specs.ReportTable.{connect_rows, header}
-use Rattle.tally_print.specs.StayTable.{end_word, stay_header, who_fields}
+use Rattle.tally_print.specs.StayTable.{end_word, part_header, stay_header, who_fields}
 use Rattle.tally_print.specs.Text.{span}
 use Rattle.tally_print.specs.UsageTable.{command_fields, command_header, name_fields, sum_fields, user_fields, user_header}
 use Rattle.tally_print.specs.UsageText.{average, columns, command_line, named_total_line, total_line, user_line}
@@ -71,11 +72,16 @@ unfolding beginning
 no_records = refl
 
 -- the names of each table's columns
-headers : map header (Stays ∷ Commands ∷ Users ∷ []) ≡ (codes "file" ∷ codes "user" ∷ codes "line" ∷ codes "remote" ∷ codes "start" ∷ codes "start_at" ∷ codes "begin" ∷ codes "end" ∷ codes "end_time" ∷ codes "end_at" ∷ codes "seconds" ∷ [])
+headers : map header (Stays None ∷ Commands ∷ Users ∷ []) ≡ (codes "file" ∷ codes "user" ∷ codes "line" ∷ codes "remote" ∷ codes "start" ∷ codes "start_at" ∷ codes "begin" ∷ codes "end" ∷ codes "end_time" ∷ codes "end_at" ∷ codes "seconds" ∷ [])
     ∷ (codes "command" ∷ codes "forked" ∷ codes "other" ∷ codes "calls" ∷ codes "real_ticks" ∷ codes "cpu_ticks" ∷ codes "io" ∷ codes "mem_cpu" ∷ [])
     ∷ (codes "uid" ∷ codes "calls" ∷ codes "real_ticks" ∷ codes "cpu_ticks" ∷ codes "io" ∷ codes "mem_cpu" ∷ []) ∷ []
 unfolding stay_header command_header user_header
 headers = refl
+
+-- with a period, the table of stays has one column more
+part_headers : header (Stays (Some always)) ≡ codes "file" ∷ codes "user" ∷ codes "line" ∷ codes "remote" ∷ codes "start" ∷ codes "start_at" ∷ codes "begin" ∷ codes "end" ∷ codes "end_time" ∷ codes "end_at" ∷ codes "seconds" ∷ codes "within" ∷ []
+unfolding part_header stay_header
+part_headers = refl
 
 connect_headers : map header (Connect false false ∷ Connect true false ∷ Connect false true ∷ Connect true true ∷ []) ≡ (codes "seconds" ∷ []) ∷ (codes "day" ∷ codes "seconds" ∷ []) ∷ (codes "user" ∷ codes "seconds" ∷ []) ∷ (codes "day" ∷ codes "user" ∷ codes "seconds" ∷ []) ∷ []
 unfolding connect_header

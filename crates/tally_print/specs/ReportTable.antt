@@ -1,10 +1,10 @@
 -- A report as one table: the names of its columns, and the rows of its answers.
-use Rattle.std.specs.Prelude.{ℕ, ℤ, Bool, false, List, [], ◌∷◌, flat_map, map, None}
+use Rattle.std.specs.Prelude.{ℕ, ℤ, Bool, false, List, [], ◌∷◌, flat_map, map, None, Some}
 use Rattle.tally_book.specs.declared.question.Answer.{Answer}
 use Rattle.tally_book.specs.declared.question.Answer.TheVariants as answers
 use Rattle.tally_book.specs.declared.question.ConnectRow.{ConnectRow}
 use Rattle.tally_print.specs.ConnectTable.{connect_fields, connect_header}
-use Rattle.tally_print.specs.StayTable.{stay_fields, stay_header}
+use Rattle.tally_print.specs.StayTable.{part_fields, part_header, stay_fields, stay_header}
 use Rattle.tally_print.specs.Tables.{Row, csv_text}
 use Rattle.tally_print.specs.UsageTable.{command_fields, command_header, user_fields, user_header}
 use Rattle.tally_print.specs.declared.report_table.Table.{Table}
@@ -12,7 +12,8 @@ use Rattle.tally_print.specs.declared.report_table.Table.TheVariants.{Stays, Con
 
 -- the names of a table's columns
 abbrev pub header : Table → Row
-header Stays = stay_header
+header (Stays None) = stay_header
+header (Stays (Some period)) = part_header
 header (Connect by_day by_user) = connect_header by_day by_user
 header Commands = command_header
 header Users = user_header
@@ -24,7 +25,8 @@ connect_rows by_day by_user rows total = rows
 
 -- the rows of an answer, with moments by a clock; an answer to another kind of question has none
 abbrev pub answer_rows : Table → (ℤ → ℤ) → Answer → List Row
-answer_rows Stays clock (answers.Last rows first) = map (stay_fields clock) rows
+answer_rows (Stays None) clock (answers.Last rows first) = map (stay_fields clock) rows
+answer_rows (Stays (Some period)) clock (answers.Last rows first) = map (part_fields clock period) rows
 answer_rows (Connect by_day by_user) clock (answers.Connect rows total) =
     map (connect_fields by_day by_user) (connect_rows by_day by_user rows total)
 answer_rows Commands clock (answers.Commands rows total) = map command_fields rows

@@ -5,6 +5,8 @@ use Rattle.tally_clock.specs.Days.{day_of}
 use Rattle.tally_sessions.specs.declared.entry.End.{End}
 use Rattle.tally_sessions.specs.declared.entry.End.TheVariants.{Logout, Next, Down, Crash, Still}
 use Rattle.tally_sessions.specs.declared.entry.Stay.{Stay}
+use Rattle.tally_records.specs.declared.period.Period.{Period}
+use Rattle.tally_sessions.specs.Choice.{seconds_within}
 use Rattle.tally_print.specs.Tables.{Row}
 use Rattle.tally_print.specs.Text.{date, second_of_day, shown, time_of_day, two}
 
@@ -59,3 +61,11 @@ end_fields clock stay =
 unfoldable pub stay_fields : (ℤ → ℤ) → Stay → Row
 stay_fields clock stay =
     who_fields stay ++ start_fields clock stay ++ end_fields clock stay ++ decimal stay.length ∷ []
+
+-- the names of the columns, with one for the seconds in a period
+unfoldable pub part_header : Row
+part_header = stay_header ++ codes "within" ∷ []
+
+-- the fields of a stay, and the seconds that a period has of it
+unfoldable pub part_fields : (ℤ → ℤ) → Period → Stay → Row
+part_fields clock period stay = stay_fields clock stay ++ decimal (seconds_within period stay) ∷ []

@@ -3,4 +3,5 @@ pub mod LocalTime
 pub mod Moments
 pub mod Pages
 pub mod Plain
+pub mod Stays
 pub mod Tables

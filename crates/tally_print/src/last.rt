@@ -16,6 +16,7 @@ use crate::text::{push_left, push_left_shown, push_span};
 use crate::{Output, PrintFault};
 use std::alloc::{AllocError, Global};
 use tally_clock::Clock;
+use tally_records::LoginChoice;
 use tally_sessions::{End, Sessions, Stay};
 
 /// Appends a field of a stay in its column, or the words that a boot has there.
@@ -205,14 +206,15 @@ pub fn print_last<O: Output>(
     put_all(page.as_slice(), out)
 }
 
-/// Prints the latest stays of a host, no more than the limit and counted up to a moment, as `print_last` does a list of them.
-/// No list is made: each is looked up when its line is printed.
+/// Prints the latest chosen stays of a host, no more than the limit and counted up to a moment, as `print_last` does a list of
+/// them. No list is made: each is looked up when its line is printed.
 pub(crate) fn print_stays<O: Output>(
     alloc: Global,
     clock: &Clock,
     sessions: &Sessions,
     host: u32,
     limit: Option<u32>,
+    choice: &LoginChoice,
     counted: Option<i32>,
     offset: i32,
     out: &mut O,
@@ -222,14 +224,16 @@ pub(crate) fn print_stays<O: Output>(
     requires host { host < sessions.now.hosts }
     requires offset_in_range { IsOffset offset }
     ensures writes { Prints (O.state out.old) (O.state out.new) result (failed_calls result)
-        (last_text (latest_stays host limit sessions.now.entries counted) (first_time host sessions.now.entries) (local clock.now offset) until) }
+        (last_text (latest_stays host limit choice.now sessions.now.entries counted) (first_time host sessions.now.entries) (local clock.now offset) until) }
 {
     let mut page = new_page(alloc)?;
     let line = StayLine {
         local: Local { clock, offset },
         until,
     };
-    put_stays(&mut page, &line, sessions, host, limit, counted, out)?;
+    put_stays(
+        &mut page, &line, sessions, host, limit, choice, counted, out,
+    )?;
     push_beginning(&mut page, sessions.first(host), &line.local)?;
     put_all(page.as_slice(), out)
 }

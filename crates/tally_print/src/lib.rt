@@ -12,6 +12,7 @@ mod laws;
 mod lines;
 mod local;
 mod output;
+mod part_table;
 mod plain;
 mod printed_day;
 mod put;

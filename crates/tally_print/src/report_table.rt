@@ -11,6 +11,7 @@ use crate::connect::total_row;
 use crate::connect_table::{ConnectFields, connect_header};
 use crate::lines::print_fields;
 use crate::local::Local;
+use crate::part_table::{PartFields, part_header};
 use crate::put::put_all;
 use crate::stay_table::{StayFields, stay_header};
 use crate::usage_table::{CommandFields, UserFields, command_header, user_header};
@@ -18,12 +19,13 @@ use crate::{Output, PrintFault};
 use std::alloc::Global;
 use tally_book::Answer;
 use tally_clock::Clock;
+use tally_records::Period;
 
 /// Which table a report is as CSV: this says its columns.
 #[derive(Clone, Copy, Debug, PartialEq, Eq)]
 pub enum Table {
-    /// A row for each stay, of all answers.
-    Stays,
+    /// A row for each stay, of all answers, and in it the seconds that a period has of the stay, if one is given.
+    Stays { within: Option<Period> },
     /// Connect times by day, by user, by both, or the total alone.
     Connect { by_day: bool, by_user: bool },
     /// A row for each command.
@@ -36,7 +38,8 @@ pub(crate) fn header(table: Table) -> &'static [u8]
     ensures { result.now ≡ row_text default_writer (header table) }
 {
     match table {
-        Table::Stays => stay_header(),
+        Table::Stays { within: None } => stay_header(),
+        Table::Stays { within: Some(_) } => part_header(),
         Table::Connect { by_day, by_user } => connect_header(by_day, by_user),
         Table::Commands => command_header(),
         Table::Users => user_header(),
@@ -59,9 +62,14 @@ pub(crate) fn print_answer_rows<O: Output>(
         (csv_text (answer_rows table (local clock.now offset) answer.now)) }
 {
     match (table, answer) {
-        (Table::Stays, Answer::Last { rows, .. }) => {
+        (Table::Stays { within }, Answer::Last { rows, .. }) => {
             let local = Local { clock, offset };
-            print_fields(alloc, &StayFields { local }, rows.as_slice(), out)
+            match within {
+                None => print_fields(alloc, &StayFields { local }, rows.as_slice(), out),
+                Some(period) => {
+                    print_fields(alloc, &PartFields { local, period }, rows.as_slice(), out)
+                }
+            }
         }
         (Table::Connect { by_day, by_user }, Answer::Connect { rows, total }) => {
             let fields = ConnectFields { by_day, by_user };

@@ -9,10 +9,12 @@ ghost use Rattle.tally_print.specs.Sections.{sections_text};
 ghost use Rattle.tally_print.specs.Tables.{csv_text};
 ghost use Rattle.tally_sessions.specs.Days.{IsOffset, local};
 ghost use Rattle.tally_sessions.specs.Totals.{latest_stays};
-ghost use Rattle.tally_print.specs.StayTable.{stay_fields};
+ghost use Rattle.tally_sessions.specs.declared.entry.Stay.{Stay as Row};
 
 use crate::last::print_stays;
+use crate::lines::Fields;
 use crate::local::Local;
+use crate::part_table::PartFields;
 use crate::put::{new_page, put_all};
 use crate::report_table::{header, print_answer_rows};
 use crate::stay_table::StayFields;
@@ -21,17 +23,19 @@ use crate::{Output, PrintFault, Table, print_answer};
 use std::alloc::Global;
 use tally_book::Answer;
 use tally_clock::Clock;
-use tally_sessions::Sessions;
+use tally_records::LoginChoice;
+use tally_sessions::{Sessions, Stay};
 
 /// A section of an output.
 #[derive(Drop)]
 pub enum Section {
     /// What an answer says.
     Answered(Answer),
-    /// The latest stays of a host up to a limit, as the question for them has these.
+    /// The latest chosen stays of a host up to a limit, as the question for them has these.
     Stays {
         host: u32,
         limit: Option<u32>,
+        choice: LoginChoice,
         until: Option<i32>,
     },
 }
@@ -58,9 +62,10 @@ fn print_section<O: Output>(
         Section::Stays {
             host,
             limit,
+            choice,
             until: counted,
         } => print_stays(
-            alloc, clock, sessions, *host, *limit, *counted, offset, out, until,
+            alloc, clock, sessions, *host, *limit, choice, *counted, offset, out, until,
         ),
     }
 }
@@ -94,28 +99,25 @@ pub fn print_all_sections<O: Output>(
     Ok(())
 }
 
-/// Prints a row of a table for each of the latest stays of a host up to a limit.
-fn print_stay_rows<O: Output>(
+/// Prints a row of a table for each of the latest chosen stays of a host up to a limit.
+fn print_stay_rows<F: Fields<Stay>, O: Output>(
     alloc: Global,
-    clock: &Clock,
+    fields: &F,
     sessions: &Sessions,
     host: u32,
     limit: Option<u32>,
+    choice: &LoginChoice,
     until: Option<i32>,
-    offset: i32,
     out: &mut O,
 ) -> Result<(), PrintFault>
     requires writable { IsWritable (O.state out.old) }
-    requires offset { IsOffset offset }
     requires host { host < sessions.now.hosts }
+    requires printed { (stay : Row) → F.Line.prints stay }
     ensures writes { Prints (O.state out.old) (O.state out.new) result (failed_calls result)
-        (csv_text (map (stay_fields (local clock.now offset)) (latest_stays host limit sessions.now.entries until))) }
+        (csv_text (map (F.fields fields.now) (latest_stays host limit choice.now sessions.now.entries until))) }
 {
     let mut page = new_page(alloc)?;
-    let fields = StayFields {
-        local: Local { clock, offset },
-    };
-    put_stays(&mut page, &fields, sessions, host, limit, until, out)?;
+    put_stays(&mut page, fields, sessions, host, limit, choice, until, out)?;
     put_all(page.as_slice(), out)
 }
 
@@ -140,9 +142,27 @@ fn print_section_rows<O: Output>(
         (_, Section::Answered(answer)) => {
             print_answer_rows(alloc, clock, table, answer, offset, out)
         }
-        (Table::Stays, Section::Stays { host, limit, until }) => print_stay_rows(
-            alloc, clock, sessions, *host, *limit, *until, offset, out,
-        ),
+        (
+            Table::Stays { within },
+            Section::Stays {
+                host,
+                limit,
+                choice,
+                until,
+            },
+        ) => {
+            let local = Local { clock, offset };
+            match within {
+                None => {
+                    let fields = StayFields { local };
+                    print_stay_rows(alloc, &fields, sessions, *host, *limit, choice, *until, out)
+                }
+                Some(period) => {
+                    let fields = PartFields { local, period };
+                    print_stay_rows(alloc, &fields, sessions, *host, *limit, choice, *until, out)
+                }
+            }
+        }
         _ => Ok(()),
     }
 }

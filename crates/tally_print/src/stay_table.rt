@@ -122,7 +122,7 @@ fn push_place(line: &mut Vec<u8>, stay: &Stay) -> Result<(), AllocError>
     push_remote(line, stay)
 }
 
-fn push_who(line: &mut Vec<u8>, stay: &Stay) -> Result<(), AllocError>
+pub(crate) fn push_who(line: &mut Vec<u8>, stay: &Stay) -> Result<(), AllocError>
     ensures { OnOk result (line.new.items ≡ line.old.items ++ (decimal (stay.now.host + 1) ++ 44 ∷ []
         ++ field_text default_writer (user_field stay.now) ++ 44 ∷ []
         ++ (field_text default_writer (line_field stay.now) ++ 44 ∷ []
@@ -141,7 +141,7 @@ fn push_begin(line: &mut Vec<u8>, stay: &Stay) -> Result<(), AllocError>
     push_time(line, stay.begin)
 }
 
-fn push_start(
+pub(crate) fn push_start(
     line: &mut Vec<u8>,
     last: &mut PrintedDay,
     stay: &Stay,
@@ -156,7 +156,7 @@ fn push_start(
     push_begin(line, stay)
 }
 
-fn push_ending(
+pub(crate) fn push_ending(
     line: &mut Vec<u8>,
     last: &mut PrintedDay,
     stay: &Stay,

@@ -1,6 +1,6 @@
 //! The stays of a host, printed one by one: no list of them is made.
-ghost use Rattle.std.specs.Prelude.{◌≡◌, ◌<◌, ◌++◌, List, length, flat_map};
-ghost use Rattle.tally_sessions.specs.Totals.{latest_stays, limited};
+ghost use Rattle.std.specs.Prelude.{◌≡◌, ◌<◌, ◌++◌, List, length, flat_map, reverse};
+ghost use Rattle.tally_sessions.specs.Totals.{latest_stays, limited, stays_of};
 ghost use Rattle.tally_sessions.specs.declared.entry.Stay.{Stay as Row};
 ghost use Rattle.tally_print.specs.Output.{IsWritable, failed_calls};
 ghost use Rattle.tally_print.specs.inside.Pages.{Fills};
@@ -9,6 +9,7 @@ use crate::lines::Line;
 use crate::printed_day::PrintedDays;
 use crate::put::turn_page;
 use crate::{Output, PrintFault};
+use tally_records::LoginChoice;
 use tally_sessions::{End, Sessions, Stay};
 
 /// How many of so many stays are within a limit.
@@ -40,7 +41,7 @@ fn blank() -> Stay
 }
 
 /// Appends a line for each of the latest stays of a host to the page, which is written out each time that it is full.
-pub(crate) fn put_stays<L: Line<Stay>, O: Output>(
+fn put_all_stays<L: Line<Stay>, O: Output>(
     page: &mut Vec<u8>,
     line: &L,
     sessions: &Sessions,
@@ -53,7 +54,7 @@ pub(crate) fn put_stays<L: Line<Stay>, O: Output>(
     requires host { host < sessions.now.hosts }
     requires printed { (stay : Row) → L.prints stay }
     ensures fills { Fills (O.state out.old) (O.state out.new) result (failed_calls result) page.new.items
-        (page.old.items ++ flat_map (L.text line.now) (latest_stays host limit sessions.now.entries until)) }
+        (page.old.items ++ flat_map (L.text line.now) (limited limit (reverse (stays_of host sessions.now.entries until)))) }
 {
     let mut stay = blank();
     let mut days = PrintedDays::first();
@@ -63,4 +64,61 @@ pub(crate) fn put_stays<L: Line<Stay>, O: Output>(
         turn_page(page, out)?;
     }
     Ok(())
+}
+
+/// Appends a line for each of the chosen ones among these: no other counts for the limit.
+fn put_chosen_stays<L: Line<Stay>, O: Output>(
+    page: &mut Vec<u8>,
+    line: &L,
+    sessions: &Sessions,
+    host: u32,
+    limit: Option<u32>,
+    choice: &LoginChoice,
+    until: Option<i32>,
+    out: &mut O,
+) -> Result<(), PrintFault>
+    requires writable { IsWritable (O.state out.old) }
+    requires host { host < sessions.now.hosts }
+    requires printed { (stay : Row) → L.prints stay }
+    ensures fills { Fills (O.state out.old) (O.state out.new) result (failed_calls result) page.new.items
+        (page.old.items ++ flat_map (L.text line.now) (latest_stays host limit choice.now sessions.now.entries until)) }
+{
+    let mut stay = blank();
+    let mut days = PrintedDays::first();
+    let mut from = 0;
+    for _shown in 0..count_within(limit, sessions.stay_count(host)) {
+        let Some(place) = sessions.next_shown(host, from, choice, until) else {
+            return Ok(());
+        };
+        sessions.put_latest_stay(host, place, until, &mut stay);
+        line.push(page, &mut days, &stay)?;
+        turn_page(page, out)?;
+        from = place + 1;
+    }
+    Ok(())
+}
+
+/// Appends a line for each of the latest chosen stays of a host up to a limit to the page, which is written out each time that
+/// it is full.
+pub(crate) fn put_stays<L: Line<Stay>, O: Output>(
+    page: &mut Vec<u8>,
+    line: &L,
+    sessions: &Sessions,
+    host: u32,
+    limit: Option<u32>,
+    choice: &LoginChoice,
+    until: Option<i32>,
+    out: &mut O,
+) -> Result<(), PrintFault>
+    requires writable { IsWritable (O.state out.old) }
+    requires host { host < sessions.now.hosts }
+    requires printed { (stay : Row) → L.prints stay }
+    ensures fills { Fills (O.state out.old) (O.state out.new) result (failed_calls result) page.new.items
+        (page.old.items ++ flat_map (L.text line.now) (latest_stays host limit choice.now sessions.now.entries until)) }
+{
+    if sessions.shows_all(choice) {
+        put_all_stays(page, line, sessions, host, limit, until, out)
+    } else {
+        put_chosen_stays(page, line, sessions, host, limit, choice, until, out)
+    }
 }

@@ -10,19 +10,19 @@ use Rattle.tally_print.proofs.last.print_stays.Goals as goal
 
 pub returns-in_err-put_stays : goal.returns-in_err-put_stays
 returns-in_err-put_stays g c =
-    let rows = latest_stays c.args.host c.args.limit c.args.sessions.now.entries c.args.counted in
+    let rows = latest_stays c.args.host c.args.limit c.args.choice.now c.args.sessions.now.entries c.args.counted in
     let same = ap (λ (x : ℤ). flat_map (stay_line (local c.args.clock.now x) c.args.until) rows) (to_z-of_z w32 c.args.offset c.ranges.offset) in
     record { writes = page_stop _ (search rules) _ (subst (Fills _ _ _ _ _) same (rw c.in_ok-page.ensures at c.in_err-put_stays.ensures.fills)) }
 
 pub returns-in_err-push_beginning : goal.returns-in_err-push_beginning
 returns-in_err-push_beginning g c =
-    let rows = latest_stays c.args.host c.args.limit c.args.sessions.now.entries c.args.counted in
+    let rows = latest_stays c.args.host c.args.limit c.args.choice.now c.args.sessions.now.entries c.args.counted in
     let same = ap (λ (x : ℤ). flat_map (stay_line (local c.args.clock.now x) c.args.until) rows) (to_z-of_z w32 c.args.offset c.ranges.offset) in
     record { writes = page_stop Memory (search rules) _ (subst (Fills _ _ _ _ _) same (rw c.in_ok-page.ensures at c.in_ok-put_stays.ensures.fills)) }
 
 pub returns : goal.returns
 returns g c =
-    let rows = latest_stays c.args.host c.args.limit c.args.sessions.now.entries c.args.counted in
+    let rows = latest_stays c.args.host c.args.limit c.args.choice.now c.args.sessions.now.entries c.args.counted in
     let same = ap (λ (x : ℤ). flat_map (stay_line (local c.args.clock.now x) c.args.until) rows) (to_z-of_z w32 c.args.offset c.ranges.offset) in
     let lines = subst (Fills _ _ _ _ _) same (rw c.in_ok-page.ensures at c.in_ok-put_stays.ensures.fills) in
     let ending = c.in_ok-push_beginning.ensures ∙ ap (λ (x : ℤ). c.put_stays.new.page.items ++ beginning c.first.result (local c.args.clock.now x)) (to_z-of_z w32 c.args.offset c.ranges.offset)

@@ -1,11 +1,7 @@
-use Rattle.std.proofs.Common.{[], ◌∙◌, ap, flat_map, rules, subst, sym, w32, ℤ}
-use Rattle.std.proofs.lemmas.Int.{to_z-of_z}
+use Rattle.std.proofs.Common.{[], ◌∙◌, flat_map, rules, subst, sym}
 use Rattle.std.proofs.lemmas.List.{append-nil}
-use Rattle.csv.specs.Writing.{default_writer, row_text}
-use Rattle.tally_sessions.specs.Days.{local}
 use Rattle.tally_sessions.specs.Totals.{latest_stays}
 use Rattle.tally_print.specs.Output.{Prints}
-use Rattle.tally_print.specs.StayTable.{stay_fields}
 use Rattle.tally_print.specs.inside.Pages.{Fills}
 use Rattle.tally_print.proofs.PageLemmas.{fills_then, page_stop}
 use Rattle.tally_print.proofs.TableLemmas.{lines_of}
@@ -13,16 +9,16 @@ use Rattle.tally_print.proofs.section.print_stay_rows.Goals as goal
 
 pub returns-in_err-put_stays : goal.returns-in_err-put_stays
 returns-in_err-put_stays g c =
-    let rows = latest_stays c.args.host c.args.limit c.args.sessions.now.entries c.args.until in
-    let same = ap (λ (x : ℤ). flat_map (λ row. row_text default_writer (stay_fields (local c.args.clock.now x) row)) rows) (to_z-of_z w32 c.args.offset c.ranges.offset)
-    ∙ sym (lines_of (stay_fields (local c.args.clock.now c.args.offset)) rows) in
+    let rows = latest_stays c.args.host c.args.limit c.args.choice.now c.args.sessions.now.entries c.args.until in
+    let line_is = g.met.F.Fields.line_is c.args.fields.now in
+    let same = (λ j. flat_map (λ row. line_is row j) rows) ∙ sym (lines_of (g.F.Fields.fields c.args.fields.now) rows) in
     let begun = subst (Fills _ _ _ _ _) same (rw c.in_ok-page.ensures at c.in_err-put_stays.ensures.fills) in
     record { writes = subst (Prints _ _ _ _) (append-nil _) (page_stop _ (search rules) [] begun) }
 
 pub returns : goal.returns
 returns g c =
-    let rows = latest_stays c.args.host c.args.limit c.args.sessions.now.entries c.args.until in
-    let same = ap (λ (x : ℤ). flat_map (λ row. row_text default_writer (stay_fields (local c.args.clock.now x) row)) rows) (to_z-of_z w32 c.args.offset c.ranges.offset)
-    ∙ sym (lines_of (stay_fields (local c.args.clock.now c.args.offset)) rows) in
+    let rows = latest_stays c.args.host c.args.limit c.args.choice.now c.args.sessions.now.entries c.args.until in
+    let line_is = g.met.F.Fields.line_is c.args.fields.now in
+    let same = (λ j. flat_map (λ row. line_is row j) rows) ∙ sym (lines_of (g.F.Fields.fields c.args.fields.now) rows) in
     let lines = subst (Fills _ _ _ _ _) same (rw c.in_ok-page.ensures at c.in_ok-put_stays.ensures.fills) in
     record { writes = fills_then lines (rw c.as_slice.ensures.value at c.put_all.ensures.writes) }

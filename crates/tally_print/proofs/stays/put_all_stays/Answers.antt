@@ -1,24 +1,28 @@
-use Rattle.std.proofs.Common.{None, ◌≡◌, ◌+◌, ◌<◌, ◌∙◌, arith, drop, flat_map, get_or, length, rules, subst, sym}
-use Rattle.tally_sessions.specs.Totals.{latest_stays}
+use Rattle.std.proofs.Common.{◌≡◌, ◌+◌, ◌<◌, ◌∙◌, arith, drop, flat_map, get_or, length, reverse, rules, subst, sym}
+use Rattle.std.proofs.lemmas.List.{length-reverse}
+use Rattle.tally_sessions.specs.Totals.{limited, stays_of}
 use Rattle.tally_print.specs.declared.output.PrintFault.TheVariants.{Memory}
 use Rattle.tally_print.specs.inside.Pages.{Fills}
 use Rattle.tally_print.proofs.PageLemmas.{fills_push, fills_stop, fills_turn, flat_next, flat_rest}
 use Rattle.tally_print.proofs.StayLemmas.{limited_at, limited_in}
-use Rattle.tally_print.proofs.stays.put_stays.Goals as goal
+use Rattle.tally_print.proofs.stays.put_all_stays.Goals as goal
 
 pub put_latest_stay-requires-clause-place : goal.put_latest_stay-requires-clause-place
 put_latest_stay-requires-clause-place g c =
-    let all = latest_stays c.args.host None c.args.sessions.now.entries c.args.until in
-    let end = c.count_within-place-end.ensures all (c.stay_count.ensures c.args.until) in
-    limited_in c.args.limit all c.loop-place.place (omega (arith, end, c.loop-place-test.true))
+    let stays = stays_of c.args.host c.args.sessions.now.entries c.args.until in
+    let all = reverse stays in
+    let end = c.count_within-place-end.ensures all (c.stay_count.ensures c.args.until ∙ sym (length-reverse stays)) in
+    let within = limited_in c.args.limit all c.loop-place.place (omega (arith, end, c.loop-place-test.true)) in
+    omega (arith, length-reverse stays, within)
 
 pub loop-place-preserved : goal.loop-place-preserved
 loop-place-preserved g c =
     let text = g.L.Line.text c.args.line.now in
     let k = c.loop-place.place in
-    let all = latest_stays c.args.host None c.args.sessions.now.entries c.args.until in
-    let wanted = latest_stays c.args.host c.args.limit c.args.sessions.now.entries c.args.until in
-    let end = c.count_within-place-end.ensures all (c.stay_count.ensures c.args.until) in
+    let stays = stays_of c.args.host c.args.sessions.now.entries c.args.until in
+    let all = reverse stays in
+    let wanted = limited c.args.limit all in
+    let end = c.count_within-place-end.ensures all (c.stay_count.ensures c.args.until ∙ sym (length-reverse stays)) in
     let within : k < length wanted = omega (arith, end, c.loop-place-test.true) in
     let stay = c.put_latest_stay.new.stay in
     let is : stay ≡ get_or wanted k stay = c.put_latest_stay.ensures.value ∙ sym (limited_at c.args.limit all k stay within) in
@@ -29,7 +33,7 @@ pub returns-in_err-push : goal.returns-in_err-push
 returns-in_err-push g c =
     let text = g.L.Line.text c.args.line.now in
     let k = c.loop-place.place in
-    let wanted = latest_stays c.args.host c.args.limit c.args.sessions.now.entries c.args.until in
+    let wanted = limited c.args.limit (reverse (stays_of c.args.host c.args.sessions.now.entries c.args.until)) in
     record { fills = subst (Fills _ _ _ _ _) (flat_rest c.args.page.now.items text wanted k) (fills_stop Memory (search rules) (flat_map text (drop k wanted)) c.loop-place.invariant) }
 
 pub returns-in_err-turn_page : goal.returns-in_err-turn_page
@@ -37,9 +41,10 @@ returns-in_err-turn_page g c =
     let text = g.L.Line.text c.args.line.now in
     let k = c.loop-place.place in
     let head = c.args.page.now.items in
-    let all = latest_stays c.args.host None c.args.sessions.now.entries c.args.until in
-    let wanted = latest_stays c.args.host c.args.limit c.args.sessions.now.entries c.args.until in
-    let end = c.count_within-place-end.ensures all (c.stay_count.ensures c.args.until) in
+    let stays = stays_of c.args.host c.args.sessions.now.entries c.args.until in
+    let all = reverse stays in
+    let wanted = limited c.args.limit all in
+    let end = c.count_within-place-end.ensures all (c.stay_count.ensures c.args.until ∙ sym (length-reverse stays)) in
     let within : k < length wanted = omega (arith, end, c.loop-place-test.true) in
     let stay = c.put_latest_stay.new.stay in
     let is : stay ≡ get_or wanted k stay = c.put_latest_stay.ensures.value ∙ sym (limited_at c.args.limit all k stay within) in
