@@ -10,6 +10,8 @@ use Rattle.tally_book.specs.declared.question.Answer.{Answer}
 use Rattle.tally_book.specs.declared.question.Question.{Question}
 use Rattle.tally_book.specs.declared.question.Question.TheVariants as questions
 use Rattle.tally_book.specs.Answers.{answer_of}
+use Rattle.tally_records.specs.Choice.{every_login}
+use Rattle.tally_records.specs.declared.choice.LoginChoice.{LoginChoice}
 use Rattle.tally_records.specs.declared.batch.Kind.{Kind}
 use Rattle.tally_records.specs.declared.batch.Kind.TheVariants.{Login}
 use Rattle.tally_sessions.specs.declared.entry.Entry.{Entry}
@@ -33,17 +35,17 @@ stays_all P wanted ask kinds h =
     All-map P (λ (numbered : ℕ × Kind). ask numbered.0) _ (All-filter (λ (numbered : ℕ × Kind). is_wanted wanted numbered.1) Fits (enumerate_from 0 kinds) each)
 
 -- what holds of the stays of each file and of the questions without a host holds of all
-pub all_questions : (P : Question → Type 0) (r : Report) (offset : ℤ) (until : Option ℤ) (kinds : List Kind) → ((limit : Option ℕ) (n : ℕ) → n < length kinds → P (questions.Last n limit until))
-    → ((by_day by_user : Bool) → P (questions.Connect by_day by_user offset until)) → ((by : _) (reverse all : Bool) → P (questions.Commands by reverse all)) → ((by : _) (reverse : Bool) → P (questions.Users by reverse))
+pub all_questions : (P : Question → Type 0) (r : Report) (offset : ℤ) (until : Option ℤ) (kinds : List Kind) → ((limit : Option ℕ) (choice : LoginChoice) (n : ℕ) → n < length kinds → P (questions.Last n limit choice until))
+    → ((by_day by_user : Bool) (choice : LoginChoice) → P (questions.Connect by_day by_user offset choice until)) → ((by : _) (reverse all : Bool) → P (questions.Commands by reverse all)) → ((by : _) (reverse : Bool) → P (questions.Users by reverse))
     → All P (questions_of r offset kinds until)
-all_questions P (report.Last limit) offset until kinds last connect commands users = stays_all P None (λ n. questions.Last n limit until) kinds (last limit)
-all_questions P (report.Connect by_day by_user) offset until kinds last connect commands users = All-cons P _ [] (connect by_day by_user) (All-nil P)
+all_questions P (report.Last limit choice within) offset until kinds last connect commands users = stays_all P None (λ n. questions.Last n limit choice until) kinds (last limit choice)
+all_questions P (report.Connect by_day by_user choice) offset until kinds last connect commands users = All-cons P _ [] (connect by_day by_user choice) (All-nil P)
 all_questions P (report.Commands by reverse all) offset until kinds last connect commands users = All-cons P _ [] (commands by reverse all) (All-nil P)
 all_questions P (report.Users by reverse) offset until kinds last connect commands users = All-cons P _ [] (users by reverse) (All-nil P)
 all_questions P report.All offset until kinds last connect commands users =
-    All-append P (stays_asked (Some Login) None kinds until) (questions.Connect false false offset until ∷ questions.Commands order.Cpu false false ∷ [])
-    (stays_all P (Some Login) (λ n. questions.Last n None until) kinds (last None))
-    (All-cons P (questions.Connect false false offset until) (questions.Commands order.Cpu false false ∷ []) (connect false false) (All-cons P (questions.Commands order.Cpu false false) [] (commands order.Cpu false false) (All-nil P)))
+    All-append P (stays_asked (Some Login) None every_login kinds until) (questions.Connect false false offset every_login until ∷ questions.Commands order.Cpu false false ∷ [])
+    (stays_all P (Some Login) (λ n. questions.Last n None every_login until) kinds (last None every_login))
+    (All-cons P (questions.Connect false false offset every_login until) (questions.Commands order.Cpu false false ∷ []) (connect false false every_login) (All-cons P (questions.Commands order.Cpu false false) [] (commands order.Cpu false false) (All-nil P)))
 
 stays_count : (wanted : Option Kind) (ask : ℕ → Question) (kinds : List Kind) → length (asked_by wanted ask kinds) ≤ length kinds
 stays_count wanted ask kinds =
@@ -53,12 +55,12 @@ stays_count wanted ask kinds =
 
 -- there are few questions
 pub question_count : (r : Report) (offset : ℤ) (until : Option ℤ) (kinds : List Kind) → length (questions_of r offset kinds until) ≤ length kinds + 2
-question_count (report.Last limit) offset until kinds = omega (arith, stays_count None (λ n. questions.Last n limit until) kinds)
-question_count (report.Connect by_day by_user) offset until kinds = omega arith
+question_count (report.Last limit choice within) offset until kinds = omega (arith, stays_count None (λ n. questions.Last n limit choice until) kinds)
+question_count (report.Connect by_day by_user choice) offset until kinds = omega arith
 question_count (report.Commands by reverse all) offset until kinds = omega arith
 question_count (report.Users by reverse) offset until kinds = omega arith
 question_count report.All offset until kinds =
-    omega (arith, stays_count (Some Login) (λ n. questions.Last n None until) kinds, length-append (stays_asked (Some Login) None kinds until) (questions.Connect false false offset until ∷ questions.Commands order.Cpu false false ∷ []))
+    omega (arith, stays_count (Some Login) (λ n. questions.Last n None every_login until) kinds, length-append (stays_asked (Some Login) None every_login kinds until) (questions.Connect false false offset every_login until ∷ questions.Commands order.Cpu false false ∷ []))
 
 -- the text of the answers is that of the report
 pub report_is : (clock held : ClockRows) (job : Job) (kinds : List Kind) (asked : List Question) (answers : List Answer) (logins : List Entry) (procs : List ProcEntry)

@@ -3,22 +3,32 @@ use Rattle.std.proofs.Common.{◌≡◌, List, [], ◌∷◌, ◌++◌, true, fa
 use Rattle.std.specs.Prelude.{pos}
 use Rattle.tally_book.specs.declared.question.Question.{Question}
 use Rattle.tally_book.specs.declared.question.Question.TheVariants as questions
+use Rattle.tally_records.specs.Choice.{every_login}
+use Rattle.tally_records.specs.declared.choice.LoginChoice.{LoginChoice}
+use Rattle.tally_records.specs.declared.period.Period.{Period}
 use Rattle.tally_records.specs.declared.batch.Kind.TheVariants.{Login, Proc}
 use Rattle.tally_usage.specs.declared.order.Order.TheVariants as order
 use Rattle.tally_print.specs.declared.output.PrintFault.TheVariants as print
 use Rattle.tally_print.specs.declared.report_table.Table.TheVariants as tables
 use Rattle.tally_cli.specs.Output.{is_wanted, questions_of, table_of}
 use Rattle.tally_cli.specs.Runs.{callers_fault, failed_writes, fault_from}
-use Rattle.tally_cli.specs.inside.Tasks.{asker_questions}
+use Rattle.tally_cli.specs.inside.Tasks.{asker_questions, choice_of}
 use Rattle.tally_cli.specs.declared.fault.RunFault.TheVariants.{Callers, Memory, Write}
 use Rattle.tally_line.specs.declared.job.Report.TheVariants as report
 
+-- what is chosen: times from 5 up to 9
+abbrev part : Period
+part = record { from = Some (pos 5); to = Some (pos 9) }
+
+abbrev logins : LoginChoice
+logins = record every_login { period = part }
+
 -- `all` asks for the stays of each login file under its own number, then for connect time and for commands by cpu
-all_asked : questions_of report.All (pos 60) (Login ∷ Proc ∷ Login ∷ []) (Some (pos 7000)) ≡ questions.Last 0 None (Some (pos 7000)) ∷ questions.Last 2 None (Some (pos 7000)) ∷ questions.Connect false false (pos 60) (Some (pos 7000)) ∷ questions.Commands order.Cpu false false ∷ []
+all_asked : questions_of report.All (pos 60) (Login ∷ Proc ∷ Login ∷ []) (Some (pos 7000)) ≡ questions.Last 0 None every_login (Some (pos 7000)) ∷ questions.Last 2 None every_login (Some (pos 7000)) ∷ questions.Connect false false (pos 60) every_login (Some (pos 7000)) ∷ questions.Commands order.Cpu false false ∷ []
 all_asked = refl
 
--- `last` asks for each file, up to its limit
-last_asked : questions_of (report.Last (Some 3)) (pos 0) (Login ∷ Login ∷ []) None ≡ questions.Last 0 (Some 3) None ∷ questions.Last 1 (Some 3) None ∷ []
+-- `last` asks for each file what is chosen, up to its limit
+last_asked : questions_of (report.Last (Some 3) logins true) (pos 0) (Login ∷ Login ∷ []) None ≡ questions.Last 0 (Some 3) logins None ∷ questions.Last 1 (Some 3) logins None ∷ []
 last_asked = refl
 
 -- a number of callers is named as far as 32 bits hold it
@@ -26,20 +36,24 @@ numbers : map callers_fault (0 ∷ 129 ∷ 5000000000 ∷ []) ≡ Callers 0 ∷ 
 numbers = refl
 
 abbrev once : List Question
-once = questions.Last 0 (Some 10) (Some (pos 7000)) ∷ questions.Connect false false (pos 0) (Some (pos 7000)) ∷ questions.Commands order.Cpu false false ∷ questions.Users order.Cpu false ∷ []
+once = questions.Last 0 (Some 10) logins (Some (pos 7000)) ∷ questions.Connect false false (pos 0) logins (Some (pos 7000)) ∷ questions.Commands order.Cpu false false ∷ questions.Users order.Cpu false ∷ []
 
--- an asker asks four questions four times: the ten latest stays of the first file, connect time, commands and users by cpu
-asked : asker_questions (record { until = Some (pos 7000) }) ≡ once ++ once ++ once ++ once
+-- an asker asks four questions four times: the ten latest chosen stays of the first file, connect time, commands and users by cpu
+asked : asker_questions (record { choice = logins; until = Some (pos 7000) }) ≡ once ++ once ++ once ++ once
 asked = refl
 
+-- what it asks is over the sessions that the report is over
+asked_over : map choice_of (report.Last None logins false ∷ report.Connect true false logins ∷ report.Commands order.Cpu false false ∷ report.Users order.Cpu false ∷ report.All ∷ []) ≡ logins ∷ logins ∷ every_login ∷ every_login ∷ every_login ∷ []
+asked_over = refl
+
 -- connect time, commands and users are one question each over all files, with each option in its place
-one_question : questions_of (report.Connect true false) (pos 60) (Login ∷ Login ∷ []) (Some (pos 7000))
-    ++ questions_of (report.Connect false true) (pos 0) (Login ∷ []) None
+one_question : questions_of (report.Connect true false logins) (pos 60) (Login ∷ Login ∷ []) (Some (pos 7000))
+    ++ questions_of (report.Connect false true every_login) (pos 0) (Login ∷ []) None
     ++ questions_of (report.Commands order.Calls true false) (pos 0) (Proc ∷ []) None
     ++ questions_of (report.Commands order.Cpu false true) (pos 0) (Proc ∷ Proc ∷ []) None
     ++ questions_of (report.Users order.Calls false) (pos 0) (Proc ∷ []) None
     ++ questions_of (report.Users order.Cpu true) (pos 0) [] None
-    ≡ questions.Connect true false (pos 60) (Some (pos 7000)) ∷ questions.Connect false true (pos 0) None
+    ≡ questions.Connect true false (pos 60) logins (Some (pos 7000)) ∷ questions.Connect false true (pos 0) every_login None
     ∷ questions.Commands order.Calls true false ∷ questions.Commands order.Cpu false true
     ∷ questions.Users order.Calls false ∷ questions.Users order.Cpu true ∷ []
 one_question = refl
@@ -48,8 +62,8 @@ one_question = refl
 wanted : is_wanted None Login ∷ is_wanted None Proc ∷ is_wanted (Some Login) Login ∷ is_wanted (Some Login) Proc ∷ is_wanted (Some Proc) Login ∷ is_wanted (Some Proc) Proc ∷ [] ≡ true ∷ true ∷ true ∷ false ∷ false ∷ true ∷ []
 wanted = refl
 
--- each report but that of all is a table
-tables_of : map table_of (report.Last (Some 3) ∷ report.Connect true false ∷ report.Commands order.Calls true true ∷ report.Users order.Cpu false ∷ report.All ∷ []) ≡ Some tables.Stays ∷ Some (tables.Connect true false) ∷ Some tables.Commands ∷ Some tables.Users ∷ None ∷ []
+-- each report but that of all is a table, and one of stays may have the seconds in its period
+tables_of : map table_of (report.Last (Some 3) logins false ∷ report.Last None logins true ∷ report.Connect true false logins ∷ report.Commands order.Calls true true ∷ report.Users order.Cpu false ∷ report.All ∷ []) ≡ Some (tables.Stays None) ∷ Some (tables.Stays (Some part)) ∷ Some (tables.Connect true false) ∷ Some tables.Commands ∷ Some tables.Users ∷ None ∷ []
 tables_of = refl
 
 -- the fault of a printer is the run's own, and a failed write alone is counted

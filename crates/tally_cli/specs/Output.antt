@@ -1,5 +1,5 @@
 -- The output of a job, as a function of the job and the files alone.
-use Rattle.std.specs.Prelude.{◌++◌, ◌∷◌, [], ℕ, ℤ, Bool, List, Option, Some, None, false, true, map, filter}
+use Rattle.std.specs.Prelude.{◌++◌, ◌∷◌, [], ℕ, ℤ, Bool, List, Option, Some, None, false, true, if◌then◌else◌, map, filter}
 use Rattle.std.specs.List.{enumerate_from, flat_map}
 use Rattle.tally_clock.specs.Rows.{ClockRows}
 use Rattle.tally_book.specs.declared.question.Question.{Question}
@@ -10,7 +10,9 @@ use Rattle.tally_print.specs.ReportTable.{table_text}
 use Rattle.tally_print.specs.Sections.{sections_text}
 use Rattle.tally_print.specs.declared.report_table.Table.{Table}
 use Rattle.tally_print.specs.declared.report_table.Table.TheVariants as tables
+use Rattle.tally_records.specs.Choice.{every_login}
 use Rattle.tally_records.specs.Records.{Records, logins_in, procs_in}
+use Rattle.tally_records.specs.declared.choice.LoginChoice.{LoginChoice}
 use Rattle.tally_records.specs.declared.batch.Kind.{Kind}
 use Rattle.tally_records.specs.declared.batch.Kind.TheVariants.{Login, Proc}
 use Rattle.tally_sessions.specs.Days.{local}
@@ -31,19 +33,19 @@ is_wanted (Some Login) Proc = false
 is_wanted (Some Proc) Login = false
 is_wanted wanted kind = true
 
--- the questions for the stays of each file of the wanted kind, whose number is its host, up to a moment if one is given
-abbrev pub stays_asked : Option Kind → Option ℕ → List Kind → Option ℤ → List Question
-stays_asked wanted limit kinds until = map (λ numbered. questions.Last numbered.0 limit until)
+-- the questions for the chosen stays of each file of the wanted kind, whose number is its host, up to a moment if one is given
+abbrev pub stays_asked : Option Kind → Option ℕ → LoginChoice → List Kind → Option ℤ → List Question
+stays_asked wanted limit choice kinds until = map (λ numbered. questions.Last numbered.0 limit choice until)
     (filter (λ numbered. is_wanted wanted numbered.1) (enumerate_from 0 kinds))
 
 -- the questions of a report on files of these kinds, in the order of their sections
 abbrev pub questions_of : Report → ℤ → List Kind → Option ℤ → List Question
-questions_of (Last limit) offset kinds until = stays_asked None limit kinds until
-questions_of (Connect by_day by_user) offset kinds until = questions.Connect by_day by_user offset until ∷ []
+questions_of (Last limit choice within) offset kinds until = stays_asked None limit choice kinds until
+questions_of (Connect by_day by_user choice) offset kinds until = questions.Connect by_day by_user offset choice until ∷ []
 questions_of (Commands by reverse all) offset kinds until = questions.Commands by reverse all ∷ []
 questions_of (Users by reverse) offset kinds until = questions.Users by reverse ∷ []
-questions_of All offset kinds until = stays_asked (Some Login) None kinds until
-    ++ questions.Connect false false offset until ∷ questions.Commands order.Cpu false false ∷ []
+questions_of All offset kinds until = stays_asked (Some Login) None every_login kinds until
+    ++ questions.Connect false false offset every_login until ∷ questions.Commands order.Cpu false false ∷ []
 
 -- the login entries of files, each under its number
 abbrev pub login_entries : List Records → List Entry
@@ -53,10 +55,10 @@ login_entries files = flat_map (λ numbered. posted_by numbered.0 (logins_in num
 abbrev pub proc_entries : List Records → List ProcEntry
 proc_entries files = flat_map (λ numbered. entries_of numbered.0 (procs_in numbered.1)) (enumerate_from 0 files)
 
--- the table that a report is as CSV; a report of all is none
+-- the table that a report is as CSV, with the seconds in the period where they are asked for; a report of all is none
 abbrev pub table_of : Report → Option Table
-table_of (Last limit) = Some tables.Stays
-table_of (Connect by_day by_user) = Some (tables.Connect by_day by_user)
+table_of (Last limit choice within) = Some (tables.Stays (if within then Some choice.period else None))
+table_of (Connect by_day by_user choice) = Some (tables.Connect by_day by_user)
 table_of (Commands by reverse all) = Some tables.Commands
 table_of (Users by reverse) = Some tables.Users
 table_of All = None

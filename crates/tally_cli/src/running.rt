@@ -166,7 +166,7 @@ fn feed_all<R: Threads + Wait + Sync, I: Input + Send, G: Gate + Sync>(
     let (desk, passes) = open(alloc, keys, clock, callers)?;
     let feeders = job.feeders as usize;
     entries_are_posts();
-    let asking = Asking { until: job.until };
+    let asking = Asking::beside(job);
     let (book, failure) = work_through(rt, alloc, desk, passes, sources, feeders, asking, gate)?;
     match failure {
         None => Ok(book),

@@ -9,7 +9,11 @@ use Rattle.tally_desk.specs.Rounds.{AskStops, Asks, in_rounds}
 use Rattle.tally_desk.specs.declared.fault.FeedFault.{FeedFault}
 use Rattle.tally_desk.specs.declared.fault.FeedFault.TheVariants.{Read}
 use Rattle.tally_desk.specs.declared.feeding.Fed.{Fed}
+use Rattle.tally_line.specs.declared.job.Report.{Report}
+use Rattle.tally_line.specs.declared.job.Report.TheVariants as report
+use Rattle.tally_records.specs.Choice.{every_login}
 use Rattle.tally_records.specs.Records.{Records}
+use Rattle.tally_records.specs.declared.choice.LoginChoice.{LoginChoice}
 use Rattle.tally_records.specs.declared.batch.Kind.{Kind}
 use Rattle.tally_usage.specs.declared.order.Order.TheVariants as order
 use Rattle.tally_cli.specs.Runs.{IsReadable}
@@ -49,9 +53,16 @@ pub record FailedToFeed (told : Option (List ℕ)) (can_fail : Bool) (kind : Kin
   pub full : IsFeedRefusal kind new.seen fault
   pub read : fault ≡ Read → can_fail ≡ true
 
--- what an asker asks in a round: the latest stays of the first host, connect time, and the usage of commands and users
+-- the sessions that a report is over, or all of them where it has none
+abbrev pub choice_of : Report → LoginChoice
+choice_of (report.Last limit choice within) = choice
+choice_of (report.Connect by_day by_user choice) = choice
+choice_of r = every_login
+
+-- what an asker asks in a round: the latest chosen stays of the first host, connect time of what is chosen, and the usage of commands
+-- and users
 abbrev pub asked_once : Asking → List Question
-asked_once asking = questions.Last 0 (Some 10) asking.until ∷ questions.Connect false false (pos 0) asking.until
+asked_once asking = questions.Last 0 (Some 10) asking.choice asking.until ∷ questions.Connect false false (pos 0) asking.choice asking.until
     ∷ questions.Commands order.Cpu false false ∷ questions.Users order.Cpu false ∷ []
 
 -- all that it asks, in four rounds

@@ -17,13 +17,22 @@ use tally_print::{
 };
 use tally_sessions::Sessions;
 
-/// The table that a report is as CSV.
-fn table_of(report: Report) -> Option<Table>
-    ensures { result ≡ table_of report }
+/// The table that a report is as CSV, with the seconds in the period where they are asked for.
+fn table_of(report: &Report) -> Option<Table>
+    ensures { result ≡ table_of report.now }
 {
     match report {
-        Report::Last { .. } => Some(Table::Stays),
-        Report::Connect { by_day, by_user } => Some(Table::Connect { by_day, by_user }),
+        Report::Last { choice, within, .. } => Some(Table::Stays {
+            within: if *within { Some(choice.period) } else { None },
+        }),
+        Report::Connect {
+            by_day,
+            by_user,
+            ..
+        } => Some(Table::Connect {
+            by_day: *by_day,
+            by_user: *by_user,
+        }),
         Report::Commands { .. } => Some(Table::Commands),
         Report::Users { .. } => Some(Table::Users),
         Report::All => None,
@@ -44,7 +53,7 @@ pub(crate) fn print_answers<O: Output>(
     ensures writes { Prints (O.state out.old) (O.state out.new) result (failed_calls result)
         (form_text job.now.form job.now.report (local clock.now job.now.offset) job.now.until answers.now) }
 {
-    match (job.form, table_of(job.report)) {
+    match (job.form, table_of(&job.report)) {
         (Form::Text, _) => { print_sections(alloc, clock, answers, job.offset, out, job.until) },
         (Form::Csv, Some(table)) => { print_table(alloc, clock, table, answers, job.offset, out) },
         (Form::Csv, None) => Ok(()),
@@ -68,7 +77,7 @@ pub(crate) fn print_report<O: Output>(
         (form_text job.now.form job.now.report (local clock.now job.now.offset) job.now.until (map (answer_in sessions.now.entries) sections.now)) }
 {
     let offset = job.offset;
-    match (job.form, table_of(job.report)) {
+    match (job.form, table_of(&job.report)) {
         (Form::Text, _) => print_all_sections(
             alloc, clock, sessions, sections, offset, out, job.until,
         ),

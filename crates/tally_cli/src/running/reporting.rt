@@ -23,7 +23,7 @@ use tally_records::{Kind, Memory};
 use tally_sessions::{HOST_LIMIT, Sessions};
 
 /// Whether a report of files of these kinds has stays.
-fn has_stays(report: Report, kinds: &[Kind]) -> bool {
+fn has_stays(report: &Report, kinds: &[Kind]) -> bool {
     match report {
         Report::Last { .. } => true,
         Report::All => kinds.contains(&Kind::Login),
@@ -162,7 +162,7 @@ pub(crate) fn report<R: Threads + Sync, O: Output>(
         (report_text clock.now job.now kinds.now book.logins book.procs) }
     ensures cause { IfErr result IsPrintFault }
 {
-    if has_stays(job.report, kinds) {
+    if has_stays(&job.report, kinds) {
         let (sections, sessions) = sections_of(rt, alloc, job, kinds, book)?;
         print_and_drop(alloc, clock, job, sessions, sections, out)?;
     } else {

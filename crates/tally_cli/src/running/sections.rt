@@ -11,7 +11,7 @@ use std::alloc::{AllocError, Global};
 use tally_book::{Answer, AskFault, Book, CALL_LIMIT, Question};
 use tally_line::{Job, Report};
 use tally_print::Section;
-use tally_records::{Kind, Memory};
+use tally_records::{Kind, LoginChoice, Memory};
 use tally_sessions::HOST_LIMIT;
 use tally_usage::Order;
 
@@ -25,16 +25,17 @@ fn is_wanted(wanted: Option<Kind>, kind: Kind) -> bool
     }
 }
 
-/// Questions for the stays of each file of the wanted kind, or of every file.
+/// Questions for the chosen stays of each file of the wanted kind, or of every file.
 fn stays_asked(
     alloc: Global,
     kinds: &[Kind],
     wanted: Option<Kind>,
     limit: Option<u32>,
+    choice: &LoginChoice,
     until: Option<i32>,
 ) -> Result<Vec<Question>, AllocError>
     requires { length kinds.now ≤ HOST_LIMIT }
-    ensures { IfOk result (λ v. v.items ≡ stays_asked wanted limit kinds.now until) }
+    ensures { IfOk result (λ v. v.items ≡ stays_asked wanted limit choice.now kinds.now until) }
 {
     let mut questions = Vec::new(alloc);
     for host in 0..kinds.len() {
@@ -42,7 +43,12 @@ fn stays_asked(
             continue;
         }
         let host = host as u32;
-        questions.push(Question::Last { host, limit, until })?;
+        questions.push(Question::Last {
+            host,
+            limit,
+            choice: *choice,
+            until,
+        })?;
     }
     Ok(questions)
 }
@@ -57,11 +63,13 @@ fn all_questions(
     requires { length kinds.now ≤ HOST_LIMIT }
     ensures { IfOk result (λ v. v.items ≡ questions_of Report.All offset kinds.now until) }
 {
-    let mut questions = stays_asked(alloc, kinds, Some(Kind::Login), None, until)?;
+    let choice = LoginChoice::every();
+    let mut questions = stays_asked(alloc, kinds, Some(Kind::Login), None, &choice, until)?;
     questions.push(Question::Connect {
         by_day: false,
         by_user: false,
         offset,
+        choice,
         until,
     })?;
     questions.push(Question::Commands {
@@ -91,13 +99,20 @@ pub(crate) fn questions_of(
     ensures { IfOk result (λ v. v.items ≡ questions_of job.now.report job.now.offset kinds.now job.now.until) }
 {
     match job.report {
-        Report::Last { limit } => stays_asked(alloc, kinds, None, limit, job.until),
-        Report::Connect { by_day, by_user } => {
+        Report::Last { limit, choice, .. } => {
+            stays_asked(alloc, kinds, None, limit, &choice, job.until)
+        }
+        Report::Connect {
+            by_day,
+            by_user,
+            choice,
+        } => {
             let offset = job.offset;
             let question = Question::Connect {
                 by_day,
                 by_user,
                 offset,
+                choice,
                 until: job.until,
             };
             only(alloc, question)
@@ -171,7 +186,17 @@ fn section_for(alloc: Global, book: &mut Book, question: &Question) -> Result<Se
     ensures days { IfOk result (λ section. HasDays (answer_in book.old.logins section)) }
 {
     match *question {
-        Question::Last { host, limit, until } => Ok(Section::Stays { host, limit, until }),
+        Question::Last {
+            host,
+            limit,
+            choice,
+            until,
+        } => Ok(Section::Stays {
+            host,
+            limit,
+            choice,
+            until,
+        }),
         _ => Ok(Section::Answered(answer_to(alloc, book, question)?)),
     }
 }

@@ -3,19 +3,44 @@ ghost use Rattle.std.specs.Prelude.{◌≡◌, IfErr, IfOk, MatchBool, OnOk};
 ghost use Rattle.tally_desk.specs.Passes.{Keeps};
 ghost use Rattle.tally_desk.specs.Rounds.{AskStops, Asks};
 ghost use Rattle.tally_cli.specs.Runs.{IsReadable};
-ghost use Rattle.tally_cli.specs.inside.Tasks.{asked_once, asker_questions, HasFailed, IsDone, IsUntried, Works};
+ghost use Rattle.tally_cli.specs.inside.Tasks.{asked_once, asker_questions, choice_of, HasFailed, IsDone, IsUntried, Works};
 
 use crate::running::source::Source;
 use std::alloc::Global;
 use std::sync::Wait;
 use tally_book::{AskFault, Question};
 use tally_desk::{Desk, Fed, FeedFault, Gate, Input, Pass, ask_rounds, feed};
+use tally_line::{Job, Report};
+use tally_records::LoginChoice;
 use tally_usage::Order;
 
-/// What an asker asks: reports up to a moment, if one is given.
+/// What an asker asks: reports over the chosen sessions, up to a moment if one is given.
 #[derive(Clone, Copy)]
 pub(crate) struct Asking {
+    pub(crate) choice: LoginChoice,
     pub(crate) until: Option<i32>,
+}
+
+/// The sessions that a report is over, or all of them where it has none.
+fn choice_of(report: &Report) -> LoginChoice
+    ensures { result ≡ choice_of report.now }
+{
+    match report {
+        Report::Last { choice, .. } | Report::Connect { choice, .. } => *choice,
+        Report::Commands { .. } | Report::Users { .. } | Report::All => LoginChoice::every(),
+    }
+}
+
+impl Asking {
+    /// What is asked beside a job.
+    pub(crate) fn beside(job: &Job) -> Asking
+        ensures { result ≡ record { choice = choice_of job.now.report; until = job.now.until } }
+    {
+        Asking {
+            choice: choice_of(&job.report),
+            until: job.until,
+        }
+    }
 }
 
 /// What a caller is to do: feed its source, or ask reports.
@@ -50,17 +75,19 @@ const ROUNDS: u32 = 4;
 fn questions(asking: Asking) -> [Question; 4]
     ensures { result ≡ asked_once asking }
 {
-    let Asking { until } = asking;
+    let Asking { choice, until } = asking;
     [
         Question::Last {
             host: 0,
             limit: Some(10),
+            choice,
             until,
         },
         Question::Connect {
             by_day: false,
             by_user: false,
             offset: 0,
+            choice,
             until,
         },
         Question::Commands {

@@ -11,7 +11,7 @@ answers_to-requires-clause-askable g c =
     let job = c.args.job.now in
     let offset = c.requires.runnable.offset in
     subst (All IsAskable) (sym (c.as_slice.ensures.value ∙ c.in_ok-questions.ensures))
-    (all_questions IsAskable job.report job.offset job.until c.args.kinds.now (λ limit n l. tt) (λ by_day by_user. offset) (λ by reverse all. tt) (λ by reverse. tt))
+    (all_questions IsAskable job.report job.offset job.until c.args.kinds.now (λ limit choice n l. tt) (λ by_day by_user choice. offset) (λ by reverse all. tt) (λ by reverse. tt))
 
 pub answers_to-requires-clause-hosts : goal.answers_to-requires-clause-hosts
 answers_to-requires-clause-hosts g c =
@@ -19,7 +19,7 @@ answers_to-requires-clause-hosts g c =
     let callers = c.count_sessions.new.self.callers in
     let same = ap (λ (b : Contents). b.callers) c.in_ok-count_sessions.ensures.same in
     subst (All (NamesHostBelow callers)) (sym (c.as_slice.ensures.value ∙ c.in_ok-questions.ensures))
-    (all_questions (NamesHostBelow callers) job.report job.offset job.until c.args.kinds.now (λ limit n l. omega (arith, l, same, c.requires.hosts)) (λ by_day by_user. tt) (λ by reverse all. tt) (λ by reverse. tt))
+    (all_questions (NamesHostBelow callers) job.report job.offset job.until c.args.kinds.now (λ limit choice n l. omega (arith, l, same, c.requires.hosts)) (λ by_day by_user choice. tt) (λ by reverse all. tt) (λ by reverse. tt))
 
 pub answers_to-requires-clause-room : goal.answers_to-requires-clause-room
 answers_to-requires-clause-room g c =
