@@ -2,6 +2,7 @@
 ghost use Rattle.tally_line.specs.Jobs.{IsRunnable};
 
 use tally_cli::{Form, Job, Report};
+use tally_records::LoginChoice;
 use tally_usage::Order;
 
 /// A job of one thread.
@@ -9,7 +10,11 @@ pub(crate) fn connect_time(by_day: bool, by_user: bool, form: Form) -> Job
     ensures { IsRunnable result }
 {
     Job {
-        report: Report::Connect { by_day, by_user },
+        report: Report::Connect {
+            by_day,
+            by_user,
+            choice: LoginChoice::every(),
+        },
         form,
         feeders: 1,
         askers: 0,
@@ -22,7 +27,11 @@ pub(crate) fn sessions(limit: Option<u32>, form: Form) -> Job
     ensures { IsRunnable result }
 {
     Job {
-        report: Report::Last { limit },
+        report: Report::Last {
+            limit,
+            choice: LoginChoice::every(),
+            within: false,
+        },
         form,
         feeders: 1,
         askers: 0,

@@ -12,7 +12,7 @@ use tally_book::Question;
 use tally_clock::Clock;
 use tally_desk::{Desk, Pass};
 use tally_print::print_answer;
-use tally_records::Batch;
+use tally_records::{Batch, LoginChoice};
 use tally_usage::Order;
 
 /// A desk of two callers and their passes.
@@ -59,12 +59,14 @@ fn question(turn: u32) -> Question
         0 => Question::Last {
             host: 0,
             limit: Some(20),
+            choice: LoginChoice::every(),
             until: None,
         },
         1 => Question::Connect {
             by_day: false,
             by_user: true,
             offset: 0,
+            choice: LoginChoice::every(),
             until: None,
         },
         2 => Question::Commands {

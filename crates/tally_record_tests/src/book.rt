@@ -8,7 +8,7 @@ use std::hash::RandomState;
 use std::process::Abort;
 use std::random::RandomSource;
 use tally_book::{AskFault, Book, Counts, PostFault, Question, Receipt, Served};
-use tally_records::Batch;
+use tally_records::{Batch, EVERY_LOGIN};
 
 /// Posts as a caller, of which the book has some.
 fn post(book: &mut Book, caller: u32, batch: &Batch) -> Result<Receipt, PostFault> {
@@ -32,6 +32,7 @@ const TOTAL: Question = Question::Connect {
     by_day: false,
     by_user: false,
     offset: 0,
+    choice: EVERY_LOGIN,
     until: None,
 };
 

@@ -1,5 +1,6 @@
 //! Command lines, and whole runs over files in memory.
 
+mod chosen;
 mod ended;
 mod expect;
 mod line;

@@ -10,7 +10,7 @@ use crate::window::{grant_growths, refuse_growths};
 use std::alloc::{AllocError, Global};
 use std::hash::RandomState;
 use tally_book::{AskFault, Book, PostFault, Question, Receipt, Served};
-use tally_records::{Batch, Memory};
+use tally_records::{Batch, EVERY_LOGIN, LoginChoice, Memory};
 use tally_usage::Order;
 
 /// A book of two callers.
@@ -149,6 +149,7 @@ pub(crate) const TOTAL: Question = Question::Connect {
     by_day: false,
     by_user: false,
     offset: 0,
+    choice: EVERY_LOGIN,
     until: None,
 };
 
@@ -167,6 +168,7 @@ fn ask_of_nobody<R: Print + AllocGlobal>(rt: &R, book: &mut Book) -> Result<(), 
     let question = Question::Last {
         host: 2,
         limit: None,
+        choice: LoginChoice::every(),
         until: None,
     };
     let asked = book.ask(rt.alloc(), 1, &question);

@@ -4,7 +4,7 @@ use crate::sessions::print_both;
 use crate::stopped::{Stopped, stop};
 use std::alloc::Global;
 use tally_clock::{Clock, RuleFault};
-use tally_records::{List, Memory};
+use tally_records::{List, LoginChoice, Memory};
 use tally_sessions::{DayUserTime, Sessions};
 
 /// Each year an hour ahead from the beginning of the 4th of January to the end of the 5th.
@@ -33,8 +33,9 @@ fn rows_until(
     clock: &Clock,
     until: i32,
 ) -> Result<List<DayUserTime>, Memory> {
-    match sessions.connect_by_day_user(alloc, clock, 0, Some(until)) {
-        Err(_) => sessions.connect_by_day_user(alloc, clock, 0, Some(until)),
+    let every = LoginChoice::every();
+    match sessions.connect_by_day_user(alloc, clock, 0, &every, Some(until)) {
+        Err(_) => sessions.connect_by_day_user(alloc, clock, 0, &every, Some(until)),
         answered => answered,
     }
 }

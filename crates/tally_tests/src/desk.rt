@@ -12,7 +12,7 @@ use std::hash::RandomState;
 use std::sync::Wait;
 use tally_book::{AskFault, Book, PostFault, Question, Receipt, Served};
 use tally_desk::{Desk, OpenFault, Pass};
-use tally_records::Batch;
+use tally_records::{Batch, LoginChoice};
 
 /// The calls of a script on a desk of two callers.
 #[derive(Clone, Copy)]
@@ -144,6 +144,7 @@ fn ask_for_nobody<R: Print + AllocGlobal + Wait>(
     let question = Question::Last {
         host: 2,
         limit: None,
+        choice: LoginChoice::every(),
         until: None,
     };
     let asked = desk.ask(rt, rt.alloc(), pass, &question);

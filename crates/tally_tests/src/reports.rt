@@ -7,12 +7,13 @@ use crate::stopped::{Stopped, stop};
 use std::alloc::Global;
 use std::hash::RandomState;
 use tally_book::{Book, Question};
-use tally_records::Batch;
+use tally_records::{Batch, EVERY_LOGIN};
 use tally_usage::Order;
 
 const LAST: Question = Question::Last {
     host: 0,
     limit: Some(1),
+    choice: EVERY_LOGIN,
     until: None,
 };
 
@@ -20,6 +21,7 @@ const USERS: Question = Question::Connect {
     by_day: false,
     by_user: true,
     offset: 0,
+    choice: EVERY_LOGIN,
     until: None,
 };
 
@@ -27,6 +29,7 @@ const DAYS: Question = Question::Connect {
     by_day: true,
     by_user: false,
     offset: 0,
+    choice: EVERY_LOGIN,
     until: None,
 };
 
@@ -34,6 +37,7 @@ const USERS_BY_DAY: Question = Question::Connect {
     by_day: true,
     by_user: true,
     offset: 0,
+    choice: EVERY_LOGIN,
     until: None,
 };
 
@@ -51,6 +55,7 @@ const UIDS: Question = Question::Users {
 const ALL_STAYS: Question = Question::Last {
     host: 0,
     limit: None,
+    choice: EVERY_LOGIN,
     until: None,
 };
 

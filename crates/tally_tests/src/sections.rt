@@ -14,7 +14,7 @@ use std::thread::Threads;
 use tally_book::{Answer, Book};
 use tally_clock::Clock;
 use tally_print::{PrintFault, Section, Table, print_all_sections, print_section_table};
-use tally_records::{List, Memory};
+use tally_records::{List, LoginChoice, Memory};
 use tally_sessions::{Sessions, Stay};
 
 /// A book of both, of which nothing has been asked.
@@ -50,8 +50,9 @@ fn sessions<R: AllocGlobal + Threads + Sync>(rt: &R, keys: RandomState) -> Resul
 fn stays(alloc: Global, sessions: &Sessions, host: u32) -> Result<List<Stay>, Memory>
     requires { host < sessions.now.hosts }
 {
-    match sessions.stays(alloc, host, None, None) {
-        Err(_) => sessions.stays(alloc, host, None, None),
+    let every = LoginChoice::every();
+    match sessions.stays(alloc, host, None, &every, None) {
+        Err(_) => sessions.stays(alloc, host, None, &every, None),
         answered => answered,
     }
 }
@@ -104,7 +105,8 @@ fn put_sections(
 {
     let clock = Clock::utc(alloc);
     let printed = if is_table {
-        print_section_table(alloc, &clock, sessions, Table::Stays, sections, 0, out)
+        let table = Table::Stays { within: None };
+        print_section_table(alloc, &clock, sessions, table, sections, 0, out)
     } else {
         print_all_sections(alloc, &clock, sessions, sections, 0, out, None)
     };
@@ -126,11 +128,13 @@ fn put(
         Section::Stays {
             host: 1,
             limit: None,
+            choice: LoginChoice::every(),
             until: None,
         },
         Section::Stays {
             host: 0,
             limit: Some(2),
+            choice: LoginChoice::every(),
             until: None,
         },
         Section::Answered(Answer::Connect {

@@ -4,7 +4,7 @@ ghost use Rattle.std.specs.Prelude.{◌≡◌};
 use crate::stopped::both;
 use std::alloc::Global;
 use tally_clock::Clock;
-use tally_records::{List, Memory, Name};
+use tally_records::{List, LoginChoice, Memory, Name};
 use tally_sessions::{DayTime, DayUserTime, Entry, Sessions, Stay, UserTime};
 
 /// What takes no memory to ask.
@@ -41,7 +41,7 @@ pub(crate) fn seen_of(sessions: &Sessions) -> Seen
 {
     Seen {
         entries: sessions.entries().len(),
-        total: sessions.total(None),
+        total: sessions.total(&LoginChoice::every(), None),
         of_ann: sessions.connect(&name("ann"), None),
         first: sessions.first(1),
     }
@@ -50,16 +50,17 @@ pub(crate) fn seen_of(sessions: &Sessions) -> Seen
 fn ask_all(alloc: Global, sessions: &Sessions) -> Result<Answers, Memory>
     requires { sessions.now.hosts ≡ 2 }
 {
+    let every = LoginChoice::every();
     let entries = sessions.entries().iter().collect(alloc)?;
     let stays = both(
-        sessions.stays(alloc, 0, None, None),
-        sessions.stays(alloc, 1, None, None),
+        sessions.stays(alloc, 0, None, &every, None),
+        sessions.stays(alloc, 1, None, &every, None),
     );
     let days = both(
-        sessions.connect_by_day(alloc, &Clock::utc(alloc), 0, None),
-        sessions.connect_by_day_user(alloc, &Clock::utc(alloc), 0, None),
+        sessions.connect_by_day(alloc, &Clock::utc(alloc), 0, &every, None),
+        sessions.connect_by_day_user(alloc, &Clock::utc(alloc), 0, &every, None),
     );
-    let times = both(sessions.connect_by_user(alloc, None), days);
+    let times = both(sessions.connect_by_user(alloc, &every, None), days);
     let ((of_first_host, of_second_host), (by_user, (by_day, by_both))) = both(stays, times)?;
     Ok(Answers {
         seen: seen_of(sessions),

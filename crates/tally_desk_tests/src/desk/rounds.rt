@@ -9,12 +9,13 @@ use std::sync::Wait;
 use std::sync::atomic::{AtomicU64, Ordering};
 use tally_book::{Answer, Book, Call, PostFault, Question};
 use tally_desk::{Bytes, Desk, FeedFault, OpenGate, Pass, ask_rounds, feed};
-use tally_records::{Batch, Kind};
+use tally_records::{Batch, EVERY_LOGIN, Kind};
 
 const TOTAL: Question = Question::Connect {
     by_day: false,
     by_user: false,
     offset: 0,
+    choice: EVERY_LOGIN,
     until: None,
 };
 

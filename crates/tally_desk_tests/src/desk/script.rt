@@ -8,6 +8,7 @@ use std::process::Abort;
 use std::sync::Wait;
 use tally_book::{Answer, AskFault, Counts, Question, Receipt};
 use tally_desk::{Desk, Pass};
+use tally_records::{EVERY_LOGIN, LoginChoice};
 use tally_usage::Order;
 
 /// What a report answers: the number of calls with this one, what was stored, and how many rows and which total it has.
@@ -21,6 +22,7 @@ const TOTAL: Question = Question::Connect {
     by_day: false,
     by_user: false,
     offset: 0,
+    choice: EVERY_LOGIN,
     until: None,
 };
 
@@ -91,6 +93,7 @@ pub(super) fn refuse<R: Abort + Wait>(
     let question = Question::Last {
         host: 2,
         limit: None,
+        choice: LoginChoice::every(),
         until: None,
     };
     let fault = desk.ask(rt, alloc, second, &question).err();

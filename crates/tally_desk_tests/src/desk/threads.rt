@@ -11,12 +11,13 @@ use std::sync::Wait;
 use std::thread::{Threads, for_each_mut};
 use tally_book::{Book, Call, Question};
 use tally_desk::{Bytes, Desk, Gate, Pass, feed};
-use tally_records::Kind;
+use tally_records::{EVERY_LOGIN, Kind};
 
 const TOTAL: Question = Question::Connect {
     by_day: false,
     by_user: false,
     offset: 0,
+    choice: EVERY_LOGIN,
     until: None,
 };
 

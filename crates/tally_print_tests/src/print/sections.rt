@@ -2,7 +2,7 @@
 ghost use Rattle.std.specs.Prelude.{◌≡◌, ◌+◌, ◌<◌, ◌≤◌, length};
 ghost use Rattle.tally_sessions.specs.Days.{IsOffset};
 
-use super::is_printed;
+use super::{is_printed, name};
 use std::alloc::Global;
 use std::hash::RandomState;
 use std::process::Abort;
@@ -13,7 +13,7 @@ use tally_clock::Clock;
 use tally_print::{
     Kept, Section, Table, print_all_sections, print_last, print_section_table, print_table,
 };
-use tally_records::Batch;
+use tally_records::{Batch, LoginChoice, Period};
 use tally_sessions::Sessions;
 
 /// Writes a text into the bytes of a record at a place.
@@ -68,11 +68,12 @@ fn sessions<R: Abort + RandomSource + Threads + Sync>(rt: &R, alloc: Global) -> 
     book.into_sessions(rt, alloc, 2).expect(rt, "sessions")
 }
 
-/// Which stays are printed: those of a host up to a limit, the open ones counted up to a moment, at an offset.
+/// Which stays are printed: the chosen ones of a host up to a limit, the open ones counted up to a moment, at an offset.
 #[derive(Clone, Copy)]
 struct Asked {
     host: u32,
     limit: Option<u32>,
+    choice: LoginChoice,
     until: Option<i32>,
     offset: i32,
 }
@@ -85,18 +86,24 @@ fn expect_list(rt: &impl Abort, alloc: Global, clock: &Clock, sessions: &Session
     let Asked {
         host,
         limit,
+        choice,
         until,
         offset,
     } = *asked;
     let first = sessions.first(host);
     let stays = sessions
-        .stays(alloc, host, limit, until)
+        .stays(alloc, host, limit, &choice, until)
         .expect(rt, "stays");
     let mut wanted = Kept::new(alloc);
     let rows = stays.as_slice();
     print_last(alloc, clock, rows, first, offset, &mut wanted, until).expect(rt, "a list");
     drop(stays);
-    let section = [Section::Stays { host, limit, until }];
+    let section = [Section::Stays {
+        host,
+        limit,
+        choice,
+        until,
+    }];
     let mut out = Kept::new(alloc);
     let printed = print_all_sections(alloc, clock, sessions, &section, offset, &mut out, until);
     drop(section);
@@ -112,18 +119,25 @@ fn expect_table(rt: &impl Abort, alloc: Global, clock: &Clock, sessions: &Sessio
     let Asked {
         host,
         limit,
+        choice,
         until,
         offset,
     } = *asked;
-    let table = Table::Stays;
+    let within = Some(choice.period);
+    let table = Table::Stays { within };
     let rows = sessions
-        .stays(alloc, host, limit, until)
+        .stays(alloc, host, limit, &choice, until)
         .expect(rt, "stays");
     let answers = [Answer::Last { rows, first: None }];
     let mut wanted = Kept::new(alloc);
     print_table(alloc, clock, table, &answers, offset, &mut wanted).expect(rt, "a table");
     drop(answers);
-    let section = [Section::Stays { host, limit, until }];
+    let section = [Section::Stays {
+        host,
+        limit,
+        choice,
+        until,
+    }];
     let mut out = Kept::new(alloc);
     let printed = print_section_table(alloc, clock, sessions, table, &section, offset, &mut out);
     drop(section);
@@ -131,7 +145,24 @@ fn expect_table(rt: &impl Abort, alloc: Global, clock: &Clock, sessions: &Sessio
     drop(wanted);
 }
 
-/// Asserts that the stays of both hosts are printed so, up to each limit.
+/// The sessions of bob alone.
+fn of_bob() -> LoginChoice {
+    let mut choice = LoginChoice::every();
+    choice.users[0] = Some(name(b"bob"));
+    choice
+}
+
+/// What was before 1970-01-02.
+fn of_the_first_day() -> LoginChoice {
+    let mut choice = LoginChoice::every();
+    choice.period = Period {
+        from: None,
+        to: Some(86_400),
+    };
+    choice
+}
+
+/// Asserts that the stays of both hosts are printed so, of each choice and up to each limit.
 fn expect_sections(
     rt: &impl Abort,
     alloc: Global,
@@ -143,16 +174,19 @@ fn expect_sections(
     requires hosts { sessions.now.hosts ≡ 2 }
     requires offset { IsOffset offset }
 {
-    for host in 0..2 {
-        for limit in [None, Some(1), Some(2)] {
-            let asked = Asked {
-                host,
-                limit,
-                until,
-                offset,
-            };
-            expect_list(rt, alloc, clock, sessions, &asked);
-            expect_table(rt, alloc, clock, sessions, &asked);
+    for choice in [LoginChoice::every(), of_bob(), of_the_first_day()] {
+        for host in 0..2 {
+            for limit in [None, Some(1), Some(2)] {
+                let asked = Asked {
+                    host,
+                    limit,
+                    choice,
+                    until,
+                    offset,
+                };
+                expect_list(rt, alloc, clock, sessions, &asked);
+                expect_table(rt, alloc, clock, sessions, &asked);
+            }
         }
     }
 }

@@ -9,7 +9,7 @@ use std::process::Abort;
 use tally_book::{Answer, ConnectRow};
 use tally_clock::Clock;
 use tally_print::{Kept, Table, print_table};
-use tally_records::List;
+use tally_records::{List, Period};
 use tally_sessions::{End, Stay};
 use tally_usage::{UidRow, Usage};
 
@@ -135,7 +135,8 @@ file,user,line,remote,start,start_at,begin,end,end_time,end_at,seconds
 1,ann,tty1,,-200,1969-12-31T18:26:40-05:30,-200,down,1000,1969-12-31T18:46:40-05:30,1200
 ";
     let utc = Clock::utc(alloc);
-    expect_table(rt, alloc, &utc, Table::Stays, &answers, -330, text);
+    let table = Table::Stays { within: None };
+    expect_table(rt, alloc, &utc, table, &answers, -330, text);
     drop(utc);
     drop(answers);
 }
@@ -151,8 +152,38 @@ file,user,line,remote,start,start_at,begin,end,end_time,end_at,seconds
 1,ann,tty1,,1774745999,2026-03-29T01:29:59+00:30,1774745999,logout,1774746000,2026-03-29T02:30:00+01:30,1
 ";
     let berlin = berlin(rt, alloc);
-    expect_table(rt, alloc, &berlin, Table::Stays, &answers, -30, text);
+    let table = Table::Stays { within: None };
+    expect_table(rt, alloc, &berlin, table, &answers, -30, text);
     drop(berlin);
+    drop(answers);
+}
+
+/// A stay of twenty minutes, of which fifteen are in the period, one before it, and one that goes back.
+#[test]
+fn seconds_in_a_period_stand_last(rt: HostRuntime) {
+    let rt = &rt;
+    let alloc = rt.alloc();
+    let answers = [
+        of_file(rt, alloc, login(b"ann", 100, End::Logout, 1300, 1200)),
+        of_file(rt, alloc, login(b"bob", 0, End::Next, 400, 400)),
+        of_file(rt, alloc, login(b"eve", 900, End::Crash, 600, 0)),
+    ];
+    let text = b"\
+file,user,line,remote,start,start_at,begin,end,end_time,end_at,seconds,within
+1,ann,tty1,,100,1970-01-01T00:01:40+00:00,100,logout,1300,1970-01-01T00:21:40+00:00,1200,900
+1,bob,tty1,,0,1970-01-01T00:00:00+00:00,0,next,400,1970-01-01T00:06:40+00:00,400,0
+1,eve,tty1,,900,1970-01-01T00:15:00+00:00,900,crash,600,1970-01-01T00:10:00+00:00,0,0
+";
+    let utc = Clock::utc(alloc);
+    let period = Period {
+        from: Some(400),
+        to: Some(5000),
+    };
+    let table = Table::Stays {
+        within: Some(period),
+    };
+    expect_table(rt, alloc, &utc, table, &answers, 0, text);
+    drop(utc);
     drop(answers);
 }
 

@@ -15,12 +15,13 @@ use tally_cli::{Form, Job, Report, RunFault, Source, run};
 use tally_clock::Clock;
 use tally_desk::{Bytes, FeedFault, Gate, Input, OpenGate};
 use tally_print::{Kept, Output};
-use tally_records::Kind;
+use tally_records::{EVERY_LOGIN, Kind, LoginChoice};
 use tally_usage::Order;
 
 pub(crate) const TOTAL: Report = Report::Connect {
     by_day: false,
     by_user: false,
+    choice: EVERY_LOGIN,
 };
 
 // A job as text, by so many feeders and askers.
@@ -183,7 +184,11 @@ fn an_hour_is_its_total(rt: HostRuntime) {
 
 #[test]
 fn an_hour_is_a_stay(rt: HostRuntime) {
-    let report = Report::Last { limit: None };
+    let report = Report::Last {
+        limit: None,
+        choice: LoginChoice::every(),
+        within: false,
+    };
     let sources = source_of(&rt, Kind::Login, one_hour(&rt, 768));
     let text =
         b"ann      tty1                          1970-01-12 13:46:40 - 1970-01-12 14:46:40 (01:00)\n\nwtmp begins 1970-01-12 13:46:40\n";

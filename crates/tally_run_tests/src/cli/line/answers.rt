@@ -4,7 +4,7 @@ use crate::cli::expect::{expect_that, made};
 use std::process::Abort;
 use tally_cli::{FileArg, Form, Job, Line, LineFault, Report, job_of};
 use tally_moments::Moment;
-use tally_records::Kind;
+use tally_records::{Kind, LoginChoice};
 use tally_usage::Order;
 
 /// What a command line is to ask for. A report has the default of each option but of those named.
@@ -60,8 +60,20 @@ fn plain(report: Report) -> Job {
 fn job_wanted(wanted: Wanted<'_>) -> Option<Job> {
     let mut job = plain(Report::All);
     match wanted {
-        Wanted::Last(limit) => job.report = Report::Last { limit },
-        Wanted::Connect(by_day, by_user) => job.report = Report::Connect { by_day, by_user },
+        Wanted::Last(limit) => {
+            job.report = Report::Last {
+                limit,
+                choice: LoginChoice::every(),
+                within: false,
+            }
+        }
+        Wanted::Connect(by_day, by_user) => {
+            job.report = Report::Connect {
+                by_day,
+                by_user,
+                choice: LoginChoice::every(),
+            }
+        }
         Wanted::Commands(order, reverse, all) => {
             job.report = Report::Commands {
                 order,

@@ -5,14 +5,20 @@ use crate::cli::line::answers::{Wanted, expect_all, expect_each};
 use tally_clock::Clock;
 use tally_line::{Form, Job, Report, Times, TimesFault, known_fault, settle};
 use tally_moments::Moment;
+use tally_records::LoginChoice;
 
 #[test]
 fn stays_are_counted_up_to_a_moment(rt: HostRuntime) {
     let total = Report::Connect {
         by_day: false,
         by_user: false,
+        choice: LoginChoice::every(),
     };
-    let stays = Report::Last { limit: None };
+    let stays = Report::Last {
+        limit: None,
+        choice: LoginChoice::every(),
+        within: false,
+    };
     let ten = Moment::Time {
         day: 20635,
         second: 36_000,
@@ -54,6 +60,16 @@ sa --until 5 f";
     expect_all(&rt, lines, Wanted::Usage);
 }
 
+/// The moments of a command line that has no other than that of `--until`.
+fn up_to(until: Option<Moment>) -> Times {
+    Times {
+        until,
+        from: None,
+        to: None,
+        at: None,
+    }
+}
+
 #[test]
 fn a_moment_is_settled_on_the_clock_of_the_run(rt: HostRuntime) {
     let clock = Clock::utc(rt.alloc());
@@ -80,7 +96,7 @@ fn a_moment_is_settled_on_the_clock_of_the_run(rt: HostRuntime) {
         (None, Ok(None)),
     ];
     for &(until, wanted) in &rows {
-        let settled = settle(&job, &Times { until }, &clock, 1000);
+        let settled = settle(&job, &up_to(until), &clock, 1000);
         let same = match settled {
             Ok(job) => Ok(job.until) == wanted,
             Err(found) => Err(found) == wanted,
@@ -103,9 +119,7 @@ fn a_second_out_of_range_needs_no_clock(rt: HostRuntime) {
         (Moment::Now, true, None),
     ];
     for &(moment, is_now, wanted) in &rows {
-        let times = Times {
-            until: Some(moment),
-        };
+        let times = up_to(Some(moment));
         let same = known_fault(&times) == wanted && times.ask_now() == is_now;
         expect_that(&rt, "a moment is judged without a clock", same);
     }
