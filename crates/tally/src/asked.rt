@@ -1,8 +1,9 @@
 //! What a command line asks to report: its clock and its moments, worked out.
-ghost use Rattle.std.specs.Prelude.{◌≡◌, IfOk, None, Ok};
+ghost use Rattle.std.specs.Prelude.{◌≡◌, IfErr, IfOk, None, Ok, Err};
 ghost use Rattle.tally_clock.specs.Rows.{utc};
 ghost use Rattle.tally_line.specs.Jobs.{IsRunnable, TakesUntil};
 ghost use Rattle.tally_line.specs.Settled.{Settles};
+ghost use Rattle.tally_line.specs.declared.settling.TimesFault.{TimesFault};
 ghost use Rattle.tally_moments.specs.Seconds.{local};
 
 use crate::faults::{times_fault, zone_fault};
@@ -46,6 +47,7 @@ pub(crate) fn job_for<R: Eprint>(rt: &R, asked: Asked<'_>, clock: &Clock) -> Res
     requires until { TakesUntil asked.job.now.report asked.times.now.until }
     ensures settled { IfOk result (λ job. Settles (local clock.now asked.entry.job.now.offset) asked.entry.now asked.entry.times.now asked.entry.job.now (Ok job)) }
     ensures runnable { IfOk result IsRunnable }
+    ensures refused { IfErr result (λ _. (found : TimesFault) × Settles (local clock.now asked.entry.job.now.offset) asked.entry.now asked.entry.times.now asked.entry.job.now (Err found)) }
 {
     match settle(asked.job, asked.times, clock, asked.now) {
         Ok(job) => Ok(job),
