@@ -1,11 +1,12 @@
 //! What runs over some users, some lines and a part of time write.
+ghost use Rattle.tally_line.specs.Jobs.{IsRunnable};
 
 use crate::cli::runs::{add_source, bytes_with, expect_run, one_hour, source_of, text_job};
 use std::process::Abort;
 use std::random::RandomSource;
 use std::sync::Wait;
 use std::thread::Threads;
-use tally_cli::{Form, Report, Source};
+use tally_cli::{Form, Job, Report, Source};
 use tally_desk::{Bytes, OpenGate};
 use tally_records::{Kind, LoginChoice, Name, Period};
 
@@ -59,17 +60,16 @@ fn of_ann_later() -> LoginChoice {
     choice
 }
 
-// Asserts that a report of both files in a form is this text.
+// Asserts that a job over both files writes this text.
 fn expect_both<R: AllocGlobal + Abort + RandomSource + Threads + Wait + Sync>(
     rt: &R,
-    report: Report,
-    form: Form,
+    job: &Job,
     text: &[u8],
-) {
-    let mut job = text_job(report, 4, 2);
-    job.form = form;
+)
+    requires { IsRunnable job.now }
+{
     let sources = two_files(rt);
-    expect_run(rt, "chosen", &job, sources, &OpenGate, &Ok(()), text);
+    expect_run(rt, "chosen", job, sources, &OpenGate, &Ok(()), text);
 }
 
 #[test]
@@ -89,7 +89,7 @@ ann      tty1                          1970-01-12 13:46:40 - 1970-01-12 14:46:40
 
 wtmp begins 1970-01-12 13:46:40
 ";
-    expect_both(&rt, report, Form::Text, text);
+    expect_both(&rt, &text_job(report, 4, 2), text);
 }
 
 #[test]
@@ -105,7 +105,15 @@ file,user,line,remote,start,start_at,begin,end,end_time,end_at,seconds,within
 1,ann,tty1,,1000000,1970-01-12T13:46:40+00:00,1000000,logout,1003600,1970-01-12T14:46:40+00:00,3600,1800
 2,ann,tty1,,1000000,1970-01-12T13:46:40+00:00,1000000,logout,1003600,1970-01-12T14:46:40+00:00,3600,1800
 ";
-    expect_both(&rt, report, Form::Csv, text);
+    let job = Job {
+        report,
+        form: Form::Csv,
+        feeders: 4,
+        askers: 2,
+        offset: 0,
+        until: None,
+    };
+    expect_both(&rt, &job, text);
 }
 
 #[test]
@@ -119,5 +127,5 @@ fn connect_time_is_cut_to_the_period(rt: HostRuntime) {
 ann                          1.50
 total                        1.50
 ";
-    expect_both(&rt, report, Form::Text, text);
+    expect_both(&rt, &text_job(report, 4, 2), text);
 }
