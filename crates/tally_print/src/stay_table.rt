@@ -92,6 +92,7 @@ fn push_line(line: &mut Vec<u8>, stay: &Stay) -> Result<(), AllocError>
     }
 }
 
+#[inline(always)]
 fn push_end(line: &mut Vec<u8>, end: End) -> Result<(), AllocError>
     ensures { OnOk result (line.new.items ≡ line.old.items ++ field_text default_writer (end_word end)) }
 {
@@ -113,6 +114,7 @@ fn push_remote(line: &mut Vec<u8>, stay: &Stay) -> Result<(), AllocError>
     Ok(())
 }
 
+#[inline(always)]
 fn push_place(line: &mut Vec<u8>, stay: &Stay) -> Result<(), AllocError>
     ensures { OnOk result (line.new.items ≡ line.old.items ++ (field_text default_writer (line_field stay.now) ++ 44 ∷ []
         ++ (field_text default_writer (shown stay.now.remote) ++ 44 ∷ []))) }
@@ -122,6 +124,7 @@ fn push_place(line: &mut Vec<u8>, stay: &Stay) -> Result<(), AllocError>
     push_remote(line, stay)
 }
 
+#[inline(always)]
 pub(crate) fn push_who(line: &mut Vec<u8>, stay: &Stay) -> Result<(), AllocError>
     ensures { OnOk result (line.new.items ≡ line.old.items ++ (decimal (stay.now.host + 1) ++ 44 ∷ []
         ++ field_text default_writer (user_field stay.now) ++ 44 ∷ []
@@ -135,12 +138,14 @@ pub(crate) fn push_who(line: &mut Vec<u8>, stay: &Stay) -> Result<(), AllocError
     push_place(line, stay)
 }
 
+#[inline(always)]
 fn push_begin(line: &mut Vec<u8>, stay: &Stay) -> Result<(), AllocError>
     ensures { OnOk result (line.new.items ≡ line.old.items ++ (signed_decimal stay.now.begin ++ 44 ∷ [])) }
 {
     push_time(line, stay.begin)
 }
 
+#[inline(always)]
 pub(crate) fn push_start(
     line: &mut Vec<u8>,
     last: &mut PrintedDay,
@@ -156,6 +161,7 @@ pub(crate) fn push_start(
     push_begin(line, stay)
 }
 
+#[inline(always)]
 pub(crate) fn push_ending(
     line: &mut Vec<u8>,
     last: &mut PrintedDay,

@@ -53,6 +53,7 @@ fn add_at(numbers: &mut [u64], place: usize, more: u64)
 
 impl Track {
     /// What is worked out of a choice, which names users or lines or does not.
+    #[inline(always)]
     pub(crate) fn pick(&self, choice: &LoginChoice, named: bool) -> Pick
         requires named { named ≡ has_names choice.now }
         requires few { length self.now.sums.users.entries ≤ ENTRY_LIMIT }
