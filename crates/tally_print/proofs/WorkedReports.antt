@@ -1,5 +1,5 @@
 -- Worked lines and tables of reports, computed by the definitions.
-use Rattle.std.proofs.Common.{◌≡◌, [], ◌∷◌, ◌++◌, map, Bool, true, false, Some, None, ℤ, pos, refl}
+use Rattle.std.proofs.Common.{◌≡◌, [], ◌∷◌, ◌++◌, drop, map, Bool, true, false, Some, None, ℤ, pos, refl}
 use Rattle.std.specs.Fmt.{digits}
 use Rattle.std.specs.Prelude.{codes}
 use Rattle.tally_records.specs.Period.{always}
@@ -12,7 +12,7 @@ use Rattle.tally_usage.specs.declared.usage.Usage.{Usage}
 use Rattle.tally_print.specs.ConnectTable.{connect_fields, connect_header}
 use Rattle.tally_print.specs.LastText.{beginning, ending, line_column, user_column}
 use Rattle.tally_print.specs.ReportTable.{connect_rows, header}
-use Rattle.tally_print.specs.StayTable.{end_word, part_header, stay_header, who_fields}
+use Rattle.tally_print.specs.StayTable.{end_fields, end_word, part_fields, part_header, start_fields, stay_fields, stay_header, who_fields}
 use Rattle.tally_print.specs.Text.{span}
 use Rattle.tally_print.specs.UsageTable.{command_fields, command_header, name_fields, sum_fields, user_fields, user_header}
 use Rattle.tally_print.specs.UsageText.{average, columns, command_line, named_total_line, total_line, user_line}
@@ -82,6 +82,11 @@ headers = refl
 part_headers : header (Stays (Some always)) ≡ codes "file" ∷ codes "user" ∷ codes "line" ∷ codes "remote" ∷ codes "start" ∷ codes "start_at" ∷ codes "begin" ∷ codes "end" ∷ codes "end_time" ∷ codes "end_at" ∷ codes "seconds" ∷ codes "within" ∷ []
 unfolding part_header stay_header
 part_headers = refl
+
+-- and a row has the seconds of its stay, and after them those in the period
+part_row : map (λ end. drop 10 (part_fields utc (record { from = Some (pos 300); to = Some (pos 2000) }) (stay false end))) (Logout ∷ Still ∷ []) ≡ (codes "800" ∷ codes "700" ∷ []) ∷ (codes "800" ∷ codes "700" ∷ []) ∷ []
+unfolding part_fields stay_fields who_fields start_fields end_fields digits
+part_row = refl
 
 connect_headers : map header (Connect false false ∷ Connect true false ∷ Connect false true ∷ Connect true true ∷ []) ≡ (codes "seconds" ∷ []) ∷ (codes "day" ∷ codes "seconds" ∷ []) ∷ (codes "user" ∷ codes "seconds" ∷ []) ∷ (codes "day" ∷ codes "user" ∷ codes "seconds" ∷ []) ∷ []
 unfolding connect_header
