@@ -1,3 +1,5 @@
+ghost use Rattle.std.specs.Prelude.{◌≡◌, ◌++◌, ◌∷◌, [], ◌<◌, vec_len, vec_capacity};
+
 use crate::question::{Answer, Question};
 
 /// How many records are stored.
@@ -39,4 +41,14 @@ pub struct Served {
     pub call: u64,
     pub at: Counts,
     pub answer: Answer,
+}
+
+/// Adds a call to the history, and answers how many that makes.
+pub(crate) fn record(calls: &mut Vec<Call>, call: Call) -> u64
+    requires { vec_len calls.old < vec_capacity calls.old }
+    ensures history { calls.new.items ≡ calls.old.items ++ call ∷ [] }
+    ensures number { result ≡ vec_len calls.new }
+{
+    calls.push_reserved(call);
+    calls.len() as u64
 }

@@ -9,6 +9,7 @@ mod history;
 mod laws;
 mod logins;
 mod question;
+mod storing;
 
 pub use book::{Book, CALL_LIMIT};
 pub use fault::{AskFault, PostFault};
