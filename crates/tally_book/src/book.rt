@@ -226,13 +226,7 @@ impl Book {
             &self.summary,
             question,
         )?;
-        let kept = answer.try_copy(alloc)?;
-        let asked = Call::Asked {
-            caller,
-            at,
-            question: *question,
-            answer: kept,
-        };
+        let asked = Call::asked(alloc, caller, at, question, &answer)?;
         let call = record(&mut self.calls, asked);
         Ok(Served { call, at, answer })
     }

@@ -1,6 +1,10 @@
-ghost use Rattle.std.specs.Prelude.{◌≡◌, ◌++◌, ◌∷◌, [], ◌<◌, vec_len, vec_capacity};
+ghost use Rattle.std.specs.Prelude.{◌≡◌, ◌++◌, ◌∷◌, [], ◌<◌, IfOk, vec_len, vec_capacity};
+ghost use Rattle.tally_book.specs.declared.history.Call.TheVariants.{Asked};
 
+use crate::boxed::Boxed;
 use crate::question::{Answer, Question};
+use std::alloc::Global;
+use tally_records::Memory;
 
 /// How many records are stored.
 #[derive(Clone, Copy, Debug, PartialEq, Eq)]
@@ -18,13 +22,34 @@ pub enum Call {
         before: Counts,
         after: Counts,
     },
-    /// A report was asked of the records stored by then.
+    /// A report was asked of the records stored by then. Its question is boxed, so that a post is not as large.
     Asked {
         caller: u32,
         at: Counts,
-        question: Question,
+        question: Boxed<Question>,
         answer: Answer,
     },
+}
+
+impl Call {
+    /// The call of a caller who asked a question and had this answer, of which it keeps a copy.
+    pub(crate) fn asked(
+        alloc: Global,
+        caller: u32,
+        at: Counts,
+        question: &Question,
+        answer: &Answer,
+    ) -> Result<Call, Memory>
+        ensures value { IfOk result (λ call. call ≡ Asked caller at question.now answer.now) }
+    {
+        let answer = answer.try_copy(alloc)?;
+        Ok(Call::Asked {
+            caller,
+            at,
+            question: Boxed::new(alloc, *question)?,
+            answer,
+        })
+    }
 }
 
 /// What a post answers: the number of calls with this one, and what was stored before and after it.

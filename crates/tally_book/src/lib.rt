@@ -3,6 +3,7 @@
 
 mod answering;
 mod book;
+mod boxed;
 mod connect;
 mod fault;
 mod history;
@@ -12,6 +13,7 @@ mod question;
 mod storing;
 
 pub use book::{Book, CALL_LIMIT};
+pub use boxed::Boxed;
 pub use fault::{AskFault, PostFault};
 pub use history::{Call, Counts, Receipt, Served};
 pub use laws::{entries_are_posts, host_order_is_enough};

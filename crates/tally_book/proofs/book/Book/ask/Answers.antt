@@ -166,41 +166,41 @@ returns-in_err-answer-clause-cause c =
 pub returns-in_err-answer-clause-legal : goal.returns-in_err-answer-clause-legal
 returns-in_err-answer-clause-legal c = (invariant_of-self-in_err-answer c).legal
 
-pub invariant_of-self-in_err-kept : goal.invariant_of-self-in_err-kept
-invariant_of-self-in_err-kept c =
+pub invariant_of-self-in_err-asked : goal.invariant_of-self-in_err-asked
+invariant_of-self-in_err-asked c =
     let after : Inside = record { callers = c.self.inside.callers; clock = c.self.inside.clock; logins = c.count.new.self; summary = c.self.inside.summary; calls = c.reserve.new.self } in
     let same = same_contents c.self.inside after refl refl (ap (λ (s : LoginState). s.entries) c.in_ok-count.ensures.counted) refl c.reserve.ensures.items in
     still_sound c.self.inside after c.self.invariant (ap (λ (s : LoginState). s.hosts) c.in_ok-count.ensures.counted) same
 
-pub returns-in_err-kept-clause-stored : goal.returns-in_err-kept-clause-stored
-returns-in_err-kept-clause-stored c =
-    let p = err_from_is_err_and c.from_residual-in_err-kept.result c.from_residual-in_err-kept.ensures.1 in
+pub returns-in_err-asked-clause-stored : goal.returns-in_err-asked-clause-stored
+returns-in_err-asked-clause-stored c =
+    let p = err_from_is_err_and c.from_residual-in_err-asked.result c.from_residual-in_err-asked.ensures.1 in
     rw p.1 tt
 
-pub returns-in_err-kept-clause-served : goal.returns-in_err-kept-clause-served
-returns-in_err-kept-clause-served c =
-    let p = err_from_is_err_and c.from_residual-in_err-kept.result c.from_residual-in_err-kept.ensures.1 in
+pub returns-in_err-asked-clause-served : goal.returns-in_err-asked-clause-served
+returns-in_err-asked-clause-served c =
+    let p = err_from_is_err_and c.from_residual-in_err-asked.result c.from_residual-in_err-asked.ensures.1 in
     rw p.1 tt
 
-pub returns-in_err-kept-clause-days : goal.returns-in_err-kept-clause-days
-returns-in_err-kept-clause-days c =
-    let p = err_from_is_err_and c.from_residual-in_err-kept.result c.from_residual-in_err-kept.ensures.1 in
+pub returns-in_err-asked-clause-days : goal.returns-in_err-asked-clause-days
+returns-in_err-asked-clause-days c =
+    let p = err_from_is_err_and c.from_residual-in_err-asked.result c.from_residual-in_err-asked.ensures.1 in
     rw p.1 tt
 
-pub returns-in_err-kept-clause-refused : goal.returns-in_err-kept-clause-refused
-returns-in_err-kept-clause-refused c =
+pub returns-in_err-asked-clause-refused : goal.returns-in_err-asked-clause-refused
+returns-in_err-asked-clause-refused c =
     let after : Inside = record { callers = c.self.inside.callers; clock = c.self.inside.clock; logins = c.count.new.self; summary = c.self.inside.summary; calls = c.reserve.new.self } in
     let same = same_contents c.self.inside after refl refl (ap (λ (s : LoginState). s.entries) c.in_ok-count.ensures.counted) refl c.reserve.ensures.items in
-    let p = err_from_is_err_and c.from_residual-in_err-kept.result c.from_residual-in_err-kept.ensures.1 in
+    let p = err_from_is_err_and c.from_residual-in_err-asked.result c.from_residual-in_err-asked.ensures.1 in
     rw p.1 (same ∙ c.self.view_is)
 
-pub returns-in_err-kept-clause-cause : goal.returns-in_err-kept-clause-cause
-returns-in_err-kept-clause-cause c =
-    let p = err_from_is_err_and c.from_residual-in_err-kept.result c.from_residual-in_err-kept.ensures.1 in
+pub returns-in_err-asked-clause-cause : goal.returns-in_err-asked-clause-cause
+returns-in_err-asked-clause-cause c =
+    let p = err_from_is_err_and c.from_residual-in_err-asked.result c.from_residual-in_err-asked.ensures.1 in
     rw (p.1, p.2) (memory_refused c.self.inside c.args.self.now c.self.view_is c.len.result c.len.ensures c.args.question.now c.if-len-ge-CALL_LIMIT.false c.in_ok-check_host.ensures.host)
 
-pub returns-in_err-kept-clause-legal : goal.returns-in_err-kept-clause-legal
-returns-in_err-kept-clause-legal c = (invariant_of-self-in_err-kept c).legal
+pub returns-in_err-asked-clause-legal : goal.returns-in_err-asked-clause-legal
+returns-in_err-asked-clause-legal c = (invariant_of-self-in_err-asked c).legal
 
 pub invariant_of-self-2 : goal.invariant_of-self-2
 invariant_of-self-2 c =
@@ -209,10 +209,12 @@ invariant_of-self-2 c =
     let logins : c.count.new.self.entries ≡ b.logins = ap (λ (s : LoginState). s.entries) c.in_ok-count.ensures.counted in
     let lent : c.in-Some.sessions.now.entries ≡ b.logins = c.in-Some.ensures.0 ∙ logins in
     let at : c.counts-at.result ≡ counts_of b = λ i. record { logins = (c.counts-at.ensures.logins ∙ ap length logins) i; procs = c.counts-at.ensures.procs i } in
-    let kept : c.in_ok-kept.kept ≡ answer_of b.clock question b.logins b.procs =
-    c.in_ok-kept.ensures.value ∙ c.in_ok-answer.ensures.value ∙ ap (λ (es : List Entry). answer_of b.clock question es b.procs) lent in
+    let answered : c.in_ok-answer.answer ≡ answer_of b.clock question b.logins b.procs =
+    c.in_ok-answer.ensures.value ∙ ap (λ (es : List Entry). answer_of b.clock question es b.procs) lent in
+    let kept : c.in_ok-asked.asked ≡ Asked c.args.caller (counts_of b) question (answer_of b.clock question b.logins b.procs) =
+    c.in_ok-asked.ensures.value ∙ (λ i. Asked c.args.caller (at i) question (answered i)) in
     let calls : c.record-call.new.calls.items ≡ (asked b c.args.caller question).calls =
-    c.record-call.ensures.history ∙ (λ i. c.reserve.ensures.items i ++ Asked c.args.caller (at i) question (kept i) ∷ []) in
+    c.record-call.ensures.history ∙ (λ i. c.reserve.ensures.items i ++ kept i ∷ []) in
     let near = subst (λ (s : Contents). c.args.caller < s.callers) (sym c.self.view_is) c.requires.caller in
     let room = calls_left c.self.inside b refl c.len.result c.len.ensures c.if-len-ge-CALL_LIMIT.false in
     let legal : IsLegal (asked b c.args.caller question) = asked_legal b c.args.caller question c.self.invariant.legal near room c.in_ok-check_host.ensures.host in
