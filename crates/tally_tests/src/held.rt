@@ -1,7 +1,7 @@
 //! What a book holds, copied and compared by content.
 
 use std::alloc::Global;
-use tally_book::{Answer, Book, Call};
+use tally_book::{Answer, Book, Boxed, Call};
 use tally_records::Memory;
 use tally_sessions::{Entries, Entry};
 use tally_usage::{ProcEntries, ProcEntry};
@@ -33,7 +33,7 @@ fn copy_of_call(alloc: Global, call: &Call) -> Result<Call, Memory> {
         } => Ok(Call::Asked {
             caller: *caller,
             at: *at,
-            question: *question,
+            question: Boxed::new(alloc, *question.get())?,
             answer: answer.try_copy(alloc)?,
         }),
     }
@@ -158,7 +158,12 @@ fn is_same_call(a: &Call, b: &Call) -> bool {
                 question: asked,
                 answer: answered,
             },
-        ) => caller == other && at == was && question == asked && is_same_answer(answer, answered),
+        ) => {
+            caller == other
+                && at == was
+                && question.get() == asked.get()
+                && is_same_answer(answer, answered)
+        }
         _ => false,
     }
 }
