@@ -3,6 +3,7 @@ ghost use Rattle.std.specs.Prelude.{◌≡◌, ◌++◌, ◌∷◌, [], OnOk, de
 ghost use Rattle.csv.specs.Writing.{default_writer, row_text};
 ghost use Rattle.tally_print.specs.StayTable.{part_fields, part_header};
 ghost use Rattle.tally_print.specs.inside.LocalTime.{clock_of};
+ghost use Rattle.tally_sessions.specs.Choice.{seconds_within};
 
 use crate::fields::{push_number, push_seconds};
 use crate::lines::{Fields, Line};
@@ -22,6 +23,13 @@ fn push_length(line: &mut Vec<u8>, stay: &Stay) -> Result<(), AllocError>
     Ok(())
 }
 
+/// Appends the seconds that a period has of a stay, and ends the line.
+fn push_within(line: &mut Vec<u8>, stay: &Stay, period: &Period) -> Result<(), AllocError>
+    ensures { OnOk result (line.new.items ≡ line.old.items ++ (decimal (seconds_within period.now stay.now) ++ 10 ∷ [])) }
+{
+    push_seconds(line, stay.seconds_within(period))
+}
+
 fn push_row(
     line: &mut Vec<u8>,
     days: &mut PrintedDays,
@@ -36,7 +44,7 @@ fn push_row(
     push_start(line, &mut days.start, stay, local)?;
     push_ending(line, &mut days.end, stay, local)?;
     push_length(line, stay)?;
-    push_seconds(line, stay.seconds_within(period))
+    push_within(line, stay, period)
 }
 
 /// The fields of a stay, and its seconds in a period.
