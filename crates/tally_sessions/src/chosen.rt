@@ -1,6 +1,7 @@
 //! Which stays a choice has, and what a period has of a session.
+ghost use Rattle.std.specs.List.{list_any};
 ghost use Rattle.std.specs.Prelude.{◌≡◌, ◌<◌, ◌^◌};
-ghost use Rattle.tally_records.specs.Choice.{is_among};
+ghost use Rattle.tally_records.specs.Choice.{is_among, is_name};
 ghost use Rattle.tally_sessions.specs.Choice as choices;
 ghost use Rattle.tally_sessions.specs.inside.Chosen.{has_names, has_part_of, is_boot_named, part_of};
 ghost use Rattle.tally_sessions.specs.inside.Entries.{record_in};
@@ -11,7 +12,7 @@ use crate::entry::{End, Stay};
 use crate::sums::Part;
 use crate::track::ending::Ending;
 use crate::track::rules::seconds_between;
-use tally_records::{LoginChoice, Name, Period, is_among, names_nothing};
+use tally_records::{Key, LoginChoice, Name, Names, Period, is_among, names_nothing};
 
 /// The user of a running time.
 const REBOOT: Name = *b"reboot\0\0\0\0\0\0\0\0\0\0\0\0\0\0\0\0\0\0\0\0\0\0\0\0\0\0";
@@ -114,11 +115,27 @@ pub(crate) fn has_names(choice: &LoginChoice) -> bool
     !(names_nothing(&choice.users) && names_nothing(&choice.lines))
 }
 
+/// Whether a place of a choice has this name, by words that are compared as they are stored.
+fn is_key(wanted: &Key, place: &Option<Name>) -> bool
+    ensures { result ≡ is_name wanted.now place.now }
+{
+    match place {
+        Some(name) => Key::of(name) == *wanted,
+        None => false,
+    }
+}
+
+fn has_key(names: &Names, wanted: &Key) -> bool
+    ensures { result ≡ list_any (is_name wanted.now) names.now }
+{
+    names.iter().any(|place| is_key(wanted, place))
+}
+
 /// Whether a record is of a chosen line.
 pub(crate) fn is_record_on_line(choice: &LoginChoice, stored: StoredRecord<'_>) -> bool
     ensures { result ≡ is_among choice.now.lines (record_in stored.entry).line }
 {
-    names_nothing(&choice.lines) || is_among(&choice.lines, &stored.line_key().name())
+    names_nothing(&choice.lines) || has_key(&choice.lines, &stored.line_key())
 }
 
 /// A moment as a time that records can have.
