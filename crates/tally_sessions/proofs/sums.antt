@@ -3,6 +3,8 @@ pub mod Additive
 pub mod EverySession
 pub mod EveryStay
 pub mod HostSums
+pub mod NamedUsers
+pub mod NewNames
 pub mod PeriodParts
 pub mod SessionLists
 pub mod SumLemmas

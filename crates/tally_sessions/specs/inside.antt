@@ -5,6 +5,7 @@ pub mod Counts
 pub mod Endings
 pub mod Entries
 pub mod Kept
+pub mod NamedUsers
 pub mod Names
 pub mod Numbers
 pub mod Spans

@@ -26,7 +26,7 @@ both true b h = (refl, h)
 both false b h = absurd (cc)
 
 -- a stay is as long as the seconds from its beginning to its end
-abbrev HasLength : Stay → Type 0
+abbrev pub HasLength : Stay → Type 0
 HasLength s = s.length ≡ seconds_between s.begin s.end_time
 
 stay_has_length : (host : ℕ) (before : List LoginRecord) (r : LoginRecord) (after : List LoginRecord) (until : Option ℤ) → HasLength (stay_of host before r after until)
@@ -42,7 +42,7 @@ stays_from_have_lengths host before (r ∷ after) until = by (starts_stay (event
     by true h = All-cons HasLength (stay_of host before r after until) (stays_from host (before ++ r ∷ []) after until) (stay_has_length host before r after until) h
     by false h = h
 
-lengths : (host : ℕ) (es : List Entry) (until : Option ℤ) → All HasLength (stays_of host es until)
+pub lengths : (host : ℕ) (es : List Entry) (until : Option ℤ) → All HasLength (stays_of host es until)
 lengths host es until = stays_from_have_lengths host [] (of_host host es) until
 
 -- the lengths of sessions are their seconds

@@ -55,8 +55,8 @@ impl Track {
         }
     }
 
-    /// The seconds of the host's chosen sessions.
-    pub(crate) fn chosen_seconds(
+    /// The seconds of the host's chosen sessions, counted stay by stay.
+    fn walked_seconds(
         &self,
         host: u32,
         entries: Entries<'_>,
@@ -74,6 +74,26 @@ impl Track {
             total += self.seconds_at(host, entries, i, choice, &pick, until);
         }
         total
+    }
+
+    /// The seconds of the host's chosen sessions.
+    pub(crate) fn chosen_seconds(
+        &self,
+        host: u32,
+        entries: Entries<'_>,
+        choice: &LoginChoice,
+        until: Option<i32>,
+    ) -> u64
+        requires few { length (entries_in entries) ≤ ENTRY_LIMIT }
+        requires track { spec.IsTrack host (entries_in entries) (length (entries_in entries)) self.now }
+        ensures value { result ≡ seconds_in (sessions_among choice.now (stays_of host (entries_in entries.entry) until)) }
+        ensures fits { result ≤ 4294967295 * length (of_host host (entries_in entries.entry)) }
+    {
+        if self.has_sums_of(choice) {
+            self.seconds_of_users(host, entries, &choice.users, until)
+        } else {
+            self.walked_seconds(host, entries, choice, until)
+        }
     }
 
     /// Adds the seconds of the session that the stay at a place is, if it is a chosen one, to the number at the place of its
@@ -129,8 +149,8 @@ impl Track {
         }
     }
 
-    /// Adds the seconds of the host's chosen sessions to a sum for each user.
-    pub(crate) fn add_chosen(
+    /// Adds the seconds of the host's chosen sessions to a sum for each user, counted stay by stay.
+    fn add_walked(
         &self,
         alloc: Global,
         sums: &mut BTreeMap<NameKey, u64>,
@@ -150,5 +170,30 @@ impl Track {
         let mut numbers = vec![in alloc; 0; self.sums.users.len()]?;
         self.count_users(&mut numbers, host, entries, choice, until);
         self.sums.add_each(&numbers, sums)
+    }
+
+    /// Adds the seconds of the host's chosen sessions to a sum for each user.
+    pub(crate) fn add_chosen(
+        &self,
+        alloc: Global,
+        sums: &mut BTreeMap<NameKey, u64>,
+        host: u32,
+        entries: Entries<'_>,
+        choice: &LoginChoice,
+        until: Option<i32>,
+    ) -> Result<(), Memory>
+        requires few { length (entries_in entries) ≤ ENTRY_LIMIT }
+        requires track { spec.IsTrack host (entries_in entries) (length (entries_in entries)) self.now }
+        requires room { (user : List ℕ) → sum_at (slice_cmp nat_cmp) sums.old.entries user < 2 ^ 62 }
+        ensures value { OnOk result ((user : List ℕ) → sum_at (slice_cmp nat_cmp) sums.new.entries user
+            ≡ sum_at (slice_cmp nat_cmp) sums.old.entries user + seconds_of_user user (sessions_among choice.now (stays_of host (entries_in entries.entry) until))) }
+        ensures fits { OnOk result ((user : List ℕ) → seconds_of_user user (sessions_among choice.now (stays_of host (entries_in entries.entry) until))
+            ≤ 4294967295 * length (of_host host (entries_in entries.entry))) }
+    {
+        if self.has_sums_of(choice) {
+            self.add_users(sums, host, entries, &choice.users, until)
+        } else {
+            self.add_walked(alloc, sums, host, entries, choice, until)
+        }
     }
 }

@@ -1,5 +1,5 @@
 //! What the track of a host answers.
-ghost use Rattle.std.specs.Prelude.{◌≡◌, ◌≤◌, ◌<◌, ◌+◌, ◌*◌, ◌^◌, ◌++◌, [], ◌∷◌, All, IfOk, OnOk, filter, if◌then◌else◌, length, reverse, slice_index_or, take, unwrap_or, vec_len};
+ghost use Rattle.std.specs.Prelude.{◌≡◌, ◌≤◌, ◌<◌, ◌+◌, ◌*◌, ◌^◌, ◌++◌, [], ◌∷◌, All, IfOk, None, OnOk, filter, if◌then◌else◌, length, reverse, slice_index_or, take, unwrap_or, vec_len};
 ghost use Rattle.tally_sessions.specs.Choice.{is_shown};
 ghost use Rattle.tally_sessions.specs.Hosts.{of_host};
 ghost use Rattle.tally_sessions.specs.Lent.{entries_in};
@@ -224,6 +224,7 @@ impl Track {
         requires track { spec.IsTrack host (entries_in entries) (length (entries_in entries)) self.now }
         ensures value { result ≡ seconds_of who.now (stays_of host (entries_in entries.entry) until) }
         ensures fits { result ≤ 4294967295 * length (of_host host (entries_in entries.entry)) }
+        ensures all_fit { seconds_of None (stays_of host (entries_in entries.entry) until) ≤ 4294967295 * length (of_host host (entries_in entries.entry)) }
     {
         let time = self.time_now(until);
         let mut seconds = self.sums.of(who);

@@ -1,4 +1,4 @@
-use Rattle.std.proofs.Common.{◌∙◌, ◌≤ℤ◌, ℤ, pos, unwrap_or, arith, rules}
+use Rattle.std.proofs.Common.{◌∙◌, ◌≤ℤ◌, ℤ, None, pos, unwrap_or, arith, rules}
 use Rattle.std.proofs.lemmas.Int.{ints, to_z-of_z}
 use Rattle.std.proofs.lemmas.List.Sums.{sum_by_more}
 use Rattle.std.specs.Int.{w32}
@@ -53,3 +53,11 @@ returns-clause-fits c =
     let is = c.time_now-time.ensures in
     let last : unwrap_or c.args.until a.last ≤ℤ pos 2147483647 = omega (arith, ints) in
     omega (arith, returns-clause-value c, seconds_fit c.args.who.now c.args.host (entries_in c.args.entries) a c.args.until c.requires.track last)
+
+pub returns-clause-all_fit : goal.returns-clause-all_fit
+returns-clause-all_fit c =
+    let a = c.args.self.now in
+    let fits : FitsSigned w32 c.time_now-time.result = search rules in
+    let is = c.time_now-time.ensures in
+    let last : unwrap_or c.args.until a.last ≤ℤ pos 2147483647 = omega (arith, ints) in
+    seconds_fit None c.args.host (entries_in c.args.entries) a c.args.until c.requires.track last

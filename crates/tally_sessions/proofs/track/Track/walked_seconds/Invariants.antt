@@ -2,7 +2,7 @@ use Rattle.std.proofs.Common.{◌≡◌, ◌*◌, ◌≤◌, take}
 use Rattle.tally_sessions.specs.Lent.{entries_in}
 use Rattle.tally_sessions.specs.Sums.{seconds_in, sessions_among}
 use Rattle.tally_sessions.specs.Totals.{stays_of}
-use Rattle.tally_sessions.proofs.track.Track.chosen_seconds.Given as goal
+use Rattle.tally_sessions.proofs.track.Track.walked_seconds.Given as goal
 
 abbrev pub invariant-loop-i : goal.invariant-loop-i
 invariant-loop-i l = record {
