@@ -19,6 +19,7 @@ pub mod NameWords
 pub mod RowLemmas
 pub mod RowOrder
 pub mod RowSteps
+pub mod RowTotals
 pub mod RowWalk
 pub mod UserChanges
 pub mod UserCounts

@@ -6,7 +6,7 @@ use Rattle.tally_sessions.specs.declared.entry.Entry.{Entry}
 use Rattle.tally_sessions.specs.declared.entry.Stay.{Stay}
 use Rattle.tally_sessions.specs.declared.sums.Session.{Session}
 use Rattle.tally_sessions.specs.Rows.{day_time, day_times, day_user_time, day_user_times, user_time, user_times}
-use Rattle.tally_sessions.specs.Sums.{seconds_of_day, seconds_of_day_user, seconds_of_user}
+use Rattle.tally_sessions.specs.Sums.{seconds_in, seconds_of_day, seconds_of_day_user, seconds_of_user}
 use Rattle.tally_sessions.specs.Totals.{stays_of}
 
 -- the seconds of a stay over days that hold all of it are its length
@@ -29,3 +29,7 @@ pub record HaveRows (sessions : List Session) : Type 0 where
 -- this is so of all sessions
 abbrev pub TimesHaveRows : Type 0
 TimesHaveRows = (sessions : List Session) → HaveRows sessions
+
+-- the rows of the users add up to the total
+abbrev pub RowsAddUp : Type 0
+RowsAddUp = (sessions : List Session) → sum_by (λ row. row.seconds) (user_times sessions) ≡ seconds_in sessions

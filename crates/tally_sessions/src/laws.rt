@@ -1,11 +1,16 @@
 //! Laws of the rows of connect time and of what is chosen, which hold of every list of entries.
 ghost use Rattle.tally_sessions.specs.ChoiceLaws.{NothingIsLeftOut, PeriodsAddUp, UsersAddUp};
-ghost use Rattle.tally_sessions.specs.Laws.{TimesHaveRows};
+ghost use Rattle.tally_sessions.specs.Laws.{RowsAddUp, TimesHaveRows};
 
 /// Each user, each day, and each user on a day with connect time has a row, on every clock, and whatever sessions are
 /// chosen.
 pub fn times_have_rows()
     ensures { TimesHaveRows }
+{}
+
+/// The rows of the users add up to the total, whatever sessions are chosen.
+pub fn user_rows_add_up()
+    ensures { RowsAddUp }
 {}
 
 /// The seconds up to a moment and those from it on are the seconds of the whole period: of all users and of each, on all days and
