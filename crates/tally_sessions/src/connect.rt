@@ -1,5 +1,5 @@
 //! Connect time by user and by day, as ac(1) gives it.
-ghost use Rattle.std.specs.Prelude.{◌≡◌, ◌<◌, ◌^◌, ℕ, List as Items, All, IfOk, filter, map, nat_lt};
+ghost use Rattle.std.specs.Prelude.{◌≡◌, ◌<◌, ◌^◌, ℕ, List as Items, All, IfOk, OnOk, filter, map, nat_lt, sum_by};
 ghost use Rattle.std.specs.BTreeMap.{IsOrdered};
 ghost use Rattle.std.specs.Cmp.Lexicographic.{slice_cmp};
 ghost use Rattle.std.specs.Ordering.{int_cmp, nat_cmp};
@@ -7,7 +7,7 @@ ghost use Rattle.tally_sessions.specs.Days.{IsDay, IsOffset, local};
 ghost use Rattle.tally_sessions.specs.inside.Sums.{above_zero, day_time_of, user_time_of, sum_at};
 ghost use Rattle.tally_sessions.specs.Rows.{day_times, day_user_times, user_times};
 ghost use Rattle.tally_sessions.specs.Sums.{seconds_in, seconds_of_user, sessions_of};
-ghost use Rattle.tally_sessions.specs.Totals.{connect_of};
+ghost use Rattle.tally_sessions.specs.Totals.{connect_of, total_of};
 
 mod chosen_sums;
 mod cut;
@@ -76,7 +76,8 @@ impl Sessions {
         alloc: Global,
         until: Option<i32>,
     ) -> Result<BTreeMap<NameKey, u64>, Memory>
-        ensures { IfOk result (λ sums. (user : Items ℕ) → sum_at (slice_cmp nat_cmp) sums.entries user ≡ connect_of user self.now.entries until) }
+        ensures value { IfOk result (λ sums. (user : Items ℕ) → sum_at (slice_cmp nat_cmp) sums.entries user ≡ connect_of user self.now.entries until) }
+        ensures fits { OnOk result (total_of self.now.entries until < 2 ^ 52) }
     {
         let entries = self.entries();
         let mut sums = BTreeMap::new(alloc);
@@ -93,7 +94,8 @@ impl Sessions {
         choice: &LoginChoice,
         until: Option<i32>,
     ) -> Result<BTreeMap<NameKey, u64>, Memory>
-        ensures { IfOk result (λ sums. (user : Items ℕ) → sum_at (slice_cmp nat_cmp) sums.entries user ≡ seconds_of_user user (sessions_of choice.now self.now.entries until)) }
+        ensures value { IfOk result (λ sums. (user : Items ℕ) → sum_at (slice_cmp nat_cmp) sums.entries user ≡ seconds_of_user user (sessions_of choice.now self.now.entries until)) }
+        ensures fits { OnOk result (seconds_in (sessions_of choice.now self.now.entries until) < 2 ^ 52) }
     {
         if choice.is_every() {
             self.all_user_sums(alloc, until)
@@ -122,7 +124,8 @@ impl Sessions {
         choice: &LoginChoice,
         until: Option<i32>,
     ) -> Result<List<UserTime>, Memory>
-        ensures { IfOk result (λ rows. rows ≡ user_times (sessions_of choice.now self.now.entries until)) }
+        ensures value { IfOk result (λ rows. rows ≡ user_times (sessions_of choice.now self.now.entries until)) }
+        ensures fits { IfOk result (λ rows. sum_by (λ row. row.seconds) rows < 2 ^ 52) }
     {
         let sums = self.user_sums(alloc, choice, until)?;
         List::from_vec(alloc, user_rows(alloc, &sums)?)

@@ -3,6 +3,7 @@ use Rattle.std.proofs.Common.{◌≡◌, ℕ, zero, suc, ◌+◌, ◌<◌, ◌�
 use Rattle.std.proofs.lemmas.Bool.{false≢true}
 use Rattle.std.proofs.lemmas.List.{get_or-map, length-map, take_more}
 use Rattle.std.proofs.lemmas.List.Sums.{sum_by-cons, sum_by-set}
+use Rattle.std.proofs.lemmas.Slice.Eq.{bytes_eq-Decides}
 use Rattle.std.proofs.lemmas.Slice.Zip.{get_or-zip}
 use Rattle.std.specs.List.{zip}
 use Rattle.std.specs.Prelude.{◌&&◌, bytes_eq, not, sum_by}
@@ -12,6 +13,7 @@ use Rattle.tally_records.specs.Event.{event_of}
 use Rattle.tally_records.specs.declared.choice.LoginChoice.{LoginChoice}
 use Rattle.tally_records.specs.declared.login.Event.{Event}
 use Rattle.tally_records.specs.declared.login.Event.TheVariants.{Login, Logout, Boot, Down, OldTime, NewTime, Nothing}
+use Rattle.tally_sessions.specs.Choice.{is_counted}
 use Rattle.tally_sessions.specs.Stays.{is_boot_event, starts_stay}
 use Rattle.tally_sessions.specs.Sums.{seconds_in, seconds_of_user, session_in, sessions_among}
 use Rattle.tally_sessions.specs.Totals.{stays_of}
@@ -37,6 +39,20 @@ one_of_user user s = by (bytes_eq s.user user)
   where
     by : (b : Bool) → seconds_in (cond b (s ∷ []) []) ≡ cond b (seconds_between s.begin s.end_time) 0
     by true = one_second s
+    by false = refl
+
+-- the session that a stay is has only seconds of its user
+pub one_is_of_user : (choice : LoginChoice) (s : Stay) → seconds_in (sessions_among choice (s ∷ [])) ≡ seconds_of_user s.user (sessions_among choice (s ∷ []))
+one_is_of_user choice s = by (is_counted choice s)
+  where
+    session : Session
+    session = session_in choice.period s
+
+    own : bytes_eq s.user s.user ≡ true
+    own = (bytes_eq-Decides s.user s.user).1 refl
+
+    by : (b : Bool) → seconds_in (map (session_in choice.period) (cond b (s ∷ []) [])) ≡ seconds_of_user s.user (map (session_in choice.period) (cond b (s ∷ []) []))
+    by true = λ i. seconds_in (cond (sym own i) (session ∷ []) [])
     by false = refl
 
 module _ (choice : LoginChoice) (host : ℕ) (es : List Entry) (a : Track) (until : Option ℤ) (i : ℕ) (h : IsTrack host es (length es) a) (within : i < length a.stays.items) where

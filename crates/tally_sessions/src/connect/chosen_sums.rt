@@ -1,7 +1,7 @@
 //! Sums over the chosen sessions of all hosts.
 ghost use Rattle.std.specs.Cmp.Lexicographic.{slice_cmp};
 ghost use Rattle.std.specs.Ordering.{nat_cmp};
-ghost use Rattle.std.specs.Prelude.{◌≡◌, ◌<◌, ◌^◌, ℕ, List, IfOk};
+ghost use Rattle.std.specs.Prelude.{◌≡◌, ◌<◌, ◌^◌, ℕ, List, IfOk, OnOk};
 ghost use Rattle.tally_sessions.specs.Sums.{seconds_in, seconds_of_user, sessions_of};
 ghost use Rattle.tally_sessions.specs.inside.Sums.{sum_at};
 
@@ -19,7 +19,8 @@ impl Sessions {
         choice: &LoginChoice,
         until: Option<i32>,
     ) -> Result<BTreeMap<NameKey, u64>, Memory>
-        ensures { IfOk result (λ sums. (user : List ℕ) → sum_at (slice_cmp nat_cmp) sums.entries user ≡ seconds_of_user user (sessions_of choice.now self.now.entries until)) }
+        ensures value { IfOk result (λ sums. (user : List ℕ) → sum_at (slice_cmp nat_cmp) sums.entries user ≡ seconds_of_user user (sessions_of choice.now self.now.entries until)) }
+        ensures fits { OnOk result (seconds_in (sessions_of choice.now self.now.entries until) < 2 ^ 52) }
     {
         let entries = self.entries();
         let mut sums = BTreeMap::new(alloc);

@@ -1,5 +1,5 @@
 //! The seconds of a host's sessions, added to a sum for each user.
-ghost use Rattle.std.specs.Prelude.{◌≡◌, ◌≤◌, ◌<◌, ◌+◌, ◌*◌, ◌^◌, ℕ, List, Some, OnOk, length, unwrap_or, vec_len};
+ghost use Rattle.std.specs.Prelude.{◌≡◌, ◌≤◌, ◌<◌, ◌+◌, ◌*◌, ◌^◌, ℕ, List, Option, Some, OnOk, length, unwrap_or, vec_len};
 ghost use Rattle.std.specs.Cmp.Lexicographic.{slice_cmp};
 ghost use Rattle.std.specs.Ordering.{nat_cmp};
 ghost use Rattle.tally_sessions.specs.Hosts.{of_host};
@@ -41,7 +41,7 @@ impl Track {
         requires room { (user : List ℕ) → sum_at (slice_cmp nat_cmp) sums.old.entries user < 2 ^ 62 }
         ensures value { OnOk result ((user : List ℕ) → sum_at (slice_cmp nat_cmp) sums.new.entries user
             ≡ sum_at (slice_cmp nat_cmp) sums.old.entries user + seconds_of (Some user) (stays_of host (entries_in entries.entry) until)) }
-        ensures fits { OnOk result ((user : List ℕ) → seconds_of (Some user) (stays_of host (entries_in entries.entry) until)
+        ensures fits { OnOk result ((who : Option (List ℕ)) → seconds_of who (stays_of host (entries_in entries.entry) until)
             ≤ 4294967295 * length (of_host host (entries_in entries.entry))) }
     {
         let time = self.time_now(until);

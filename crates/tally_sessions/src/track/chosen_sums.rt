@@ -142,6 +142,7 @@ impl Track {
             ≡ seconds_of_user user (sessions_among choice.now (stays_of host (entries_in entries.entry) until)) }
         ensures fits { (user : List ℕ) → seconds_of_user user (sessions_among choice.now (stays_of host (entries_in entries.entry) until))
             ≤ 4294967295 * length (of_host host (entries_in entries.entry)) }
+        ensures all { seconds_in (sessions_among choice.now (stays_of host (entries_in entries.entry) until)) ≤ 4294967295 * length (of_host host (entries_in entries.entry)) }
     {
         let pick = self.pick(choice, has_names(choice));
         for i in 0..self.stays.len() {
@@ -166,6 +167,7 @@ impl Track {
             ≡ sum_at (slice_cmp nat_cmp) sums.old.entries user + seconds_of_user user (sessions_among choice.now (stays_of host (entries_in entries.entry) until))) }
         ensures fits { OnOk result ((user : List ℕ) → seconds_of_user user (sessions_among choice.now (stays_of host (entries_in entries.entry) until))
             ≤ 4294967295 * length (of_host host (entries_in entries.entry))) }
+        ensures all { OnOk result (seconds_in (sessions_among choice.now (stays_of host (entries_in entries.entry) until)) ≤ 4294967295 * length (of_host host (entries_in entries.entry))) }
     {
         let mut numbers = vec![in alloc; 0; self.sums.users.len()]?;
         self.count_users(&mut numbers, host, entries, choice, until);
@@ -189,6 +191,7 @@ impl Track {
             ≡ sum_at (slice_cmp nat_cmp) sums.old.entries user + seconds_of_user user (sessions_among choice.now (stays_of host (entries_in entries.entry) until))) }
         ensures fits { OnOk result ((user : List ℕ) → seconds_of_user user (sessions_among choice.now (stays_of host (entries_in entries.entry) until))
             ≤ 4294967295 * length (of_host host (entries_in entries.entry))) }
+        ensures all { OnOk result (seconds_in (sessions_among choice.now (stays_of host (entries_in entries.entry) until)) ≤ 4294967295 * length (of_host host (entries_in entries.entry))) }
     {
         if self.has_sums_of(choice) {
             self.add_users(sums, host, entries, &choice.users, until)

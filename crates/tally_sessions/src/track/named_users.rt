@@ -112,6 +112,7 @@ impl Track {
             ≡ sum_at (slice_cmp nat_cmp) sums.old.entries user + (if is_name user name.now then seconds_of (Some user) (stays_of host (entries_in entries.entry) until) else 0)) }
         ensures fits { OnOk result ((user : List ℕ) → (if is_name user name.now then seconds_of (Some user) (stays_of host (entries_in entries.entry) until) else 0)
             ≤ 4294967295 * length (of_host host (entries_in entries.entry))) }
+        ensures all { OnOk result (IfSome name.now (λ _. seconds_of None (stays_of host (entries_in entries.entry) until) ≤ 4294967295 * length (of_host host (entries_in entries.entry)))) }
     {
         let Some(name) = name else {
             return Ok(());
@@ -136,6 +137,7 @@ impl Track {
             ≡ sum_at (slice_cmp nat_cmp) sums.old.entries user + own_seconds user users.now (stays_of host (entries_in entries.entry) until)) }
         ensures fits { OnOk result ((user : List ℕ) → own_seconds user users.now (stays_of host (entries_in entries.entry) until)
             ≤ 4294967295 * length (of_host host (entries_in entries.entry))) }
+        ensures all { OnOk result (seconds_of_names users.now (stays_of host (entries_in entries.entry) until) ≤ 4294967295 * length (of_host host (entries_in entries.entry))) }
     {
         for place in 0..NAMED_LIMIT {
             let name = new_name(users, place);

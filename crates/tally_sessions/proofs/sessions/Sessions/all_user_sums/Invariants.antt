@@ -1,4 +1,4 @@
-use Rattle.std.proofs.Common.{◌≡◌, ◌*◌, ◌≤◌, ℕ, List, Some, map, sum}
+use Rattle.std.proofs.Common.{◌≡◌, ◌*◌, ◌≤◌, ℕ, List, None, Some, map, sum}
 use Rattle.std.specs.Cmp.Lexicographic.{slice_cmp}
 use Rattle.std.specs.List.{range_with_len}
 use Rattle.std.specs.Ordering.{nat_cmp}
@@ -13,4 +13,5 @@ abbrev pub invariant-loop-host : goal.invariant-loop-host
 invariant-loop-host l = record {
   told : (user : List ℕ) → sum_at (slice_cmp nat_cmp) l.sums.entries user ≡ sum (map (λ host. seconds_of (Some user) (stays_of host (entries_in l.entries) l.until)) (range_with_len 0 l.host));
   fits : (user : List ℕ) → sum_at (slice_cmp nat_cmp) l.sums.entries user ≤ 4294967295 * count_below l.host (entries_in l.entries);
+  all : sum (map (λ host. seconds_of None (stays_of host (entries_in l.entries) l.until)) (range_with_len 0 l.host)) ≤ 4294967295 * count_below l.host (entries_in l.entries);
 }

@@ -79,8 +79,8 @@ returns-clause-value c user =
     omega (arith, c.loop-k.invariant user, sum_at_end (Some user) c.args.host es c.args.self.now c.args.until c.loop-k.k c.requires.track c.len-k-end.ensures.distinct (omega (arith, c.len-k-end.ensures.len)))
 
 pub returns-clause-fits : goal.returns-clause-fits
-returns-clause-fits c user =
+returns-clause-fits c who =
     let fits : FitsSigned w32 c.time_now-time.result = search rules in
     let is = c.time_now-time.ensures in
     let last : unwrap_or c.args.until c.args.self.now.last ≤ℤ pos 2147483647 = omega (arith, ints) in
-    seconds_fit (Some user) c.args.host (entries_in c.args.entries) c.args.self.now c.args.until c.requires.track last
+    seconds_fit who c.args.host (entries_in c.args.entries) c.args.self.now c.args.until c.requires.track last
