@@ -5,3 +5,4 @@ pub mod Parts
 pub mod Permuted
 pub mod SameAnswers
 pub mod RowDays
+pub mod RowSums

@@ -3,3 +3,4 @@ pub mod Kept
 pub mod LoginStates
 pub mod LoginStores
 pub mod Refusals
+pub mod RowSums

@@ -1,7 +1,8 @@
 //! Answers of sessions and a summary to questions.
-ghost use Rattle.std.specs.Prelude.{◌≡◌, ◌≢◌, ◌<◌, IfOk, IfErr, OnOk};
+ghost use Rattle.std.specs.Prelude.{◌≡◌, ◌≢◌, ◌<◌, ◌^◌, IfOk, IfErr, OnOk, false, true};
 ghost use Rattle.tally_book.specs.Answers.{answer_of, connect_rows, HasDays, IsAskable, NamesHostBelow};
 ghost use Rattle.tally_book.specs.inside.Refusals.{IsNoSuchHost};
+ghost use Rattle.tally_book.specs.inside.RowSums.{AddUpTo, seconds_of};
 ghost use Rattle.tally_sessions.specs.Days.{IsOffset, local};
 ghost use Rattle.tally_sessions.specs.Sums.{seconds_in, sessions_of};
 ghost use Rattle.tally_sessions.specs.Totals.{first_time, latest_stays};
@@ -12,7 +13,7 @@ ghost use Rattle.tally_usage.specs.User.{user_rows};
 
 use crate::connect::connect_rows;
 use crate::fault::AskFault;
-use crate::question::{Answer, Question};
+use crate::question::{Answer, ConnectRow, Question};
 use std::alloc::Global;
 use tally_clock::Clock;
 use tally_records::{LoginChoice, Memory};
@@ -46,6 +47,33 @@ fn last_answer(
     Ok(Answer::Last { rows, first })
 }
 
+/// The seconds of rows.
+fn seconds_of_rows(rows: &[ConnectRow]) -> u64
+    requires fits { seconds_of rows.now < 2 ^ 64 }
+    ensures value { result ≡ seconds_of rows.now }
+{
+    rows.iter().map(|row| row.seconds).sum()
+}
+
+/// The seconds of the chosen sessions. Rows by user alone add up to them, so those of a choice are not counted a second time.
+fn total_of(
+    rows: &[ConnectRow],
+    sessions: &Sessions,
+    by_day: bool,
+    by_user: bool,
+    choice: &LoginChoice,
+    until: Option<i32>,
+) -> u64
+    requires users { by_day ≡ false → by_user ≡ true → AddUpTo (seconds_in (sessions_of choice.now sessions.now.entries until)) rows.now }
+    ensures value { result ≡ seconds_in (sessions_of choice.now sessions.now.entries until) }
+{
+    if by_user && !by_day && !choice.is_every() {
+        seconds_of_rows(rows)
+    } else {
+        sessions.total(choice, until)
+    }
+}
+
 fn connect_answer(
     alloc: Global,
     clock: &Clock,
@@ -63,7 +91,7 @@ fn connect_answer(
     let rows = connect_rows(
         alloc, clock, sessions, by_day, by_user, offset, choice, until,
     )?;
-    let total = sessions.total(choice, until);
+    let total = total_of(rows.as_slice(), sessions, by_day, by_user, choice, until);
     Ok(Answer::Connect { rows, total })
 }
 

@@ -1,13 +1,15 @@
 //! The rows of connect times.
-ghost use Rattle.std.specs.Prelude.{◌≡◌, All, IfOk, map};
+ghost use Rattle.std.specs.Prelude.{◌≡◌, All, IfOk, false, map, true};
 ghost use Rattle.tally_book.specs.Answers.{HasDay, connect_rows, row_of_day, row_of_day_user, row_of_user};
+ghost use Rattle.tally_book.specs.inside.RowSums.{AddUpTo};
 ghost use Rattle.tally_sessions.specs.Days.{IsDay, IsOffset, local};
+ghost use Rattle.tally_sessions.specs.Sums.{seconds_in, sessions_of};
 
 use crate::question::ConnectRow;
 use std::alloc::{AllocError, Global};
 use tally_clock::Clock;
 use tally_records::{List, LoginChoice, Memory};
-use tally_sessions::{DayTime, DayUserTime, Sessions, UserTime};
+use tally_sessions::{DayTime, DayUserTime, Sessions, UserTime, user_rows_add_up};
 
 fn user_rows(alloc: Global, times: &[UserTime]) -> Result<Vec<ConnectRow>, AllocError>
     ensures { IfOk result (λ rows. rows.items ≡ map row_of_user times.now) }
@@ -49,7 +51,7 @@ fn day_user_rows(alloc: Global, times: &[DayUserTime]) -> Result<Vec<ConnectRow>
 }
 
 /// The rows of connect times of the chosen sessions by day, by user, by both or none, with days by a clock and an offset in
-/// minutes east of it.
+/// minutes east of it. Those by user alone add up to the total.
 pub(crate) fn connect_rows(
     alloc: Global,
     clock: &Clock,
@@ -63,10 +65,13 @@ pub(crate) fn connect_rows(
     requires { IsOffset offset }
     ensures value { IfOk result (λ rows. rows ≡ connect_rows by_day by_user (local clock.now offset) choice.now sessions.now.entries until) }
     ensures days { IfOk result (All HasDay) }
+    ensures users { IfOk result (λ rows. by_day ≡ false → by_user ≡ true → AddUpTo (seconds_in (sessions_of choice.now sessions.now.entries until)) rows) }
 {
     match (by_day, by_user) {
         (false, false) => Ok(List::new(alloc)),
         (false, true) => {
+            // The rows have the seconds of all chosen sessions.
+            user_rows_add_up();
             let times = sessions.connect_by_user(alloc, choice, until)?;
             List::from_vec(alloc, user_rows(alloc, times.as_slice())?)
         }
