@@ -94,6 +94,21 @@ def add_users_of_ac(row, lines, U, session):
     ac('users-of-ac', "The other users: with bob's 5 hours these are all of the 7.50.", ['-p', '--user', 'cid', '--user', 'ann'],
        [('ann', '2.00'), ('cid', '0.50'), ('total', '2.50')], ',ac -p')
     ac('line-of-ac', 'ann and bob have 2 hours each on tty1.', ['--line', 'tty1'], [('total', '4.00')])
+    add_users_by_turns(row, lines, U)
+
+
+def add_users_by_turns(row, lines, U):
+    # Each quarter of an hour ann, bob or cid logs in on tty1, by turns, and ends the session before. Of 100 logins 99 are ended,
+    # 33 of each, which are 8.25 hours; the last, of ann, is open, and has an hour more up to 92,700.
+    turns = b''.join(U(7, 'tty1', ('ann', 'bob', 'cid')[at % 3], '-', 900 * at) for at in range(100))
+
+    def ac(name, about, words, hours, needs=''):
+        row(name, 'ac,choice' + needs, about, ['ac', *words, 'f'], lines(*(f'{who:<28}{time:>5}' for who, time in hours)), files={'f': turns})
+
+    ac('user-by-turns', 'A third of 99 quarters of an hour on one line.', ['--user', 'bob'], [('total', '8.25')])
+    ac('users-by-turns', "A user who is named twice counts once, also of many sessions; ann's last one is an hour long.",
+       ['-p', '--user', 'ann', '--user', 'cid', '--user', 'ann', '--until', '92700'],
+       [('ann', '9.25'), ('cid', '8.25'), ('total', '17.50')], ',ac -p,until')
 
 
 def add_periods_of_last(row, lines, U):
