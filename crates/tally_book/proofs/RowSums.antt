@@ -6,14 +6,16 @@ use Rattle.tally_book.specs.declared.question.ConnectRow.{ConnectRow}
 use Rattle.tally_book.specs.inside.RowSums.{AddUpTo, seconds_of}
 use Rattle.tally_sessions.specs.declared.times.UserTime.{UserTime}
 
--- a user's row has the user's seconds
-seconds_of_users : (times : List UserTime) → seconds_of (map row_of_user times) ≡ sum_by (λ (t : UserTime). t.seconds) times
-seconds_of_users [] = refl
-seconds_of_users (t ∷ times) =
-    sum_by-cons (λ (row : ConnectRow). row.seconds) (row_of_user t) (map row_of_user times) ∙ ap (λ n. t.seconds + n) (seconds_of_users times) ∙ sym (sum_by-cons (λ (x : UserTime). x.seconds) t times)
+abbrev seconds_of_times : List UserTime → ℕ
+seconds_of_times times = sum_by (λ (t : UserTime). t.seconds) times
 
-pub user_rows_add_up_to : (times : List UserTime) (rows : List ConnectRow) (seconds : ℕ) → rows ≡ map row_of_user times → sum_by (λ (t : UserTime). t.seconds) times ≡ seconds → sum_by (λ (t : UserTime). t.seconds) times < 2 ^ 52
-    → AddUpTo seconds rows
-user_rows_add_up_to times rows seconds is sum few =
-    let all : seconds_of rows ≡ sum_by (λ (t : UserTime). t.seconds) times = ap seconds_of is ∙ seconds_of_users times in
-    record { sum = all ∙ sum; fits = omega (arith, all, few) }
+-- a user's row has the user's seconds
+same_seconds : (times : List UserTime) → seconds_of (map row_of_user times) ≡ seconds_of_times times
+same_seconds [] = refl
+same_seconds (t ∷ times) =
+    sum_by-cons (λ (row : ConnectRow). row.seconds) (row_of_user t) (map row_of_user times) ∙ ap (λ n. t.seconds + n) (same_seconds times) ∙ sym (sum_by-cons (λ (x : UserTime). x.seconds) t times)
+
+pub user_rows_add_up_to : (times : List UserTime) (rows : List ConnectRow) → rows ≡ map row_of_user times → seconds_of_times times < 2 ^ 52 → AddUpTo (seconds_of_times times) rows
+user_rows_add_up_to times rows is few =
+    let all : seconds_of rows ≡ seconds_of_times times = ap seconds_of is ∙ same_seconds times in
+    record { sum = all; fits = omega (arith, all, few) }

@@ -1,5 +1,5 @@
 //! The rows of connect times.
-ghost use Rattle.std.specs.Prelude.{◌≡◌, All, IfOk, false, map, true};
+ghost use Rattle.std.specs.Prelude.{◌≡◌, ◌<◌, ◌^◌, All, IfOk, false, map, sum_by, true};
 ghost use Rattle.tally_book.specs.Answers.{HasDay, connect_rows, row_of_day, row_of_day_user, row_of_user};
 ghost use Rattle.tally_book.specs.inside.RowSums.{AddUpTo};
 ghost use Rattle.tally_sessions.specs.Days.{IsDay, IsOffset, local};
@@ -50,6 +50,16 @@ fn day_user_rows(alloc: Global, times: &[DayUserTime]) -> Result<Vec<ConnectRow>
         .collect(alloc)
 }
 
+/// The rows of users. They add up to the same seconds as the users do.
+fn rows_of_users(alloc: Global, times: &[UserTime]) -> Result<List<ConnectRow>, Memory>
+    requires fits { sum_by (λ time. time.seconds) times.now < 2 ^ 52 }
+    ensures rows { IfOk result (λ rows. rows ≡ map row_of_user times.now) }
+    ensures days { IfOk result (All HasDay) }
+    ensures sum { IfOk result (AddUpTo (sum_by (λ time. time.seconds) times.now)) }
+{
+    List::from_vec(alloc, user_rows(alloc, times)?)
+}
+
 /// The rows of connect times of the chosen sessions by day, by user, by both or none, with days by a clock and an offset in
 /// minutes east of it. Those by user alone add up to the total.
 pub(crate) fn connect_rows(
@@ -73,7 +83,7 @@ pub(crate) fn connect_rows(
             // The rows have the seconds of all chosen sessions.
             user_rows_add_up();
             let times = sessions.connect_by_user(alloc, choice, until)?;
-            List::from_vec(alloc, user_rows(alloc, times.as_slice())?)
+            rows_of_users(alloc, times.as_slice())
         }
         (true, false) => {
             let times = sessions.connect_by_day(alloc, clock, offset, choice, until)?;

@@ -39,7 +39,7 @@ lengths_kept p (s ∷ stays) = by (p s) (lengths_kept p stays) ∙ sym (sum_by-c
     by true rest = sum_by-cons (λ (x : Stay). x.length) s kept ∙ ap (λ n. s.length + n) rest
     by false rest = omega (arith, rest)
 
--- of two names in one place, what a third has
+-- a number counts where one of two tests is true as it does for the first and for the second
 parts_of_both : (boot a b c : Bool) (n : ℕ) → cond a 1 0 + cond b 1 0 ≡ cond c 1 0 → cond (not boot && c) n 0 ≡ cond (not boot && a) n 0 + cond (not boot && b) n 0
 parts_of_both true a b c n h = omega arith
 parts_of_both false true true true n h = absurd (omega (arith, h))
@@ -55,6 +55,7 @@ parts_of_both false false false false n h = omega arith
 abbrev part_of_name : Option (List ℕ) → Stay → ℕ
 part_of_name name s = cond (not s.is_boot && is_name s.user name) s.length 0
 
+-- without a name it has nothing
 no_name : (stays : List Stay) → 0 ≡ sum_by (part_of_name None) stays
 no_name [] = refl
 no_name (s ∷ stays) = omega (arith, no_name stays, sum_by-cons (part_of_name None) s stays, by s.is_boot)
@@ -63,13 +64,14 @@ no_name (s ∷ stays) = omega (arith, no_name stays, sum_by-cons (part_of_name N
     by true = refl
     by false = refl
 
+-- the seconds of a named user are the sum of what each stay has of the name
 named_is : (name : Option (List ℕ)) (stays : List Stay) → seconds_named name stays ≡ sum_by (part_of_name name) stays
 named_is None stays = no_name stays
 named_is (Some name) stays =
     lengths_kept (counted (Some name)) stays
     ∙ (λ i. sum_by (λ (s : Stay). cond (not s.is_boot && same_both_ways name s.user (bytes_eq name s.user) refl i) s.length 0) stays)
 
--- the sum of what each stay has of names
+-- those of names are the sum of what each stay has of them
 names_are : (names : List (Option (List ℕ))) (stays : List Stay) → seconds_of_names names stays ≡ sum_by (part_named names) stays
 names_are names stays = lengths_kept (λ (s : Stay). not s.is_boot && list_any (is_name s.user) names) stays
 
@@ -153,6 +155,7 @@ module _ (choice : LoginChoice) (of : IsOfUsers choice) where
   abbrev length_of : Session → ℕ
   length_of s = seconds_between s.begin s.end_time
 
+  -- so it has of stays the seconds of its names
   pub all_named : (stays : List Stay) → All HasLength stays → seconds_of_names choice.users stays ≡ seconds_in (sessions_among choice stays)
   all_named stays lengths = names_are choice.users stays ∙ sym (among_is length_of choice stays ∙ each stays lengths)
     where
@@ -197,11 +200,13 @@ module _ (choice : LoginChoice) (of : IsOfUsers choice) where
             ∙ moved s.is_boot (list_any (is_name user) choice.users)
         by false e = none s.is_boot (list_any (is_name s.user) choice.users) (list_any (is_name user) choice.users)
 
+    -- a sum is nothing where each part is
     own_each : (named : Bool) (ss : List Stay) → cond named (sum_by own_part ss) 0 ≡ sum_by (λ (s : Stay). cond named (own_part s) 0) ss
     own_each true ss = refl
     own_each false [] = refl
     own_each false (s ∷ ss) = omega (arith, own_each false ss, sum_by-cons (λ (x : Stay). cond false (own_part x) 0) s ss)
 
+    -- and of one user, where that is one of the names, the user's
     pub all_own : (stays : List Stay) → All HasLength stays → own_seconds user choice.users stays ≡ seconds_of_user user (sessions_among choice stays)
     all_own stays lengths =
         ap (λ n. cond (list_any (is_name user) choice.users) n 0) (lengths_kept (counted (Some user)) stays)

@@ -17,7 +17,7 @@ same_name name (Some own) = refl
 any_same : (name : List ℕ) (places : List (Option (List ℕ))) → list_any (λ p. option_eq bytes_eq p (Some name)) places ≡ list_any (is_name name) places
 any_same name places = λ i. list_any (λ p. same_name name p i) places
 
--- where the name at one place more has a user, the first places have it just where one of them is like that place
+-- where a name is a user's, some places have the user just where one of them is like that name
 as_before : (user : List ℕ) (name : Option (List ℕ)) (places : List (Option (List ℕ))) → is_name user name ≡ true → list_any (is_name user) places ≡ list_any (λ p. option_eq bytes_eq p name) places
 as_before user None places is = absurd (cc)
 as_before user (Some name) places is = ap (λ (u : List ℕ). list_any (is_name u) places) (sym ((bytes_eq-Decides name user).0 is)) ∙ sym (any_same name places)
@@ -26,11 +26,13 @@ as_before user (Some name) places is = ap (λ (u : List ℕ). list_any (is_name 
 abbrev pub AddsName : List (Option (List ℕ)) → Option (List ℕ) → List (Option (List ℕ)) → Type 0
 AddsName some name all = (user : List ℕ) → cond (list_any (is_name user) some) 1 0 + cond (is_name user name) 1 0 ≡ cond (list_any (is_name user) all) 1 0
 
+-- one test more that is true only where the others are counts nothing
 none_more : (a b c : Bool) → c ≡ (a || b) → (b ≡ true → a ≡ true) → cond a 1 0 + 0 ≡ cond c 1 0
 none_more true b c is h = ap {B = ℕ} (λ t. cond t 1 0) (sym is)
 none_more false false c is h = ap {B = ℕ} (λ t. cond t 1 0) (sym is)
 none_more false true c is h = absurd (let no = h refl in cc)
 
+-- and one that is true only where the others are not counts itself
 one_more : (a b c : Bool) → c ≡ (a || b) → (b ≡ true → a ≡ false) → cond a 1 0 + cond b 1 0 ≡ cond c 1 0
 one_more true false c is h = ap {B = ℕ} (λ t. cond t 1 0) (sym is)
 one_more true true c is h = absurd (let no = h refl in cc)
