@@ -760,7 +760,7 @@ show, `examples/`. No two have one name.
     tools/refusals TALLY_BINARY NAME..        these rows, with each allocation, read, write and call for random bytes or the time refused in turn
     tools/fuzz TALLY_BINARY                   random files and words, beside the slow definitions of slow.py
     tools/sizes TALLY_BINARY                  every report over files of many sizes, with ample memory
-    tools/thresholds TALLY_BINARY             users on days, over files at and over each size up to which a table is made
+    tools/thresholds TALLY_BINARY             users on days, and named users, over files at and over each size at which `ac` goes another way
     tools/readers TALLY_BINARY                tables, as other programs read them
     tools/schedules TALLY_BINARY              many files with many numbers of threads
     tools/surroundings TALLY_BINARY           runs on a terminal, with odd inputs, and with little of what the system gives
