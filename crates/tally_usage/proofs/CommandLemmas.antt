@@ -159,7 +159,7 @@ module _ (all : Bool) (es : List (Command × Usage)) (rs : List ProcRecord) (has
       ∙ ap usage_of (filter-same (λ r. is_joined all (command_of r, usage_at (command_of r))) is_joined_record rs (λ r m. joined_here r))
 
   -- what the joined groups used fits
-  pub others-Fits : All IsBounded rs → length rs ≤ 2 ^ 20 → Fits others
+  pub others-Fits : All IsBounded rs → length rs ≤ 2 ^ 28 → Fits others
   others-Fits bounded few = subst Fits (sym others_is) (filter-Fits is_joined_record rs bounded few)
 
   -- where a record is joined, the rows' last is that of the definition

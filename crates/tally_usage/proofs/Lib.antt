@@ -6,6 +6,7 @@ pub mod GroupLemmas
 pub mod NumberLemmas
 pub mod PermutationLemmas
 pub mod SummaryLemmas
+pub mod SumsLemmas
 pub mod TotalsLemmas
 pub mod UsageLemmas
 pub mod UserLemmas

@@ -43,7 +43,7 @@ length-records_kept ks = length-map (entries_kept ks) (λ (e : ProcEntry). e.ite
 pub length-stored : (s : Inside) → length (records_kept (stored_of s)) ≡ length s.kept.entries
 length-stored s = length-records_kept (stored_of s) ∙ length-map s.kept.entries (kept_at s.commands.entries)
 
-pub stored-few : (s : Inside) → IsSound s → length (records_kept (stored_of s)) ≤ 2 ^ 20
+pub stored-few : (s : Inside) → IsSound s → length (records_kept (stored_of s)) ≤ 2 ^ 28
 stored-few s sound = omega (arith, length-stored s, sound.few)
 
 -- fields with the same entries and sums are sound, where what waits can be counted

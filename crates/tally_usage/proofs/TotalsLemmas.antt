@@ -24,7 +24,7 @@ use Rattle.tally_usage.proofs.UsageLemmas.{usage_of-append, usage_of-none, usage
 front-bounded : (rs : List ProcRecord) (i : ℕ) (d : ProcRecord) → All IsBounded rs → i < length rs → All IsBounded (take i rs ++ get_or rs i d ∷ [])
 front-bounded rs i d bounded within = subst (All IsBounded) (take_more rs i d within) (All-take IsBounded (i + 1) rs bounded)
 
-front-few : (rs : List ProcRecord) (i : ℕ) (d : ProcRecord) → length rs ≤ 2 ^ 20 → i < length rs → length (take i rs ++ get_or rs i d ∷ []) ≤ 2 ^ 20
+front-few : (rs : List ProcRecord) (i : ℕ) (d : ProcRecord) → length rs ≤ 2 ^ 28 → i < length rs → length (take i rs ++ get_or rs i d ∷ []) ≤ 2 ^ 28
 front-few rs i d few within = omega (arith, ap length (take_more rs i d within), length-take-le (i + 1) rs)
 
 -- a record, added to the total of those before it
@@ -32,7 +32,7 @@ pub total-counted : (rs : List ProcRecord) (i : ℕ) (d : ProcRecord) (t v : Usa
 total-counted rs i d t v is_total within is_one =
     (λ j. plus (is_total j) (is_one j)) ∙ sym (usage_of-append (take i rs) _) ∙ ap usage_of (sym (take_more rs i d within))
 
-pub total-Fits : (rs : List ProcRecord) (i : ℕ) (d : ProcRecord) (t v : Usage) → t ≡ usage_of (take i rs) → All IsBounded rs → length rs ≤ 2 ^ 20 → i < length rs → v ≡ usage_of (get_or rs i d ∷ []) → Fits (plus t v)
+pub total-Fits : (rs : List ProcRecord) (i : ℕ) (d : ProcRecord) (t v : Usage) → t ≡ usage_of (take i rs) → All IsBounded rs → length rs ≤ 2 ^ 28 → i < length rs → v ≡ usage_of (get_or rs i d ∷ []) → Fits (plus t v)
 total-Fits rs i d t v is_total bounded few within is_one =
     subst Fits (sym (total-counted rs i d t v is_total within is_one ∙ ap usage_of (take_more rs i d within))) (usage_of-Fits _ (front-bounded rs i d bounded within) (front-few rs i d few within))
 
@@ -73,7 +73,7 @@ module _ {K : Type 0} {eq : K → K → Bool} (laws : IsEquivalence eq) (exact :
           ∙ has.at q ∙ sym (usage-push_other rs r q (laws.symm q (key_of r) ∙ e))
 
   -- the usage of a record, added to what its group has, fits
-  pub record-Fits : (totals : List (K × Usage)) (rs : List ProcRecord) (i : ℕ) (d : ProcRecord) (k : K) (v : Usage) → HasTotals eq key_of totals (take i rs) → All IsBounded rs → length rs ≤ 2 ^ 20
+  pub record-Fits : (totals : List (K × Usage)) (rs : List ProcRecord) (i : ℕ) (d : ProcRecord) (k : K) (v : Usage) → HasTotals eq key_of totals (take i rs) → All IsBounded rs → length rs ≤ 2 ^ 28
       → i < length rs → k ≡ key_of (get_or rs i d) → v ≡ usage_of (get_or rs i d ∷ []) → Fits (plus (usage_at eq totals k) v)
   record-Fits totals rs i d k v has bounded few within is_key is_one =
       let r = get_or rs i d in

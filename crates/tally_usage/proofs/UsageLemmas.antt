@@ -34,7 +34,7 @@ mem_cpu_bounded r b =
     omega (arith, b.mem, mul-le-mul_left r.mem (cpu_bounded r b))
 
 -- so many bounded records fit
-pub usage_of-Fits : (rs : List ProcRecord) → All IsBounded rs → length rs ≤ 2 ^ 20 → Fits (usage_of rs)
+pub usage_of-Fits : (rs : List ProcRecord) → All IsBounded rs → length rs ≤ 2 ^ 28 → Fits (usage_of rs)
 unfolding usage_of
 usage_of-Fits rs bounded few = record {
   count = omega arith;
@@ -48,6 +48,6 @@ usage_of-Fits rs bounded few = record {
 pub length-filter-le : {X : Type 0} (p : X → Bool) (xs : List X) → length (filter p xs) ≤ length xs
 length-filter-le p xs = omega (arith, length-filter p xs, count_by-le-length p xs)
 
-pub filter-Fits : (p : ProcRecord → Bool) (rs : List ProcRecord) → All IsBounded rs → length rs ≤ 2 ^ 20 → Fits (usage_of (filter p rs))
+pub filter-Fits : (p : ProcRecord → Bool) (rs : List ProcRecord) → All IsBounded rs → length rs ≤ 2 ^ 28 → Fits (usage_of (filter p rs))
 filter-Fits p rs bounded few =
     usage_of-Fits (filter p rs) (All-filter p IsBounded rs bounded) (omega (arith, length-filter-le p rs))

@@ -5,6 +5,7 @@ pub mod Laws
 pub mod Lent
 pub mod Order
 pub mod Summary
+pub mod Sums
 pub mod Totals
 pub mod Usage
 pub mod User

@@ -1,5 +1,6 @@
 -- What no public contract cites.
 pub mod Blocks
+pub mod Counted
 pub mod Entries
 pub mod Keys
 pub mod Rows

@@ -181,7 +181,11 @@ impl Summary {
 }
 
 /// The rows in their order, or in the opposite one.
-fn turned<T: Copy>(alloc: Global, mut rows: Vec<T>, is_opposite: bool) -> Result<List<T>, Memory>
+pub(crate) fn turned<T: Copy>(
+    alloc: Global,
+    mut rows: Vec<T>,
+    is_opposite: bool,
+) -> Result<List<T>, Memory>
     ensures { IfOk result (λ turned. turned ≡ if is_opposite then reverse rows.items else rows.items) }
 {
     if is_opposite {

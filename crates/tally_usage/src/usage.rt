@@ -6,6 +6,10 @@ ghost use Rattle.tally_usage.specs.Usage.{no_usage, plus, usage_of};
 
 use tally_records::ProcRecord;
 
+/// The most records that sums count, 2^28. The processor time of each is below 2^35 ticks, so that of all is below
+/// 2^63 and fits 64 bits.
+pub const SUMS_LIMIT: usize = 268_435_456;
+
 /// What a list of process records used.
 #[derive(Clone, Copy, Debug, PartialEq, Eq)]
 pub struct Usage {
