@@ -11,6 +11,7 @@ use tally_usage::{CommandRow, ENTRY_LIMIT, Order, ProcList, Summary, UidRow, Usa
 
 mod commands;
 mod filters;
+mod sums;
 
 const MAKE: Comm = *b"make\0\0\0\0\0\0\0\0\0\0\0\0\0";
 

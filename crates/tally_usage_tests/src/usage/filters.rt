@@ -177,7 +177,12 @@ fn expect_filtered(rt: &impl Abort, alloc: Global, summary: &Summary, entries: &
 }
 
 /// Records of few names, users and numbers, so that many sums are equal.
-fn generated(rt: &impl Abort, alloc: Global, seed: u32, count: usize) -> Vec<[u8; PROC_SIZE]> {
+pub(super) fn generated(
+    rt: &impl Abort,
+    alloc: Global,
+    seed: u32,
+    count: usize,
+) -> Vec<[u8; PROC_SIZE]> {
     let mut records = Vec::new(alloc);
     let mut state = seed;
     for _ in 0..count {
