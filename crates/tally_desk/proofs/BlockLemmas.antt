@@ -7,7 +7,7 @@ use Rattle.tally_desk.specs.Batches.{record_size}
 use Rattle.tally_records.specs.declared.batch.Kind.{Kind}
 use Rattle.tally_records.specs.declared.batch.Kind.TheVariants.{Login, Proc}
 use Rattle.tally_desk.proofs.Pieces.{pieces-more, pieces-nil}
-use Rattle.tally_desk.specs.Blocks.{block_fault, block_size, blocks}
+use Rattle.tally_desk.specs.Blocks.{block_fault, block_size, blocks, limited_fault}
 use Rattle.tally_desk.specs.declared.fault.FeedFault.{FeedFault}
 
 -- the first fault of blocks that are numbered from `index`, and the blocks before it
@@ -61,6 +61,6 @@ module _ (kind : Kind) (total index : ℕ) (rest : List ℕ) where
       ∙ rw good refl
 
 -- of whole records, the fault does not depend on the size of the input
-pub any_total : (kind : Kind) (m n : ℕ) (numbered : ℕ × List ℕ) → length numbered.1 % record_size kind ≡ 0
-    → block_fault kind m numbered ≡ block_fault kind n numbered
-any_total kind m n numbered whole = rw whole refl
+pub any_total : (most : ℕ) (kind : Kind) (m n : ℕ) (numbered : ℕ × List ℕ) → length numbered.1 % record_size kind ≡ 0
+    → limited_fault most kind m numbered ≡ limited_fault most kind n numbered
+any_total most kind m n numbered whole = rw whole refl

@@ -11,9 +11,9 @@ use Rattle.tally_book.specs.declared.fault.PostFault.{PostFault}
 use Rattle.tally_book.specs.declared.fault.PostFault.TheVariants as post
 use Rattle.tally_records.specs.declared.batch.Kind.{Kind}
 use Rattle.tally_desk.specs.Feeds.{AreOf, Counts, IsAfter, IsFull, IsStopped, Posts, refusal_of}
-use Rattle.tally_desk.specs.inside.Turns.{IsBatch}
+use Rattle.tally_desk.specs.inside.Turns.{IsBatch, IsInBlock}
 use Rattle.tally_desk.specs.declared.fault.FeedFault.{FeedFault}
-use Rattle.tally_desk.specs.declared.fault.FeedFault.TheVariants.{Read, TooLong}
+use Rattle.tally_desk.specs.declared.fault.FeedFault.TheVariants.{Memory, Read, Torn, TooLong, Bad, LoginsFull, ProcsFull, CallsFull}
 use Rattle.tally_desk.specs.Passes.{PassState, deeds}
 use Rattle.tally_desk.specs.declared.feeding.Fed.{Fed}
 use Rattle.tally_desk.proofs.PostLemmas.{posts_more, posts_none, posts_same}
@@ -115,6 +115,17 @@ unplaced kind count post.Memory = tt
 unplaced kind count (post.LoginsFull stored) = tt
 unplaced kind count (post.ProcsFull stored) = tt
 unplaced kind count post.CallsFull = tt
+
+-- a fault in a block lies after those before it
+pub in_block : (kind : Kind) (count : ℕ) (fault : FeedFault) → IsInBlock kind count fault → IsAfter kind count fault
+in_block kind count Memory place = tt
+in_block kind count Read place = tt
+in_block kind count (Torn records torn) place = place
+in_block kind count TooLong place = absurd place
+in_block kind count (Bad at fault) place = place
+in_block kind count (LoginsFull stored) place = tt
+in_block kind count (ProcsFull stored) place = tt
+in_block kind count CallsFull place = tt
 
 -- the end that was not there
 pub after_all : (kind : Kind) (turn : ℕ) (fault : FeedFault) → turn ≡ 1024 → (fault ≡ Read) ⊎ (fault ≡ TooLong) → IsAfter kind turn fault

@@ -79,7 +79,7 @@ module _ (kind : Kind) (bytes : List ℕ) (old : PassState) where
 
   -- a turn that took nothing
   pub fed_stops : (new : PassState) (turn : ℕ) (rest : List ℕ) (seen : Contents) (f : FeedFault) → FedTo kind bytes (Posts old new) turn rest
-      → length bytes ≡ turn * block_size kind + length rest → TurnStops kind turn rest f → Stops kind bytes (Posts old new) seen f
+      → length bytes ≡ turn * block_size kind + length rest → TurnStops 1024 kind turn rest f → Stops kind bytes (Posts old new) seen f
   fed_stops new turn rest seen Memory fed total stops = (_, cut new turn rest fed)
   fed_stops new turn rest seen Read fed total stops = (_, cut new turn rest fed)
   fed_stops new turn rest seen (Torn records torn) fed total stops =
@@ -154,7 +154,7 @@ count_short Proc n short = omega arith
 module _ (kind : Kind) (bytes : List ℕ) (now : Option (List ℕ)) (old : PassState) where
   -- a turn that stops a feed
   pub told_stops : (new : PassState) (turn : ℕ) (seen : Contents) (f : FeedFault) → (told : Told kind now (Posts old new) turn bytes)
-      → TurnStops kind turn told.rest f → Stops kind bytes (Posts old new) seen f
+      → TurnStops 1024 kind turn told.rest f → Stops kind bytes (Posts old new) seen f
   told_stops new turn seen f told stops = fed_stops kind bytes old new turn told.rest seen f told.fed told.total stops
 
   block_of_total : (mid : PassState) (turn : ℕ) → (told : Told kind now (Posts old mid) turn bytes)
@@ -164,19 +164,19 @@ module _ (kind : Kind) (bytes : List ℕ) (now : Option (List ℕ)) (old : PassS
 
   -- a block whose post was refused
   pub told_unposted : (after : Option (List ℕ)) (mid new : PassState) (turn : ℕ) (batch : Records) (seen : Contents) (refusal : PostFault) → (told : Told kind now (Posts old mid) turn bytes)
-      → TakesBlock kind turn told.rest after batch → deeds new ≡ deeds mid → Refuses seen batch refusal → Stops kind bytes (Posts old new) seen (refusal_of refusal)
+      → TakesBlock 1024 kind turn told.rest after batch → deeds new ≡ deeds mid → Refuses seen batch refusal → Stops kind bytes (Posts old new) seen (refusal_of refusal)
   told_unposted after mid new turn batch seen refusal told takes same cause =
       fed_unposted kind bytes old new turn told.rest seen refusal (fed_same kind bytes old mid new turn told.rest told.fed same) takes.some (block_of_total mid turn told takes.good)
       (subst (λ b. Refuses seen b refusal) takes.batch_is cause)
 
   fed_next : (after : Option (List ℕ)) (mid new : PassState) (turn : ℕ) (batch : Records) → (told : Told kind now (Posts old mid) turn bytes)
-      → TakesBlock kind turn told.rest after batch → Posts mid new (batch ∷ []) → FedTo kind bytes (Posts old new) (turn + 1) (drop (block_size kind) told.rest)
+      → TakesBlock 1024 kind turn told.rest after batch → Posts mid new (batch ∷ []) → FedTo kind bytes (Posts old new) (turn + 1) (drop (block_size kind) told.rest)
   fed_next after mid new turn batch told takes posted =
       fed_more kind bytes old mid new turn told.rest told.fed takes.some (block_of_total mid turn told takes.good) (subst (λ b. Posts mid new (b ∷ [])) takes.batch_is posted)
 
   -- a full block
   pub told_more : (after : Option (List ℕ)) (mid new : PassState) (turn : ℕ) (batch : Records) → (told : Told kind now (Posts old mid) turn bytes)
-      → TakesBlock kind turn told.rest after batch → Posts mid new (batch ∷ []) → IsFull batch → Told kind after (Posts old new) (turn + 1) bytes
+      → TakesBlock 1024 kind turn told.rest after batch → Posts mid new (batch ∷ []) → IsFull batch → Told kind after (Posts old new) (turn + 1) bytes
   told_more after mid new turn batch told takes posted full =
       let few : length (take (block_size kind) told.rest) ≤ block_size kind = omega (arith, length-take (block_size kind) told.rest) in
       let size : length (take (block_size kind) told.rest) ≡ block_size kind = count_full kind _ (sym takes.count ∙ full) few in
@@ -191,7 +191,7 @@ module _ (kind : Kind) (bytes : List ℕ) (now : Option (List ℕ)) (old : PassS
 
   -- a short block, which is the last
   pub told_short : (after : Option (List ℕ)) (mid new : PassState) (turn : ℕ) (batch : Records) → (told : Told kind now (Posts old mid) turn bytes)
-      → TakesBlock kind turn told.rest after batch → Posts mid new (batch ∷ []) → record_count batch < 1024 → IsWhole kind bytes (Posts old new)
+      → TakesBlock 1024 kind turn told.rest after batch → Posts mid new (batch ∷ []) → record_count batch < 1024 → IsWhole kind bytes (Posts old new)
   told_short after mid new turn batch told takes posted short =
       let size : length (take (block_size kind) told.rest) < block_size kind = count_short kind _ (subst (λ n. n < 1024) takes.count short) in
       let end : length told.rest ≤ block_size kind = omega (arith, length-take (block_size kind) told.rest) in
@@ -201,14 +201,15 @@ module _ (kind : Kind) (bytes : List ℕ) (now : Option (List ℕ)) (old : PassS
   pub told_end : (new : PassState) (turn : ℕ) → (told : Told kind now (Posts old new) turn bytes) → told.rest ≡ [] → IsWhole kind bytes (Posts old new)
   told_end new turn told end = fed_whole kind bytes old new turn told.rest told.fed end
 
-module _ (kind : Kind) (next : Option Records) where
+module _ (most : ℕ) (kind : Kind) (next : Option Records) where
   -- the first block, or the end
   pub takes_some : (turn : ℕ) (rest : List ℕ) (left : Option (List ℕ)) (batch : Records) → next ≡ Some batch
-      → Takes kind turn rest left next → TakesBlock kind turn rest left batch
-  takes_some turn rest left batch is takes = subst (Takes kind turn rest left) is takes
+      → Takes most kind turn rest left next → TakesBlock most kind turn rest left batch
+  takes_some turn rest left batch is takes = subst (Takes most kind turn rest left) is takes
 
-  pub takes_end : (turn : ℕ) (rest : List ℕ) (left : Option (List ℕ)) → next ≡ None → Takes kind turn rest left next → rest ≡ []
-  takes_end turn rest left is takes = subst (Takes kind turn rest left) is takes
+  pub takes_end : (turn : ℕ) (rest : List ℕ) (left : Option (List ℕ)) → next ≡ None → Takes most kind turn rest left next → rest ≡ []
+  takes_end turn rest left is takes = subst (Takes most kind turn rest left) is takes
 
+module _ (kind : Kind) (next : Option Records) where
   pub some_batch : (batch : Records) → next ≡ Some batch → IfSome next (IsBatch kind) → IsBatch kind batch
   some_batch batch is all = subst (λ n. IfSome n (IsBatch kind)) is all

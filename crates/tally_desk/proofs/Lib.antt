@@ -1,6 +1,7 @@
 pub mod AskLemmas
 pub mod BlockLemmas
 pub mod CountLemmas
+pub mod CountingLemmas
 pub mod Deals
 pub mod Done
 pub mod Ends

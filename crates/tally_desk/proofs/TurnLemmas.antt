@@ -1,6 +1,6 @@
 -- What one turn of a feed does.
 use Rattle.std.proofs.Common.{◌≡◌, ◌∙◌, ◌++◌, ◌≤◌, ◌<◌, ◌+◌, ◌*◌, ◌/◌, ◌%◌, ◌⊎◌, inl, inr, ℕ, List, [], Option, Some, None, take, drop, length, ap, refl, sym, subst, arith, length-take-le, append-nil, drop_at, length-append}
-use Rattle.std.proofs.lemmas.Bool.{cases_lt}
+use Rattle.std.proofs.lemmas.Bool.{cases_lt, le-leb}
 use Rattle.std.proofs.lemmas.List.{drop_all, take_all}
 use Rattle.std.specs.Io.KnownBytes.{Consumes, IsAtEnd}
 use lib.Seq.{take-append-le}
@@ -8,7 +8,7 @@ use Rattle.tally_records.specs.Records.{Records, kind_of, record_count}
 use Rattle.tally_desk.specs.Batches.{record_size, records_in}
 use Rattle.tally_records.specs.declared.batch.Kind.{Kind}
 use Rattle.tally_records.specs.declared.batch.Kind.TheVariants.{Login, Proc}
-use Rattle.tally_desk.specs.Blocks.{block_fault, block_size}
+use Rattle.tally_desk.specs.Blocks.{block_size, limited_fault}
 use Rattle.tally_desk.specs.inside.Turns.{Gives, IsBatch, IsReadFault, TakesBlock, TurnStops}
 use Rattle.tally_desk.specs.declared.fault.FeedFault.{FeedFault}
 use Rattle.tally_desk.specs.declared.fault.FeedFault.TheVariants.{Memory, Read, Torn, TooLong, Bad, LoginsFull, ProcsFull, CallsFull}
@@ -66,19 +66,19 @@ read_fault expected CallsFull gives = absurd gives
 pub never_read : {X : Type 0} → (expected : Option FeedFault) (f : FeedFault) → Gives expected f → f ≡ Read → X
 never_read expected f gives is = absurd (subst (Gives expected) is gives)
 
-module _ (kind : Kind) (turn : ℕ) (block : List ℕ) (n : ℕ) (within : n ≤ length block) (few : n ≤ block_size kind) where
+module _ (most : ℕ) (kind : Kind) (turn : ℕ) (block : List ℕ) (n : ℕ) (within : n ≤ length block) (few : n ≤ block_size kind) where
   pub same_fault : (rest ys : List ℕ) → rest ≡ take n block ++ ys → (n < block_size kind → ys ≡ [])
-      → block_fault kind (turn * block_size kind + length rest) (turn, take (block_size kind) rest)
-      ≡ block_fault kind (turn * block_size kind + length (take n block)) (turn, take n block)
+      → limited_fault most kind (turn * block_size kind + length rest) (turn, take (block_size kind) rest)
+      ≡ limited_fault most kind (turn * block_size kind + length (take n block)) (turn, take n block)
   same_fault rest ys parts end =
-      ap (λ b. block_fault kind (turn * block_size kind + length rest) (turn, b)) (front_is block n (block_size kind) within few rest ys parts end)
+      ap (λ b. limited_fault most kind (turn * block_size kind + length rest) (turn, b)) (front_is block n (block_size kind) within few rest ys parts end)
       ∙ elim (cases_lt n (block_size kind)) [
         | inl short ↦
             let all : rest ≡ take n block = parts ∙ ap (λ l. take n block ++ l) (end short) ∙ append-nil (take n block) in
-            ap (λ l. block_fault kind (turn * block_size kind + length l) (turn, take n block)) all
+            ap (λ l. limited_fault most kind (turn * block_size kind + length l) (turn, take n block)) all
         | inr over ↦
             let whole : length (take n block) ≡ block_size kind = filled_length block n (block_size kind) within few ∙ omega arith in
-            any_total kind _ _ (turn, take n block) (ap (λ m. m % record_size kind) whole ∙ block_size_whole kind)
+            any_total most kind _ _ (turn, take n block) (ap (λ m. m % record_size kind) whole ∙ block_size_whole kind)
       ]
 
   some_left : (rest ys : List ℕ) → rest ≡ take n block ++ ys → 0 < length (take n block) → 0 < length rest
@@ -87,9 +87,9 @@ module _ (kind : Kind) (turn : ℕ) (block : List ℕ) (n : ℕ) (within : n ≤
   -- its batch is that of the first block of the bytes to come
   pub takes_block : (rest : List ℕ) (left : Option (List ℕ)) (batch : Records) → 0 < n → Consumes (Some rest) left (take n block)
       → (n < block_size kind → IsAtEnd left)
-      → block_fault kind (turn * block_size kind + length (take n block)) (turn, take n block) ≡ None
+      → limited_fault most kind (turn * block_size kind + length (take n block)) (turn, take n block) ≡ None
       → batch ≡ records_in kind (take n block) → record_count batch ≡ length (take n block) / record_size kind
-      → TakesBlock kind turn rest left batch
+      → TakesBlock most kind turn rest left batch
   takes_block rest None batch any taken end good is count = absurd taken
   takes_block rest (Some ys) batch any taken end good is count =
       let long : length (take n block) ≡ n = filled_length block n (block_size kind) within few in
@@ -116,10 +116,10 @@ module _ (kind : Kind) (turn : ℕ) (block : List ℕ) (n : ℕ) (within : n ≤
       }
 
 -- the turn after the last block
-pub last_turn_stops : (kind : Kind) (turn : ℕ) (rest : List ℕ) (f : FeedFault) → turn ≡ 1024 → (f ≡ Read) ⊎ (f ≡ TooLong)
-    → (f ≡ TooLong → 0 < length rest) → TurnStops kind turn rest f
-last_turn_stops kind turn rest f last (inl read) some = subst (TurnStops kind turn rest) (sym read) tt
-last_turn_stops kind turn rest f last (inr long) some =
-    let gives : block_fault kind (turn * block_size kind + length rest) (turn, take (block_size kind) rest) ≡ Some TooLong =
-    ap (λ t. block_fault kind (turn * block_size kind + length rest) (t, take (block_size kind) rest)) last in
-    subst (TurnStops kind turn rest) (sym long) (some long, gives)
+pub last_turn_stops : (most : ℕ) (kind : Kind) (turn : ℕ) (rest : List ℕ) (f : FeedFault) → turn ≡ most → (f ≡ Read) ⊎ (f ≡ TooLong)
+    → (f ≡ TooLong → 0 < length rest) → TurnStops most kind turn rest f
+last_turn_stops most kind turn rest f last (inl read) some = subst (TurnStops most kind turn rest) (sym read) tt
+last_turn_stops most kind turn rest f last (inr long) some =
+    let gives : limited_fault most kind (turn * block_size kind + length rest) (turn, take (block_size kind) rest) ≡ Some TooLong =
+    rw (le-leb most turn (omega (arith, last))) refl in
+    subst (TurnStops most kind turn rest) (sym long) (some long, gives)

@@ -3,7 +3,7 @@ use Rattle.std.proofs.Common.{◌≡◌, [], ◌∷◌, replicate, Some, None, E
 use Rattle.tally_records.specs.declared.batch.Kind.TheVariants.{Login, Proc}
 use Rattle.tally_records.specs.declared.fault.BatchFault.TheVariants as batch
 use Rattle.tally_records.specs.declared.fault.RecordFault.TheVariants as record_fault
-use Rattle.tally_desk.specs.Blocks.{bad_record, block_fault, pieces}
+use Rattle.tally_desk.specs.Blocks.{bad_record, block_fault, limited_fault, pieces}
 use Rattle.tally_desk.specs.declared.fault.FeedFault.TheVariants.{Torn, TooLong, Bad}
 
 -- bytes are cut into pieces, the last one shorter
@@ -22,3 +22,7 @@ torn = refl
 -- the block after the last is too long, whatever it has
 too_long : block_fault Proc 67108865 (1024, 2 ∷ []) ∷ block_fault Login 402653184 (1024, []) ∷ [] ≡ Some TooLong ∷ Some TooLong ∷ []
 too_long = refl
+
+-- of an input of at most one block the second is too long, and of at most two it is torn
+limited : limited_fault 1 Proc 65537 (1, 2 ∷ []) ∷ limited_fault 2 Proc 65537 (1, 2 ∷ []) ∷ [] ≡ Some TooLong ∷ Some (Torn 1024 1) ∷ []
+limited = refl

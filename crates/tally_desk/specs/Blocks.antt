@@ -36,6 +36,14 @@ block_fault kind total numbered =
     then Some (Torn (total / record_size kind) (total % record_size kind))
     else bad_record numbered.0 (batch_of kind numbered.1))
 
+-- the same for an input of at most so many blocks
+abbrev pub limited_fault : ℕ → Kind → ℕ → ℕ × List ℕ → Option FeedFault
+limited_fault most kind total numbered =
+    if nat_le most numbered.0 then Some TooLong
+    else (if not (length numbered.1 % record_size kind == 0)
+    then Some (Torn (total / record_size kind) (total % record_size kind))
+    else bad_record numbered.0 (batch_of kind numbered.1))
+
 -- the blocks of an input with their numbers
 abbrev pub numbered_blocks : Kind → List ℕ → List (ℕ × List ℕ)
 numbered_blocks kind bytes = enumerate_from 0 (blocks kind bytes)

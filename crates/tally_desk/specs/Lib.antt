@@ -1,6 +1,7 @@
 pub mod Batches
 pub mod Blocks
 pub mod Callers
+pub mod Counting
 pub mod Feeds
 pub mod Openings
 pub mod Passes

@@ -1,4 +1,5 @@
 -- What no public contract cites.
+pub mod CountStops
 pub mod Knowledge
 pub mod Rule
 pub mod Seats

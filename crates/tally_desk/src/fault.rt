@@ -27,6 +27,25 @@ pub enum CloseFault {
     PassMissing,
 }
 
+/// Why an input was not counted to its end.
+#[derive(Debug, PartialEq, Eq, Drop, Error)]
+pub enum CountFault {
+    #[error("out of memory")]
+    Memory,
+    /// The input failed.
+    #[error("read failed")]
+    Read,
+    /// The input ends inside a record: the whole records before it, and the bytes of it.
+    #[error("torn after {records} records, {rest} bytes left")]
+    Torn { records: u64, rest: u64 },
+    /// A byte follows the last record that is counted.
+    #[error("more than {limit} records")]
+    TooLong { limit: u64 },
+    /// A record has no meaning; its number in the input counts from 0.
+    #[error("record {at} has {fault}")]
+    Bad { at: u64, fault: RecordFault },
+}
+
 /// Why an input was not fed to its end.
 #[derive(Debug, PartialEq, Eq, Drop, Error)]
 pub enum FeedFault {

@@ -9,6 +9,7 @@ ghost use Rattle.tally_records.specs.Records.{Records};
 ghost use Rattle.tally_desk.specs.Passes.{Keeps};
 
 mod block;
+pub(crate) mod counting;
 pub(crate) mod input;
 pub(crate) mod memory;
 pub(crate) mod reader;
@@ -103,7 +104,7 @@ pub fn feed<R: Wait, I: Input, G: Gate>(
 {
     let mut block = new_block(alloc, block_size(kind))?;
     for turn in 0..MOST_BLOCKS {
-        let Some(batch) = next_batch(alloc, kind, input, &mut block, turn)? else {
+        let Some(batch) = next_batch(alloc, kind, input, &mut block, turn, MOST_BLOCKS)? else {
             return Ok(fed_by(turn, 0));
         };
         gate.before(pass.number(), turn);

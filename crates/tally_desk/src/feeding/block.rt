@@ -2,10 +2,9 @@
 ghost use Rattle.std.specs.Prelude.{◌≡◌, ◌≢◌, ◌+◌, ◌-◌, ◌*◌, ◌^◌, ◌<◌, ◌≤◌, ◌/◌, ◌%◌, IfErr, IfOk, IfSome, OnErr, OnOk, Ok, None, Some, List, ℕ, length, slice_range, take, true, vec_capacity, vec_len};
 ghost use Rattle.std.specs.Io.KnownBytes.{Consumes, IsAtEnd};
 ghost use Rattle.tally_desk.specs.Batches.{batch_of, record_size, records_in};
-ghost use Rattle.tally_desk.specs.Blocks.{block_fault, block_size};
-ghost use Rattle.tally_desk.specs.Feeds.{IsAfter};
+ghost use Rattle.tally_desk.specs.Blocks.{limited_fault, block_size};
 ghost use Rattle.tally_desk.specs.Takings.{TakesAtMost};
-ghost use Rattle.tally_desk.specs.inside.Turns.{IsLast, IsBatch, IsBatchRefusal, IsBlockRefusal, IsReadFault, Takes, TurnStops};
+ghost use Rattle.tally_desk.specs.inside.Turns.{IsLast, IsBatch, IsBatchRefusal, IsBlockRefusal, IsInBlock, IsReadFault, Takes, TurnStops};
 ghost use Rattle.tally_desk.specs.declared.fault.FeedFault.TheVariants as fault;
 ghost use Rattle.tally_records.specs.Records.{IsAnswer, NamesRecordBelow, record_count};
 
@@ -146,13 +145,12 @@ fn read_batch(alloc: Global, kind: Kind, bytes: &[u8]) -> Result<Batch, BatchFau
 fn block_batch(alloc: Global, kind: Kind, bytes: &[u8], turn: u32) -> Result<Batch, FeedFault>
     requires room { length bytes.now ≤ block_size kind }
     requires whole { length bytes.now % record_size kind ≡ 0 }
-    requires early { turn < 1024 }
     ensures value { IfOk result (λ batch. batch ≡ records_in kind bytes.now) }
     ensures good { OnOk result (batch_of kind bytes.now ≡ Ok (records_in kind bytes.now)) }
     ensures count { IfOk result (λ batch.
         record_count batch ≡ length bytes.now / record_size kind) }
     ensures err { IfErr result (IsBatchRefusal kind turn bytes.now) }
-    ensures place { IfErr result (IsAfter kind turn) }
+    ensures place { IfErr result (IsInBlock kind turn) }
 {
     match read_batch(alloc, kind, bytes) {
         Ok(batch) => Ok(batch),
@@ -167,17 +165,23 @@ fn block_batch(alloc: Global, kind: Kind, bytes: &[u8], turn: u32) -> Result<Bat
 }
 
 /// The batch of the bytes of a block.
-fn whole_batch(alloc: Global, kind: Kind, bytes: &[u8], turn: u32) -> Result<Batch, FeedFault>
+fn whole_batch(
+    alloc: Global,
+    kind: Kind,
+    bytes: &[u8],
+    turn: u32,
+    most: u32,
+) -> Result<Batch, FeedFault>
     requires room { length bytes.now ≤ block_size kind }
-    requires early { turn < 1024 }
+    requires early { turn < most }
     ensures whole { OnOk result (length bytes.now % record_size kind ≡ 0) }
     ensures good { OnOk result
-        (block_fault kind (turn * block_size kind + length bytes.now) (turn, bytes.now) ≡ None) }
+        (limited_fault most kind (turn * block_size kind + length bytes.now) (turn, bytes.now) ≡ None) }
     ensures value { IfOk result (λ batch. batch ≡ records_in kind bytes.now) }
     ensures count { IfOk result (λ batch.
         record_count batch ≡ length bytes.now / record_size kind) }
-    ensures err { IfErr result (IsBlockRefusal kind turn bytes.now) }
-    ensures place { IfErr result (IsAfter kind turn) }
+    ensures err { IfErr result (IsBlockRefusal most kind turn bytes.now) }
+    ensures place { IfErr result (IsInBlock kind turn) }
 {
     let size = record_size(kind);
     if bytes.len() % size != 0 {
@@ -196,11 +200,12 @@ pub(crate) fn next_batch<I: Input>(
     input: &mut I,
     block: &mut Vec<u8>,
     turn: u32,
+    most: u32,
 ) -> Result<Option<Batch>, FeedFault>
     requires countable { I.failures input.old < 2 ^ 64 - 1 }
     requires room { block_size kind ≤ vec_capacity block.old }
     requires ready { vec_len block.old ≤ block_size kind }
-    requires early { turn < 1024 }
+    requires early { turn < most }
     ensures room { block_size kind ≤ vec_capacity block.new }
     ensures ready { vec_len block.new ≤ block_size kind }
     ensures few { TakesAtMost (block_size kind) (I.to_come input.old) (I.to_come input.new) }
@@ -212,17 +217,17 @@ pub(crate) fn next_batch<I: Input>(
     ensures unfailed { IfErr result (λ f. f ≢ fault.Read
         → I.failures input.new ≡ I.failures input.old) }
     ensures reading { IfErr result IsReadFault }
-    ensures place { IfErr result (IsAfter kind turn) }
+    ensures place { IfErr result (IsInBlock kind turn) }
     ensures batch { IfOk result (λ next. IfSome next (IsBatch kind)) }
     ensures takes { IfOk result (λ next. (rest : List ℕ) → I.to_come input.old ≡ Some rest
-        → Takes kind turn rest (I.to_come input.new) next) }
+        → Takes most kind turn rest (I.to_come input.new) next) }
     ensures stops { IfErr result (λ f. (rest : List ℕ) → I.to_come input.old ≡ Some rest
-        → TurnStops kind turn rest f) }
+        → TurnStops most kind turn rest f) }
 {
     let filled = fill_block(input, block, block_size(kind))?;
     if filled == 0 {
         return Ok(None);
     }
-    let batch = whole_batch(alloc, kind, &block[..filled], turn)?;
+    let batch = whole_batch(alloc, kind, &block[..filled], turn, most)?;
     Ok(Some(batch))
 }

@@ -5,7 +5,7 @@ use Rattle.tally_records.specs.Records.{record_count}
 use Rattle.tally_desk.specs.Blocks.{block_size}
 use Rattle.tally_desk.specs.Feeds.{IsFull}
 use Rattle.tally_desk.specs.declared.fault.FeedFault.TheVariants as fault
-use Rattle.tally_desk.proofs.CountLemmas.{after_all, counts_full, counts_last, full_cut, full_more, full_none, one_more_batch, unplaced}
+use Rattle.tally_desk.proofs.CountLemmas.{after_all, counts_full, counts_last, full_cut, full_more, full_none, in_block, one_more_batch, unplaced}
 use Rattle.tally_desk.proofs.ExitLemmas.{all_turns, end_is_no_refusal, ends_at_none, ends_at_short, first_failed, holds_named, memory_is_no_read, plus_none, post_is_no_read, still_below, within_named, within_turns}
 use Rattle.tally_desk.proofs.FeedLemmas.{begins, some_batch, takes_end, takes_some, told_end, told_more, told_short, told_stops, told_unposted}
 use Rattle.tally_desk.proofs.KeepLemmas.{keeps_same, keeps_trans}
@@ -85,7 +85,7 @@ returns-in_err-batch g c =
       stops = λ bytes told.
           let so_far = before.told bytes told in
           told_stops c.args.kind bytes _ c.args.pass.now pass c.loop-turn.turn pass.seen _ so_far (failed.stops so_far.rest so_far.to_come);
-      posts = full_cut c.args.kind c.args.pass.now pass pass c.loop-turn.turn _ before.posts (within_turns _ c.loop-turn-test.true) refl failed.place;
+      posts = full_cut c.args.kind c.args.pass.now pass pass c.loop-turn.turn _ before.posts (within_turns _ c.loop-turn-test.true) refl (in_block c.args.kind c.loop-turn.turn _ failed.place);
       full = no_refusal c.args.kind pass.seen _ failed.reading;
       failures = tt;
       unfailed = λ other. failed.unfailed other ∙ before.countable;
@@ -105,7 +105,7 @@ returns-in_default g c =
       counted = counts_full c.args.kind _ c.loop-turn.turn c.fed_by.result before.posts (plus_none _ _ fed.batches) (plus_none _ _ fed.records);
       whole = λ bytes told.
           let so_far = before.told bytes told in
-          let end = takes_end c.args.kind _ c.loop-turn.turn so_far.rest _ c.in_default.is (taken.takes so_far.rest so_far.to_come) in
+          let end = takes_end 1024 c.args.kind _ c.loop-turn.turn so_far.rest _ c.in_default.is (taken.takes so_far.rest so_far.to_come) in
           told_end c.args.kind bytes _ c.args.pass.now c.loop-turn.pass c.loop-turn.turn so_far end;
       stops = tt;
       posts = tt;
@@ -132,7 +132,7 @@ returns-in_err-post g c =
       whole = tt;
       stops = λ bytes told.
           let so_far = before.told bytes told in
-          let takes = takes_some c.args.kind _ c.loop-turn.turn so_far.rest _ c.in-Some.batch c.in-Some.is (taken.takes so_far.rest so_far.to_come) in
+          let takes = takes_some 1024 c.args.kind _ c.loop-turn.turn so_far.rest _ c.in-Some.batch c.in-Some.is (taken.takes so_far.rest so_far.to_come) in
           told_unposted c.args.kind bytes _ c.args.pass.now _ c.loop-turn.pass now c.loop-turn.turn c.in-Some.batch now.seen _ so_far takes post.did post.cause;
       posts = full_cut c.args.kind c.args.pass.now c.loop-turn.pass now c.loop-turn.turn _ before.posts (within_turns _ c.loop-turn-test.true) post.did (unplaced c.args.kind c.loop-turn.turn _);
       full = post_refusal now.seen post.legal c.args.kind c.in-Some.batch _ batch post.cause;
@@ -161,7 +161,7 @@ returns-then-records-lt-BATCH_LIMIT g c =
           (one_more_batch c.len-records.result c.loop-turn.turn _ some fed.batches);
       whole = λ bytes told.
           let so_far = before.told bytes told in
-          let takes = takes_some c.args.kind _ c.loop-turn.turn so_far.rest _ c.in-Some.batch c.in-Some.is (taken.takes so_far.rest so_far.to_come) in
+          let takes = takes_some 1024 c.args.kind _ c.loop-turn.turn so_far.rest _ c.in-Some.batch c.in-Some.is (taken.takes so_far.rest so_far.to_come) in
           told_short c.args.kind bytes _ c.args.pass.now _ c.loop-turn.pass c.post.new.pass c.loop-turn.turn c.in-Some.batch so_far takes post.did short;
       stops = tt;
       posts = tt;
@@ -186,7 +186,7 @@ loop-turn-preserved g c =
       posts = full_more c.args.kind c.args.pass.now c.loop-turn.pass c.post.new.pass c.loop-turn.turn c.loop-turn.invariant.posts c.in-Some.batch batch c.in_ok-post.ensures.did full;
       told = λ bytes told.
           let so_far = c.loop-turn.invariant.told bytes told in
-          let takes = takes_some c.args.kind _ c.loop-turn.turn so_far.rest _ c.in-Some.batch c.in-Some.is (next.takes so_far.rest so_far.to_come) in
+          let takes = takes_some 1024 c.args.kind _ c.loop-turn.turn so_far.rest _ c.in-Some.batch c.in-Some.is (next.takes so_far.rest so_far.to_come) in
           told_more c.args.kind bytes _ c.args.pass.now _ c.loop-turn.pass c.post.new.pass c.loop-turn.turn c.in-Some.batch so_far takes c.in_ok-post.ensures.did full;
     }
 
@@ -207,7 +207,7 @@ returns-in_err-expect_end g c =
       stops = λ bytes told.
           let so_far = before.told bytes told in
           told_stops c.args.kind bytes _ c.args.pass.now pass c.loop-turn.turn pass.seen _ so_far
-          (last_turn_stops c.args.kind c.loop-turn.turn so_far.rest _ last failed.err (λ long. failed.long long so_far.rest so_far.to_come));
+          (last_turn_stops 1024 c.args.kind c.loop-turn.turn so_far.rest _ last failed.err (λ long. failed.long long so_far.rest so_far.to_come));
       posts = full_cut c.args.kind c.args.pass.now pass pass c.loop-turn.turn _ before.posts c.loop-turn.auto.turn-end refl (after_all c.args.kind c.loop-turn.turn _ last failed.err);
       full = end_is_no_refusal c.args.kind pass.seen _ failed.err;
       failures = tt;

@@ -14,7 +14,7 @@ returns-clause-batch g c =
     let some : 0 < filled = omega (arith, c.if-filled-eq0.false) in
     let within : filled ≤ length c.deref.result.now = omega (arith, c.in_ok-filled.ensures.bound, c.deref.ensures.len) in
     let few : filled ≤ block_size c.args.kind = omega (arith, c.in_ok-filled.ensures.bound, c.fill_block.ensures.ready, c.block_size.ensures) in
-    is_batch c.args.kind c.args.turn c.deref.result.now filled within few c.in_ok-batch.batch some read.whole read.value read.count
+    is_batch c.args.most c.args.kind c.args.turn c.deref.result.now filled within few c.in_ok-batch.batch some read.whole read.value read.count
 
 pub returns-in_err-batch-clause-reading : goal.returns-in_err-batch-clause-reading
 returns-in_err-batch-clause-reading g c =
@@ -29,7 +29,7 @@ returns-clause-takes g c rest h =
     let within : filled ≤ length c.deref.result.now = omega (arith, c.in_ok-filled.ensures.bound, c.deref.ensures.len) in
     let few : filled ≤ block_size c.args.kind = omega (arith, c.in_ok-filled.ensures.bound, c.fill_block.ensures.ready, c.block_size.ensures) in
     let taken = subst (λ (block : List ℕ). Consumes (g.I.Input.to_come c.args.input.now) (g.I.Input.to_come c.fill_block.new.input) (take filled block)) (sym c.deref.ensures.value) c.in_ok-filled.ensures.bytes in
-    takes_block c.args.kind c.args.turn c.deref.result.now filled within few rest _ c.in_ok-batch.batch some
+    takes_block c.args.most c.args.kind c.args.turn c.deref.result.now filled within few rest _ c.in_ok-batch.batch some
     (subst (λ (before : Option (List ℕ)). Consumes before (g.I.Input.to_come c.fill_block.new.input) (take filled c.deref.result.now)) h taken)
     (subst (λ size. filled < size → IsAtEnd (g.I.Input.to_come c.fill_block.new.input)) c.block_size.ensures c.in_ok-filled.ensures.end) read.good read.value read.count
 
