@@ -1,6 +1,7 @@
 //! Desks and their callers at work, with inputs and gates that are made for it.
 
 mod calls;
+mod counting;
 mod feeding;
 mod makers;
 mod readers;
