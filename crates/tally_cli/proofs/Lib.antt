@@ -1,6 +1,7 @@
 pub mod Asked
 pub mod Calls
 pub mod Carried
+pub mod Counted
 pub mod Counting
 pub mod Dealt
 pub mod Each
@@ -15,7 +16,12 @@ pub mod Outcomes
 pub mod Posted
 pub mod Reported
 pub mod Shares
+pub mod SumAnswers
+pub mod Summed
 pub mod Taken
 pub mod Texts
 pub mod TooMany
+pub mod Turns
+pub mod UsageRuns
+pub mod WorkedCounts
 pub mod WorkedRows

@@ -1,3 +1,4 @@
 pub mod Output
 pub mod Runs
+pub mod Usages
 pub mod inside

@@ -1,5 +1,6 @@
 -- What no public contract cites.
 pub mod Asked
+pub mod Counts
 pub mod Deals
 pub mod Failures
 pub mod RunSteps

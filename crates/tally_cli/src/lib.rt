@@ -9,9 +9,11 @@
 mod fault;
 mod running;
 
-pub use crate::fault::RunFault;
+pub use crate::fault::{RunFault, UsageFault};
+pub use crate::running::counting::FILE_BLOCKS;
 pub use crate::running::run;
 pub use crate::running::source::Source;
+pub use crate::running::usage::{is_usage_run, run_usage};
 pub use tally_line::{
     FileArg, Form, Job, Line, LineFault, Report, Times, TimesFault, file_word, job_of, known_fault,
     settle,

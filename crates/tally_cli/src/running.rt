@@ -9,6 +9,7 @@ ghost use Rattle.tally_cli.specs.Runs.{IsReadable, IsAllowed, IsFailedRun, IsFul
 ghost use Rattle.tally_line.specs.Jobs.{IsRunnable};
 ghost use Rattle.tally_cli.specs.inside.RunSteps.{AreRead, AreWorkedThrough, IsReadCause, IsUnprinted, run_fault};
 
+pub(crate) mod counting;
 mod deal;
 mod forms;
 mod gather;
@@ -16,6 +17,7 @@ mod reporting;
 mod sections;
 pub(crate) mod source;
 mod task;
+pub(crate) mod usage;
 mod work;
 
 use crate::fault::RunFault;

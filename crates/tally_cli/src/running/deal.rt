@@ -37,7 +37,7 @@ pub(crate) fn busy_feeders(feeders: usize, sources: usize) -> usize
 }
 
 /// As many empty lists.
-fn empty_lists<T: Drop>(alloc: Global, count: usize) -> Result<Vec<Vec<T>>, AllocError>
+pub(crate) fn empty_lists<T: Drop>(alloc: Global, count: usize) -> Result<Vec<Vec<T>>, AllocError>
     ensures { IfOk result (λ lists. (length lists.items ≡ count) × All (λ v. v.items ≡ []) lists.items) }
 {
     let mut lists = Vec::new(alloc);

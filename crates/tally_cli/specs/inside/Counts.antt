@@ -1,0 +1,181 @@
+-- What the counts of files come to.
+use Rattle.std.specs.Prelude.{◌≡◌, ◌<◌, ◌≤◌, ◌+◌, ◌%◌, ◌/◌, ◌∷◌, [], ℕ, ℤ, Bool, List, Option, Some, None, true, ⊤, flat_map, length, map, slice_get, slice_index_or, take}
+use Rattle.std.specs.List.{All}
+use Rattle.tally_book.specs.Answers.{answer_of}
+use Rattle.tally_book.specs.declared.question.Answer.{Answer}
+use Rattle.tally_clock.specs.Rows.{ClockRows}
+use Rattle.tally_desk.specs.Counting.{IsCounted, IsCountFault}
+use Rattle.tally_desk.specs.declared.fault.CountFault.{CountFault}
+use Rattle.tally_desk.specs.declared.fault.CountFault.TheVariants as fault
+use Rattle.tally_line.specs.declared.job.Report.{Report}
+use Rattle.tally_records.specs.declared.batch.Kind.{Kind}
+use Rattle.tally_records.specs.declared.process.ProcRecord.{ProcRecord}
+use Rattle.tally_sessions.specs.declared.entry.Entry.{Entry}
+use Rattle.tally_usage.specs.Sums.{AreSumsOf, Counted, CountsBoth}
+use Rattle.tally_usage.specs.Totals.{records_of}
+use Rattle.tally_usage.specs.declared.entry.ProcEntry.{ProcEntry}
+use Rattle.tally_usage.specs.declared.usage.TheConstants.{SUMS_LIMIT}
+use Rattle.tally_cli.specs.Output.{questions_of}
+use Rattle.tally_cli.specs.Runs.{IsReadable, Told}
+use Rattle.tally_cli.specs.Usages.{IsCountable, IsFirstOver, IsFirstUncounted, procs_told}
+use Rattle.tally_cli.specs.declared.fault.UsageFault.{UsageFault}
+use Rattle.tally_cli.specs.declared.fault.UsageFault.TheVariants.{Memory, Callers, File, Full, Write}
+use Rattle.tally_cli.specs.declared.running.source.Source.{Source}
+use Rattle.tally_cli.specs.declared.running.counting.TheConstants.{FILE_BLOCKS}
+use Rattle.tally_cli.specs.declared.running.counting.Count.{Count}
+use Rattle.tally_cli.specs.declared.running.counting.Count.TheVariants as count
+use Rattle.tally_cli.specs.declared.running.counting.FileCount.{FileCount}
+
+-- a file that is not counted
+abbrev pub untried : {I : Type 0} → Source I → FileCount I
+untried source = record { source = source; count = count.Untried }
+
+-- the file was counted to its end
+abbrev pub HasSums : Count → Type 0
+HasSums (count.Sums sums) = ⊤
+HasSums c = ⊥
+
+-- the file has a fault
+abbrev pub IsFault : Count → Type 0
+IsFault (count.Fault found) = ⊤
+IsFault c = ⊥
+
+-- what a source's count came to, where it was tried
+abbrev pub CameOf : {I : Type 0} → (I → Option (List ℕ)) → (I → Bool) → Source I → Count → Type 0
+CameOf to_come can_fail source count.Untried = ⊤
+CameOf to_come can_fail source (count.Sums sums) = (bytes : List ℕ) → to_come source.input ≡ Some bytes → IsCounted FILE_BLOCKS bytes sums
+CameOf to_come can_fail source (count.Fault found) = (found ≡ fault.Read → can_fail source.input ≡ true)
+    × ((bytes : List ℕ) → to_come source.input ≡ Some bytes → IsCountFault FILE_BLOCKS bytes found)
+
+-- the file can be read, and was not counted
+pub record IsUncounted {I : Type 0} (failures : I → ℕ) (file : FileCount I) : Type 0 where
+  pub readable : IsReadable failures file.source
+  pub untried : file.count ≡ count.Untried
+
+-- the files of a list were counted in order, up to the first that has a fault
+pub record AreCounted {I : Type 0} (to_come : I → Option (List ℕ)) (can_fail : I → Bool) (old new : List (FileCount I)) : Type 0 where
+  pub length_is : length new ≡ length old
+  pub each : (k : ℕ) (d : FileCount I) → k < length old → CameOf to_come can_fail (slice_index_or old k d).source (slice_index_or new k d).count
+  pub stops : (k : ℕ) (d : FileCount I) → k < length old → (slice_index_or new k d).count ≡ count.Untried → (j : ℕ) × (j < k) × IsFault (slice_index_or new j d).count
+
+-- once a file has a fault, none after it was tried
+abbrev pub StopAtFault : {I : Type 0} → List (FileCount I) → Type 0
+StopAtFault files = (j k : ℕ) (d : FileCount _) → j < k → k < length files → IsFault (slice_index_or files j d).count → (slice_index_or files k d).count ≡ count.Untried
+
+-- each list was counted so
+pub record AreAllCounted {V I : Type 0} (to_come : I → Option (List ℕ)) (can_fail : I → Bool) (files : V → List (FileCount I)) (vs us : List V) : Type 0 where
+  pub length_is : length us ≡ length vs
+  pub each : (w : ℕ) (d : V) → w < length vs → AreCounted to_come can_fail (files (slice_index_or vs w d)) (files (slice_index_or us w d))
+
+-- the file with this number, of files that are dealt to so many lists by turns
+abbrev pub file_in : {I : Type 0} → ℕ → List (List (FileCount I)) → ℕ → Option (FileCount I)
+file_in feeders lists host = slice_get (slice_index_or lists (host % feeders) []) (host / feeders)
+
+-- the count of a file, if there is one
+abbrev pub count_of : {I : Type 0} → Option (FileCount I) → Count
+count_of (Some file) = file.count
+count_of None = count.Untried
+
+-- the count of the file with this number
+abbrev pub count_in : {I : Type 0} → ℕ → List (List (FileCount I)) → ℕ → Count
+count_in feeders lists host = count_of (file_in feeders lists host)
+
+-- the lists have a file with this number
+abbrev pub IsPlaced : {I : Type 0} → ℕ → List (List (FileCount I)) → ℕ → Type 0
+IsPlaced feeders lists host = host / feeders < length (slice_index_or lists (host % feeders) [])
+
+-- each file is in the lists under its number, and was not counted
+abbrev pub AreDealt : {I : Type 0} → ℕ → List (Source I) → List (List (FileCount I)) → Type 0
+AreDealt feeders sources lists = (k : ℕ) (s : Source _) → k < length sources → file_in feeders lists k ≡ Some (untried (slice_index_or sources k s))
+
+-- a file was tried, or one before it has a fault
+abbrev pub AreExplained : ℕ → (ℕ → Count) → Type 0
+AreExplained files at = (k : ℕ) → k < files → at k ≡ count.Untried → (j : ℕ) × (j < k) × IsFault (at j)
+
+-- the count has the sums of these records, if it has sums
+abbrev pub AreSumsIn : Count → List ProcRecord → Type 0
+AreSumsIn (count.Sums sums) rs = AreSumsOf sums rs
+AreSumsIn c rs = ⊤
+
+-- each count that has sums has those of its part
+pub record AreSumsInEach (files : ℕ) (at : ℕ → Count) (parts : List (List ProcRecord)) : Type 0 where
+  pub length_is : length parts ≡ files
+  pub each : (k : ℕ) → k < files → AreSumsIn (at k) (slice_index_or parts k [])
+
+-- the records of the first parts
+abbrev pub first_parts : ℕ → List (List ProcRecord) → List ProcRecord
+first_parts n parts = flat_map (λ p. p) (take n parts)
+
+-- what was summed, and then what a count has
+abbrev pub Joins : Count → Counted → Counted → Type 0
+Joins (count.Sums sums) old new = CountsBoth old sums new
+Joins c old new = ⊥
+
+-- with the sums of a count there are too many records
+abbrev pub IsOver : Counted → Count → Type 0
+IsOver total (count.Sums sums) = SUMS_LIMIT < total.total.count + sums.total.count
+IsOver total c = ⊥
+
+-- a count was not joined: memory ran out, its file is at fault, or there are too many records
+abbrev pub IsNotJoined : Count → Counted → ℕ → UsageFault → Type 0
+IsNotJoined c total host Memory = HasSums c
+IsNotJoined c total host (File at found) = (at ≡ host) × (c ≡ count.Fault found)
+IsNotJoined c total host (Full at) = (at ≡ host) × IsOver total c
+IsNotJoined c total host found = ⊥
+
+-- all counts are joined in order
+pub record AreJoined (files : ℕ) (at : ℕ → Count) (s : Counted) : Type 0 where
+  pub all : (k : ℕ) → k < files → HasSums (at k)
+  pub sums : (parts : List (List ProcRecord)) → AreSumsInEach files at parts → AreSumsOf s (first_parts files parts)
+
+-- the first count with a fault
+pub record IsFirst (files : ℕ) (at : ℕ → Count) (host : ℕ) (found : CountFault) : Type 0 where
+  pub near : host < files
+  pub earlier : (k : ℕ) → k < host → HasSums (at k)
+  pub own : at host ≡ count.Fault found
+
+-- the first count with which there are too many records
+pub record IsFirstTooMany (files : ℕ) (at : ℕ → Count) (host : ℕ) : Type 0 where
+  pub near : host < files
+  pub all : (k : ℕ) → k ≤ host → HasSums (at k)
+  pub before : (parts : List (List ProcRecord)) → AreSumsInEach files at parts → length (first_parts host parts) ≤ SUMS_LIMIT
+  pub over : (parts : List (List ProcRecord)) → AreSumsInEach files at parts → SUMS_LIMIT < length (first_parts (host + 1) parts)
+
+-- why counts are not joined
+abbrev pub IsJoinFault : ℕ → (ℕ → Count) → UsageFault → Type 0
+IsJoinFault files at Memory = ⊤
+IsJoinFault files at (File host found) = IsFirst files at host found
+IsJoinFault files at (Full host) = IsFirstTooMany files at host
+IsJoinFault files at found = ⊥
+
+-- the inputs have no fault, and these are the sums of their records
+pub record AreSummed (inputs : List Told) (s : Counted) : Type 0 where
+  pub good : All IsCountable inputs
+  pub sums : AreSumsOf s (flat_map procs_told inputs)
+
+-- what a fault of the counting shows of the inputs
+abbrev pub IsCountCause : List Told → UsageFault → Type 0
+IsCountCause inputs Memory = ⊤
+IsCountCause inputs (Callers callers) = ⊤
+IsCountCause inputs (File host found) = IsFirstUncounted inputs host found
+IsCountCause inputs (Full host) = IsFirstOver inputs host
+IsCountCause inputs Write = ⊥
+
+-- memory ran out, or a file is at fault, by a failed read only where it can fail
+abbrev pub IsCountRefusal : {I : Type 0} → (I → Bool) → List (Source I) → UsageFault → Type 0
+IsCountRefusal can_fail sources Memory = ⊤
+IsCountRefusal can_fail sources (File host found) = (host < length sources)
+    × (found ≡ fault.Read → (s : Source _) → can_fail (slice_index_or sources host s).input ≡ true)
+IsCountRefusal can_fail sources (Full host) = host < length sources
+IsCountRefusal can_fail sources found = ⊥
+
+-- nothing but the printing failed
+abbrev pub IsPrinting : UsageFault → Type 0
+IsPrinting Memory = ⊤
+IsPrinting Write = ⊤
+IsPrinting found = ⊥
+
+-- the answer to the one question of a report on processes, over entries whose records these are the sums of
+abbrev pub IsAnswerOn : Report → Counted → Answer → Type 0
+IsAnswerOn report s answer = (clock : ClockRows) (offset : ℤ) (kinds : List Kind) (until : Option ℤ) (logins : List Entry) (procs : List ProcEntry)
+    → AreSumsOf s (records_of procs) → map (λ q. answer_of clock q logins procs) (questions_of report offset kinds until) ≡ answer ∷ []

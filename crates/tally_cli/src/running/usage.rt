@@ -1,0 +1,173 @@
+//! A run that reports on processes: files are counted, and no record is kept.
+ghost use Rattle.std.specs.Prelude.{◌≡◌, ◌+◌, ◌<◌, ◌≤◌, ◌↔◌, ◌∷◌, [], Err, IfErr, IfOk, IsTrue, List, OnErr, OnOk, length, map};
+ghost use Rattle.std.specs.List.{All};
+ghost use Rattle.tally_book.specs.Answers.{HasDays};
+ghost use Rattle.tally_cli.specs.Output.{report_text};
+ghost use Rattle.tally_cli.specs.Runs.{IsReadable, IsWrongNumber, Told, output_told};
+ghost use Rattle.tally_cli.specs.Usages.{IsFailedUsage, IsOfProcs, IsUsage, IsWholeUsage, callers_refused, unwritten_calls};
+ghost use Rattle.tally_cli.specs.inside.Counts.{AreSummed, IsAnswerOn, IsPrinting};
+ghost use Rattle.tally_line.specs.Jobs.{IsRunnable};
+ghost use Rattle.tally_print.specs.Output.{IsWritable, Prints};
+ghost use Rattle.tally_sessions.specs.Days.{IsOffset};
+ghost use Rattle.tally_sessions.specs.declared.entry.Entry.{Entry};
+ghost use Rattle.tally_usage.specs.Sums.{AreSumsOf};
+ghost use Rattle.tally_usage.specs.Totals.{records_of};
+ghost use Rattle.tally_usage.specs.declared.entry.ProcEntry.{ProcEntry};
+
+use crate::fault::{RunFault, UsageFault};
+use crate::running::callers_of;
+use crate::running::counting::count_sources;
+use crate::running::forms::print_answers;
+use crate::running::source::Source;
+use std::alloc::Global;
+use std::hash::RandomState;
+use std::slice;
+use std::thread::Threads;
+use tally_book::Answer;
+use tally_clock::Clock;
+use tally_desk::Input;
+use tally_line::{Job, Report};
+use tally_print::Output;
+use tally_records::{Kind, Memory};
+use tally_sessions::HOST_LIMIT;
+use tally_usage::Sums;
+
+/// Refuses a number of callers, a source or an asker each, as `run` does.
+fn refuse_callers(sources: usize, askers: u32) -> Result<(), UsageFault>
+    requires { askers ≤ HOST_LIMIT }
+    ensures some { OnOk result (0 < sources + askers) }
+    ensures few { OnOk result (sources + askers ≤ HOST_LIMIT) }
+    ensures fault { IfErr result (λ f. f ≡ callers_refused (sources + askers)) }
+    ensures wrong { OnErr result (IsWrongNumber (sources + askers)) }
+{
+    match callers_of(sources, askers) {
+        Ok(_) => Ok(()),
+        Err(RunFault::Callers(count)) => Err(UsageFault::Callers(count)),
+        Err(_) => unreachable!(),
+    }
+}
+
+/// The answer to the question of a report on processes.
+fn answer_of_sums(alloc: Global, report: &Report, sums: &Sums) -> Result<Answer, Memory>
+    requires usage { IsUsage report.now }
+    ensures value { IfOk result (IsAnswerOn report.now sums.now) }
+    ensures days { IfOk result HasDays }
+{
+    match report {
+        Report::Commands {
+            order,
+            reverse,
+            all,
+        } => Ok(Answer::Commands {
+            rows: sums.by_command(alloc, *order, *all, *reverse)?,
+            total: sums.total(),
+        }),
+        Report::Users { order, reverse } => Ok(Answer::Users {
+            rows: sums.by_user(alloc, *order, *reverse)?,
+            total: sums.total(),
+        }),
+        _ => unreachable!(),
+    }
+}
+
+/// Prints the job's report on the processes that the sums are of.
+fn report_sums<O: Output>(
+    alloc: Global,
+    clock: &Clock,
+    job: &Job,
+    sums: &Sums,
+    out: &mut O,
+) -> Result<(), UsageFault>
+    requires usage { IsUsage job.now.report }
+    requires offset { IsOffset job.now.offset }
+    requires writable { IsWritable (O.state out.old) }
+    ensures writes { (kinds : List Kind) (logins : List Entry) (procs : List ProcEntry) → AreSumsOf sums.now (records_of procs)
+        → Prints (O.state out.old) (O.state out.new) result (unwritten_calls result) (report_text clock.now job.now kinds logins procs) }
+    ensures counts { (O.state out.new).failures ≡ (O.state out.old).failures + unwritten_calls result }
+    ensures tells { (O.state out.new).tells ≡ (O.state out.old).tells }
+    ensures cause { IfErr result IsPrinting }
+{
+    let answer = answer_of_sums(alloc, &job.report, sums)?;
+    print_answers(alloc, clock, job, slice::from_ref(&answer), out)?;
+    Ok(())
+}
+
+/// Prints the job's report on the processes of the inputs that the sums are of.
+fn report_counted<O: Output>(
+    alloc: Global,
+    clock: &Clock,
+    job: &Job,
+    sums: &Sums,
+    out: &mut O,
+) -> Result<(), UsageFault>
+    requires usage { IsUsage job.now.report }
+    requires offset { IsOffset job.now.offset }
+    requires writable { IsWritable (O.state out.old) }
+    ensures writes { (inputs : List Told) → AreSummed inputs sums.now
+        → Prints (O.state out.old) (O.state out.new) result (unwritten_calls result) (output_told clock.now job.now inputs) }
+    ensures counts { (O.state out.new).failures ≡ (O.state out.old).failures + unwritten_calls result }
+    ensures tells { (O.state out.new).tells ≡ (O.state out.old).tells }
+    ensures cause { IfErr result IsPrinting }
+{
+    report_sums(alloc, clock, job, sums, out)
+}
+
+/// Sees that what was written arrives.
+fn arrive<O: Output>(out: &mut O) -> Result<(), UsageFault>
+    requires { IsWritable (O.state out.old) }
+    ensures writes { Prints (O.state out.old) (O.state out.new) result (unwritten_calls result) [] }
+    ensures cause { IfErr result (λ f. f ≡ UsageFault.Write) }
+{
+    match out.finish() {
+        Ok(()) => Ok(()),
+        Err(_) => Err(UsageFault::Write),
+    }
+}
+
+/// Whether all files are of process records.
+fn are_of_procs<I>(sources: &[Source<I>]) -> bool
+    ensures { IsTrue result ↔ All IsOfProcs sources.now }
+{
+    sources.iter().all(|source| source.kind == Kind::Proc)
+}
+
+/// Whether a job over these files is one of `run_usage`: a report on processes, over files of process records alone.
+pub fn is_usage_run<I>(job: &Job, sources: &[Source<I>]) -> bool
+    ensures { IsTrue result ↔ (IsUsage job.now.report × All IsOfProcs sources.now) }
+{
+    match job.report {
+        Report::Commands { .. } | Report::Users { .. } => are_of_procs(sources),
+        _ => false,
+    }
+}
+
+/// Counts each file of process records, several at once, and then prints the job's report on all of them, which is that of
+/// `run`. No record is kept, so a file, and all files together, may have 268,435,456 records, and the memory that is taken goes by
+/// the commands and users in them. Nothing is written before every file is found to be good. A fault is that of the first file at
+/// fault.
+pub fn run_usage<R: Threads + Sync, I: Input + Send, O: Output>(
+    rt: &R,
+    alloc: Global,
+    keys: RandomState,
+    clock: &Clock,
+    job: &Job,
+    sources: Vec<Source<I>>,
+    out: &mut O,
+) -> Result<(), UsageFault>
+    requires runnable { IsRunnable job.now }
+    requires usage { IsUsage job.now.report }
+    requires procs { All IsOfProcs sources.items }
+    requires readable { All (IsReadable I.failures) sources.items }
+    requires writable { IsWritable (O.state out.old) }
+    ensures whole { OnOk result (IsWholeUsage I.to_come clock.now job.now sources.items (O.state out.old) (O.state out.new)) }
+    ensures failed { IfErr result (IsFailedUsage I.to_come I.can_fail clock.now job.now sources.items (O.state out.old) (O.state out.new)) }
+    ensures callers { IsWrongNumber (length sources.items + job.now.askers)
+        → result ≡ Err (callers_refused (length sources.items + job.now.askers)) }
+    ensures counts { (O.state out.new).failures ≡ (O.state out.old).failures + unwritten_calls result }
+    ensures tells { (O.state out.new).tells ≡ (O.state out.old).tells }
+{
+    refuse_callers(sources.len(), job.askers)?;
+    let sums = count_sources(rt, alloc, keys, sources, job.feeders as usize)?;
+    report_counted(alloc, clock, job, &sums, out)?;
+    arrive(out)
+}
