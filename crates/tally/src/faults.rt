@@ -2,11 +2,12 @@
 //! still shows it.
 ghost use Rattle.std.specs.Prelude.{ℕ, length};
 ghost use Rattle.tally_cli.specs.Runs.{IsNamed};
+ghost use Rattle.tally_cli.specs.Usages.{IsNamedFile};
 
 use crate::shown::{ErrorsTo, Shown};
 use std::fmt::Display;
 use std::process::ExitCode;
-use tally_cli::{FileArg, RunFault};
+use tally_cli::{FileArg, RunFault, UsageFault};
 use tally_line::TimesFault;
 use tally_records::Memory;
 use tally_zones::{ZoneFault, hint_on};
@@ -84,6 +85,30 @@ pub(crate) fn run_fault<R: Eprint>(
             file_fault(rt, FAULT, path, fault)
         }
         RunFault::Write if is_reader_gone => ExitCode::from(FAULT),
+        found => fault(rt, FAULT, found),
+    }
+}
+
+/// Prints why a count of these files gave no whole output, as `run_fault` does.
+pub(crate) fn usage_fault<R: Eprint>(
+    rt: &R,
+    to: ErrorsTo,
+    files: &[FileArg],
+    found: UsageFault,
+    is_reader_gone: bool,
+) -> ExitCode
+    requires { IsNamedFile (length files.now) found }
+{
+    match found {
+        UsageFault::File { host, fault } => {
+            let path = Shown::new(files[host as usize].path.as_str(), to);
+            file_fault(rt, FAULT, path, fault)
+        }
+        UsageFault::Full { host } => {
+            let path = Shown::new(files[host as usize].path.as_str(), to);
+            file_fault(rt, FAULT, path, UsageFault::Full { host })
+        }
+        UsageFault::Write if is_reader_gone => ExitCode::from(FAULT),
         found => fault(rt, FAULT, found),
     }
 }

@@ -7,6 +7,7 @@ mod now;
 mod opened;
 mod output;
 mod program;
+mod running;
 mod shown;
 mod words;
 

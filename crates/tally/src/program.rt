@@ -2,10 +2,10 @@
 ghost use Rattle.tally_line.specs.Jobs.{IsRunnable, TakesUntil};
 
 use crate::asked::{Asked, clock_for, job_for};
-use crate::faults::{FAULT, REFUSED, fault, file_fault, not_opened, run_fault, times_fault, usage};
+use crate::faults::{FAULT, REFUSED, fault, file_fault, not_opened, times_fault, usage};
 use crate::now::now_for;
 use crate::opened::{OpenFault, ROOT, hold_closed_streams, open_all};
-use crate::output::Watched;
+use crate::running::run_over;
 use crate::shown::{ErrorsTo, Shown, printable};
 use crate::words::{WordsFault, words};
 use std::hash::RandomState;
@@ -16,11 +16,9 @@ use std::random::RandomSource;
 use std::rt::{Clock as MachineClock, Env, Files};
 use std::sync::Wait;
 use std::thread::Threads;
-use tally_cli::{FileArg, Job, Line, LineFault, RunFault, file_word, job_of, run};
+use tally_cli::{FileArg, Job, Line, LineFault, RunFault, file_word, job_of};
 use tally_clock::Clock;
-use tally_desk::OpenGate;
 use tally_line::{Times, known_fault};
-use tally_print::Writing;
 use tally_records::Memory;
 
 /// Runs the program, and says how it went.
@@ -125,20 +123,7 @@ where
         Err(OpenFault::Memory) => return fault(rt, FAULT, Memory),
         Err(OpenFault::NotOpened(path)) => return not_opened(rt, Shown::new(path, to)),
     };
-    let mut out = Writing::new(Watched::new(io::writer(rt)));
-    match run(
-        rt,
-        rt.alloc(),
-        keys,
-        clock,
-        job,
-        sources,
-        &OpenGate,
-        &mut out,
-    ) {
-        Ok(()) => ExitCode::SUCCESS,
-        Err(found) => run_fault(rt, to, files, found, out.writer().is_reader_gone()),
-    }
+    run_over(rt, to, job, keys, clock, files, sources)
 }
 
 /// Draws the keys, reads the zone and settles the job on its clock, and then reports.

@@ -1,0 +1,91 @@
+//! The run of a job over opened files.
+ghost use Rattle.std.specs.Prelude.{◌≡◌, length};
+ghost use Rattle.std.specs.List.{All};
+ghost use Rattle.tally_cli.specs.Runs.{IsReadable};
+ghost use Rattle.tally_cli.specs.Usages.{IsOfProcs, IsUsage};
+ghost use Rattle.tally_line.specs.Jobs.{IsRunnable};
+
+use crate::faults::{run_fault, usage_fault};
+use crate::output::Watched;
+use crate::shown::ErrorsTo;
+use std::hash::RandomState;
+use std::io;
+use std::process::ExitCode;
+use std::sync::Wait;
+use std::thread::Threads;
+use tally_cli::{FileArg, Job, Source, is_usage_run, run, run_usage};
+use tally_clock::Clock;
+use tally_desk::{Input, OpenGate};
+use tally_print::Writing;
+
+/// Counts the files, and prints the report on their processes.
+fn count_files<R, I: Input + Send>(
+    rt: &R,
+    to: ErrorsTo,
+    job: &Job,
+    keys: RandomState,
+    clock: &Clock,
+    files: &[FileArg],
+    sources: Vec<Source<I>>,
+) -> ExitCode
+where
+    R: Print + Eprint + AllocGlobal + Threads + Sync,
+    requires runnable { IsRunnable job.now }
+    requires usage { IsUsage job.now.report }
+    requires procs { All IsOfProcs sources.items }
+    requires readable { All (IsReadable I.failures) sources.items }
+    requires count { length sources.items ≡ length files.now }
+{
+    let mut out = Writing::new(Watched::new(io::writer(rt)));
+    match run_usage(rt, rt.alloc(), keys, clock, job, sources, &mut out) {
+        Ok(()) => ExitCode::SUCCESS,
+        Err(found) => usage_fault(rt, to, files, found, out.writer().is_reader_gone()),
+    }
+}
+
+/// Reads the files into a book, and prints its report.
+fn read_files<R, I: Input + Send>(
+    rt: &R,
+    to: ErrorsTo,
+    job: &Job,
+    keys: RandomState,
+    clock: &Clock,
+    files: &[FileArg],
+    sources: Vec<Source<I>>,
+) -> ExitCode
+where
+    R: Print + Eprint + AllocGlobal + Threads + Wait + Sync,
+    requires runnable { IsRunnable job.now }
+    requires readable { All (IsReadable I.failures) sources.items }
+    requires count { length sources.items ≡ length files.now }
+{
+    let mut out = Writing::new(Watched::new(io::writer(rt)));
+    let alloc = rt.alloc();
+    match run(rt, alloc, keys, clock, job, sources, &OpenGate, &mut out) {
+        Ok(()) => ExitCode::SUCCESS,
+        Err(found) => run_fault(rt, to, files, found, out.writer().is_reader_gone()),
+    }
+}
+
+/// Runs the job over the files. For a report on processes alone no record is kept.
+pub(crate) fn run_over<R, I: Input + Send>(
+    rt: &R,
+    to: ErrorsTo,
+    job: &Job,
+    keys: RandomState,
+    clock: &Clock,
+    files: &[FileArg],
+    sources: Vec<Source<I>>,
+) -> ExitCode
+where
+    R: Print + Eprint + AllocGlobal + Threads + Wait + Sync,
+    requires runnable { IsRunnable job.now }
+    requires readable { All (IsReadable I.failures) sources.items }
+    requires count { length sources.items ≡ length files.now }
+{
+    if is_usage_run(job, sources.as_slice()) {
+        count_files(rt, to, job, keys, clock, files, sources)
+    } else {
+        read_files(rt, to, job, keys, clock, files, sources)
+    }
+}
