@@ -1,6 +1,7 @@
 //! Command lines, and whole runs over files in memory.
 
 mod chosen;
+mod counted;
 mod ended;
 mod expect;
 mod line;

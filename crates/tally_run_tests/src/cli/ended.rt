@@ -1,6 +1,7 @@
 //! How a run ends: which call of its output is the last, and what is not touched after a failure.
 ghost use Rattle.std.specs.Prelude.{◌≡◌, None, [], false};
 
+use crate::cli::counted::count;
 use crate::cli::expect::expect_that;
 use crate::cli::runs::{
     TOTAL, add_source, expect_end, one_hour, run_over, source_of, text_job, torn,
@@ -10,10 +11,11 @@ use std::random::RandomSource;
 use std::sync::Wait;
 use std::sync::atomic::{AtomicU64, Ordering};
 use std::thread::Threads;
-use tally_cli::{Report, RunFault, Source};
-use tally_desk::{Input, InputFault, OpenGate};
+use tally_cli::{Report, RunFault, Source, UsageFault};
+use tally_desk::{CountFault, Input, InputFault, OpenGate};
 use tally_print::{Output, OutputFault};
 use tally_records::Kind;
+use tally_usage::Order;
 
 /// An input of so many zeros, which counts how often it is taken from.
 #[derive(Drop)]
@@ -83,10 +85,53 @@ impl Output for Closing {
 
 /// What became of a run, and how often its inputs were taken from.
 #[derive(Drop)]
-struct Ended {
-    outcome: Result<(), RunFault>,
+struct Ended<E> {
+    outcome: Result<(), E>,
     out: Closing,
     takes: [u64; 2],
+}
+
+/// Two files of so many zeros.
+fn two_files<'a, R: AllocGlobal + Abort>(
+    rt: &R,
+    kind: Kind,
+    sizes: [usize; 2],
+    first: &'a AtomicU64,
+    second: &'a AtomicU64,
+) -> Vec<Source<Counted<'a>>> {
+    let mut sources = Vec::new(rt.alloc());
+    let [left, then_left] = sizes;
+    let zeros = Counted { left, takes: first };
+    add_source(rt, &mut sources, kind, zeros);
+    let zeros = Counted {
+        left: then_left,
+        takes: second,
+    };
+    add_source(rt, &mut sources, kind, zeros);
+    sources
+}
+
+/// Counts two files of so many zeros, and prints the commands in them.
+fn count_over<R: AllocGlobal + Abort + RandomSource + Threads + Sync>(
+    rt: &R,
+    sizes: [usize; 2],
+    fails: bool,
+) -> Ended<UsageFault> {
+    let first = AtomicU64::new(0);
+    let second = AtomicU64::new(0);
+    let sources = two_files(rt, Kind::Proc, sizes, &first, &second);
+    let mut out = Closing::new(fails);
+    let report = Report::Commands {
+        order: Order::Cpu,
+        reverse: false,
+        all: false,
+    };
+    let outcome = count(rt, &text_job(report, 1, 0), sources, &mut out);
+    Ended {
+        outcome,
+        out,
+        takes: [first.load(Ordering::SeqCst), second.load(Ordering::SeqCst)],
+    }
 }
 
 /// Prints all reports over two files of so many zeros.
@@ -94,21 +139,10 @@ fn all_over<R: AllocGlobal + Abort + RandomSource + Threads + Wait + Sync>(
     rt: &R,
     sizes: [usize; 2],
     fails: bool,
-) -> Ended {
+) -> Ended<RunFault> {
     let first = AtomicU64::new(0);
     let second = AtomicU64::new(0);
-    let mut sources = Vec::new(rt.alloc());
-    let [left, then_left] = sizes;
-    let zeros = Counted {
-        left,
-        takes: &first,
-    };
-    add_source(rt, &mut sources, Kind::Login, zeros);
-    let zeros = Counted {
-        left: then_left,
-        takes: &second,
-    };
-    add_source(rt, &mut sources, Kind::Login, zeros);
+    let sources = two_files(rt, Kind::Login, sizes, &first, &second);
     let mut out = Closing::new(fails);
     let job = text_job(Report::All, 1, 0);
     let outcome = run_over(rt, &job, sources, &OpenGate, &mut out);
@@ -140,6 +174,34 @@ fn an_output_that_fails_at_its_end_fails_the_run(rt: HostRuntime) {
 fn a_feeder_stops_at_its_first_file_that_fails(rt: HostRuntime) {
     let ended = all_over(&rt, [385, 384], false);
     expect_end(&rt, "the first file is torn", &ended.outcome, &torn(0));
+    let [first, second] = ended.takes;
+    expect_that(&rt, "the first file is read", first > 0);
+    expect_that(&rt, "the second file is not", second == 0);
+    expect_that(&rt, "nothing is written", ended.out.bytes == 0);
+}
+
+#[test]
+fn an_output_of_a_count_is_finished_once_after_its_report(rt: HostRuntime) {
+    let ended = count_over(&rt, [0, 0], false);
+    let out = &ended.out;
+    expect_that(&rt, "the count ends well", ended.outcome == Ok(()));
+    expect_that(&rt, "finished once", out.finished == 1);
+    expect_that(&rt, "bytes are written", out.bytes > 0);
+    expect_that(&rt, "finished last", out.bytes_then == out.bytes);
+    let ended = count_over(&rt, [0, 0], true);
+    let fault = Err(UsageFault::Write);
+    expect_that(&rt, "the end fails", ended.outcome == fault);
+}
+
+#[test]
+fn a_feeder_stops_at_its_first_file_that_is_not_counted(rt: HostRuntime) {
+    let ended = count_over(&rt, [1, 0], false);
+    let fault = CountFault::Torn {
+        records: 0,
+        rest: 1,
+    };
+    let torn = Err(UsageFault::File { host: 0, fault });
+    expect_that(&rt, "the first file is torn", ended.outcome == torn);
     let [first, second] = ended.takes;
     expect_that(&rt, "the first file is read", first > 0);
     expect_that(&rt, "the second file is not", second == 0);
