@@ -113,7 +113,7 @@ pub(crate) struct Bench {
     pub(crate) digest: Digest,
 }
 
-/// Runs a job over new files.
+/// Runs a job over new files, as the program does.
 fn run_once<R: AllocGlobal + Threads + Wait + Sync>(
     rt: &R,
     bench: &mut Bench,
@@ -125,6 +125,18 @@ fn run_once<R: AllocGlobal + Threads + Wait + Sync>(
 {
     let alloc = rt.alloc();
     let sources = sources(alloc, &mut bench.numbers, files.thousandths(bench.parts))?;
+    if is_usage_run(job, sources.as_slice()) {
+        run_usage(
+            rt,
+            alloc,
+            bench.keys,
+            clock,
+            job,
+            sources,
+            &mut bench.digest,
+        )?;
+        return Ok(());
+    }
     run(
         rt,
         alloc,

@@ -2,7 +2,7 @@
 use std::alloc::AllocError;
 use std::io;
 use tally_book::{AskFault, PostFault};
-use tally_cli::RunFault;
+use tally_cli::{RunFault, UsageFault};
 use tally_clock::RuleFault;
 use tally_desk::OpenFault;
 use tally_print::PrintFault;
@@ -36,6 +36,12 @@ impl From<io::Error> for Stopped {
 impl From<RunFault> for Stopped {
     fn from(_fault: RunFault) -> Stopped {
         Stopped::Refused("run")
+    }
+}
+
+impl From<UsageFault> for Stopped {
+    fn from(_fault: UsageFault) -> Stopped {
+        Stopped::Refused("count")
     }
 }
 
