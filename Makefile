@@ -31,10 +31,11 @@ test-anew:
 test-edits: build
 	@.ci/edits --record $(CRATES)
 
-# The rows and the cases with inputs of 402 MB. `make test` or `make build` comes first.
+# The rows and the cases with inputs of 402 MB, and `sa` over 17 GB. `make test` or `make build` comes first.
 test-big:
 	rows/tools/run --only "$(ROWS),big" $(PROGRAM) endless-zeros-ac
 	rows/tools/surroundings --big $(PROGRAM)
+	rows/tools/volume --big $(PROGRAM)
 
 # The pictures of docs/pictures, by gnuplot from the files of examples/.
 pictures: build

@@ -390,6 +390,36 @@ row('most-askers', 'all,askers', 'One file and 64 askers.', ['all', '--askers', 
 
 # --- acct version 3
 
+# --- sa over several files: each is counted by itself, and the sums are joined
+
+TWO_MAKES = lines('       6         0.24re         0.10cp        335avio        380k',
+                  '       2         0.20re         0.06cp       1000avio        500k make',
+                  '       4         0.04re         0.04cp          3avio        200k make*')
+row('processes-of-two-files', 'sa,files', 'A command that each file calls once is called twice: all files say what is joined.',
+    ['sa', 'f', 'g'], TWO_MAKES, files={'f': MAKE, 'g': MAKE})
+row('process-file-named-twice', 'sa,files', 'A file that is named twice counts twice.', ['sa', 'f', 'f'], TWO_MAKES,
+    files={'f': MAKE})
+row('processes-of-two-files-by-one-feeder', 'sa,files,feeders', 'One thread counts both.',
+    ['sa', '--feeders', '1', 'f', 'g'], TWO_MAKES, files={'f': MAKE, 'g': MAKE})
+row('processes-of-two-files-by-64-feeders', 'sa,files,feeders', 'Threads that no file is dealt to are not started.',
+    ['sa', '--feeders', '64', 'f', 'g'], TWO_MAKES, files={'f': MAKE, 'g': MAKE})
+row('users-of-two-files', 'sa,sa -m,files', 'One row for each uid of all files.', ['sa', '-m', 'f', 'g'],
+    lines('total             6         0.24re         0.10cp        335avio        380k',
+          '1000              6         0.24re         0.10cp        335avio        380k'), files={'f': MAKE, 'g': MAKE})
+row('empty-process-file-first', 'sa,files', 'Sums of no records take the others as they are.', ['sa', 'e', 'f', 'e'],
+    lines(SA_TOTAL, SA_OTHER, SA_FORKED), files={'e': b'', 'f': MAKE})
+row('torn-process-file-after-a-good-one', 'sa,files', 'Nothing is printed where a later file is at fault.', ['sa', 'f', 'g'], '',
+    'tally: g: torn after 3 records, 1 bytes left\n', 1, {'f': MAKE, 'g': MAKE + b'\0'})
+row('first-process-file-at-fault', 'sa,files,feeders', 'Of two files at fault the first is named, whichever is found first.',
+    ['sa', '--feeders', '3', 'f', 'g', 'h'], '', 'tally: g: record 1 has version 9\n', 1,
+    {'f': MAKE, 'g': A(0, 0, 0, 0, 0, 0, 0, 'a') + A(0, 0, 0, 0, 0, 0, 0, 'a', version=9), 'h': b'\0'})
+row('process-files-too-many', 'sa,files', 'More than 128 files are refused, and none is read.', ['sa'] + ['f'] * 129, '',
+    'tally: 129 callers, 1 to 128 are allowed\n', 1, {'f': b'\0'})
+row('most-process-files', 'sa,files', '128 files are read: 384 calls.', ['sa'] + ['f'] * 128,
+    lines('     384        15.36re         6.40cp        335avio        380k',
+          '     128        12.80re         3.84cp       1000avio        500k make',
+          '     256         2.56re         2.56cp          3avio        200k make*'), files={'f': MAKE})
+
 row('commands-of-mixed-versions', 'sa,version3', 'A version 3 record among records of version 2.', ['sa', 'f'],
     lines(SA_TOTAL, SA_OTHER, SA_FORKED), files={'f': MAKE_V3})
 row('users-of-mixed-versions', 'sa,sa -m,version3', 'The uid stands at another offset.', ['sa', '-m', 'f'], SA_USERS,
@@ -760,6 +790,7 @@ show, `examples/`. No two have one name.
     tools/refusals TALLY_BINARY NAME..        these rows, with each allocation, read, write and call for random bytes or the time refused in turn
     tools/fuzz TALLY_BINARY                   random files and words, beside the slow definitions of slow.py
     tools/sizes TALLY_BINARY                  every report over files of many sizes, with ample memory
+    tools/volume TALLY_BINARY                 `sa` over more records than a book holds, and the memory that it takes
     tools/thresholds TALLY_BINARY             users on days, and named users, over files at and over each size at which `ac` goes another way
     tools/readers TALLY_BINARY                tables, as other programs read them
     tools/schedules TALLY_BINARY              many files with many numbers of threads
