@@ -6,7 +6,7 @@ ghost use Rattle.tally_line.specs.Jobs.{IsRunnable};
 ghost use Rattle.tally_print.specs.Output.{IsWritable};
 
 use crate::cli::expect::{expect_that, made};
-use crate::cli::runs::{add_source, run_over, text_job};
+use crate::cli::runs::{add_source, run_over};
 use std::fmt::Display;
 use std::hash::RandomState;
 use std::process::Abort;
@@ -36,21 +36,14 @@ impl Numbers {
     }
 
     // A byte of a record of either version: its user and its command are two of a few, all else is any.
-    fn byte_of(&mut self, at: usize, version: u32, user: u32, command: u32) -> u8 {
-        let (users, names) = if version == 2 { (56, 36) } else { (8, 48) };
-        if at == 1 {
-            return version as u8;
+    fn byte_of(&mut self, at: usize, version: u8, user: u8, command: u8) -> u8 {
+        match (version, at) {
+            (_, 1) => version,
+            (2, 56) | (3, 8) => user,
+            (2, 36) | (3, 48) => command,
+            (2, 37..=51 | 57..=59) | (3, 9..=11 | 49..=63) => 0,
+            _ => self.below(256) as u8,
         }
-        if at == users {
-            return user as u8;
-        }
-        if at == names {
-            return command as u8;
-        }
-        if (users..users + 4).contains(&at) || (names..names + 16).contains(&at) {
-            return 0;
-        }
-        self.below(256) as u8
     }
 
     // Puts a record after the others. One of a hundred has no version that is known.
@@ -58,17 +51,19 @@ impl Numbers {
         let version = if faults && self.below(100) == 0 {
             9
         } else {
-            2 + self.below(2)
+            2 + self.below(2) as u8
         };
-        let user = self.below(3);
-        let command = 0x60 + self.below(6);
+        let user = self.below(3) as u8;
+        let command = 0x60 + self.below(6) as u8;
         for at in 0..64 {
             made(rt, bytes.push(self.byte_of(at, version, user, command)));
         }
     }
 
     // A file of up to so many records, which may be torn.
-    fn file<R: AllocGlobal + Abort>(&mut self, rt: &R, most: u32, faults: bool) -> Vec<u8> {
+    fn file<R: AllocGlobal + Abort>(&mut self, rt: &R, most: u32, faults: bool) -> Vec<u8>
+        requires { most ≤ 10000 }
+    {
         let mut bytes = Vec::new(rt.alloc());
         for _ in 0..self.below(most + 1) {
             self.push_record(rt, &mut bytes, faults);
@@ -79,23 +74,69 @@ impl Numbers {
         bytes
     }
 
-    // A report on processes.
-    fn report(&mut self) -> Report {
-        let order = if self.below(2) == 0 {
+    // An order of rows.
+    fn order(&mut self) -> Order {
+        if self.below(2) == 0 {
             Order::Cpu
         } else {
             Order::Calls
-        };
-        let reverse = self.below(2) == 0;
-        if self.below(3) == 0 {
-            Report::Users { order, reverse }
+        }
+    }
+
+    // A form of a report.
+    fn form(&mut self) -> Form {
+        if self.below(2) == 0 {
+            Form::Csv
         } else {
-            let all = self.below(2) == 0;
-            Report::Commands {
+            Form::Text
+        }
+    }
+
+    // A report on users.
+    fn users(&mut self) -> Job
+        ensures { IsRunnable result }
+    {
+        let order = self.order();
+        let reverse = self.below(2) == 0;
+        Job {
+            report: Report::Users { order, reverse },
+            form: self.form(),
+            feeders: 1 + self.below(7),
+            askers: 0,
+            offset: 0,
+            until: None,
+        }
+    }
+
+    // A report on commands.
+    fn commands(&mut self) -> Job
+        ensures { IsRunnable result }
+    {
+        let order = self.order();
+        let reverse = self.below(2) == 0;
+        let all = self.below(2) == 0;
+        Job {
+            report: Report::Commands {
                 order,
                 reverse,
                 all,
-            }
+            },
+            form: self.form(),
+            feeders: 1 + self.below(7),
+            askers: 0,
+            offset: 0,
+            until: None,
+        }
+    }
+
+    // A report on processes.
+    fn job(&mut self) -> Job
+        ensures { IsRunnable result }
+    {
+        if self.below(3) == 0 {
+            self.users()
+        } else {
+            self.commands()
         }
     }
 }
@@ -107,7 +148,9 @@ fn files_of<R: AllocGlobal + Abort>(
     files: u32,
     records: u32,
     faults: bool,
-) -> Vec<Source<Bytes>> {
+) -> Vec<Source<Bytes>>
+    requires { (0 < files) × (records ≤ 10000) }
+{
     let mut sources = Vec::new(rt.alloc());
     for _ in 0..numbers.below(files) + 1 {
         let bytes = numbers.file(rt, records, faults);
@@ -155,10 +198,7 @@ fn expect_alike<R: AllocGlobal + Abort + RandomSource + Threads + Wait + Sync>(
     requires { (0 < files) × (files ≤ 64) × (records ≤ 10000) }
 {
     let mut numbers = Numbers { state: seed };
-    let mut job = text_job(numbers.report(), 1 + numbers.below(7), 0);
-    if numbers.below(2) == 0 {
-        job.form = Form::Csv;
-    }
+    let job = numbers.job();
     let mut ran = Kept::new(rt.alloc());
     let sources = files_of(rt, numbers, files, records, faults);
     let wanted = text_of(rt, run_over(rt, &job, sources, &OpenGate, &mut ran));
