@@ -18,7 +18,8 @@ use tally_clock::Clock;
 use tally_desk::{Input, OpenGate};
 use tally_print::Writing;
 
-/// Counts the files, and prints the report on their processes.
+/// Counts the files, and prints the report on their processes. It stays apart, so that its stack is not that of other reports.
+#[inline(never)]
 fn count_files<R, I: Input + Send>(
     rt: &R,
     to: ErrorsTo,
@@ -43,7 +44,8 @@ where
     }
 }
 
-/// Reads the files into a book, and prints its report.
+/// Reads the files into a book, and prints its report. It stays apart, as `count_files` does.
+#[inline(never)]
 fn read_files<R, I: Input + Send>(
     rt: &R,
     to: ErrorsTo,
