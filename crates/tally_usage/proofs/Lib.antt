@@ -1,13 +1,17 @@
 pub mod BatchLemmas
 pub mod BlockLemmas
+pub mod ChoiceLemmas
 pub mod CommandLemmas
 pub mod CommandSteps
 pub mod GroupLemmas
+pub mod NameLemmas
 pub mod NumberLemmas
+pub mod PasswdLemmas
 pub mod PermutationLemmas
 pub mod SummaryLemmas
 pub mod SumsLemmas
 pub mod TotalsLemmas
 pub mod UsageLemmas
 pub mod UserLemmas
+pub mod WorkedNames
 pub mod WorkedRows

@@ -1,8 +1,10 @@
+pub mod Choice
 pub mod Command
 pub mod Entries
 pub mod Kept
 pub mod Laws
 pub mod Lent
+pub mod Names
 pub mod Order
 pub mod Summary
 pub mod Sums

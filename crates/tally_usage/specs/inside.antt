@@ -3,6 +3,7 @@ pub mod Blocks
 pub mod Counted
 pub mod Entries
 pub mod Keys
+pub mod Names
 pub mod Rows
 pub mod Sound
 pub mod Usage

@@ -1,16 +1,18 @@
 //! The sums of each command and of each user over process records that are not kept.
 ghost use Rattle.std.specs.Prelude.{◌≡◌, ◌+◌, [], IfErr, IfOk, OnErr, OnOk};
 ghost use Rattle.tally_records.specs.Records.{IsProcs, procs_in, record_count};
+ghost use Rattle.tally_usage.specs.Choice.{chosen};
 ghost use Rattle.tally_usage.specs.Command.{command_rows};
 ghost use Rattle.tally_usage.specs.Sums.{AreSums, AreSumsOf, CountsBoth, CountsMore, IsAbout, IsCauseAt};
 ghost use Rattle.tally_usage.specs.Usage.{usage_of};
 ghost use Rattle.tally_usage.specs.User.{user_rows};
 
+use crate::choice::ProcChoice;
 use crate::command::{self, CommandRow};
 use crate::fault::SumsFault;
 use crate::order::Order;
 use crate::summary::turned;
-use crate::table::{Commands, count_batch, count_groups};
+use crate::table::{Commands, count_chosen, count_groups};
 use crate::usage::{SUMS_LIMIT, Usage};
 use crate::user::{self, UidRow};
 use indexmap::IndexMap;
@@ -63,6 +65,17 @@ impl Sums {
         ensures refused { OnErr result (self.new ≡ self.old) }
         ensures cause { IfErr result (IsCauseAt (self.old.total.count + record_count batch.now)) }
     {
+        self.add_chosen(batch, &ProcChoice::every())
+    }
+
+    /// Counts the chosen records of a batch too, or none of them. It asks for memory, and refuses a batch, as `add` does: there
+    /// has to be room for all its records.
+    pub fn add_chosen(&mut self, batch: &Batch, choice: &ProcChoice) -> Result<(), SumsFault>
+        requires kind { IsProcs batch.now }
+        ensures added { OnOk result (CountsMore self.old self.new (chosen choice.now (procs_in batch.now))) }
+        ensures refused { OnErr result (self.new ≡ self.old) }
+        ensures cause { IfErr result (IsCauseAt (self.old.total.count + record_count batch.now)) }
+    {
         let count = batch.len();
         if self.total.count + count as u64 > SUMS_LIMIT as u64 {
             return Err(SumsFault::Full);
@@ -71,13 +84,14 @@ impl Sums {
         self.users.reserve(count)?;
         self.command_guesses.make_room()?;
         self.user_guesses.make_room()?;
-        count_batch(
+        count_chosen(
             &mut self.commands,
             &mut self.users,
             &mut self.total,
             &mut self.command_guesses,
             &mut self.user_guesses,
             batch.packed_procs(),
+            choice,
         );
         Ok(())
     }

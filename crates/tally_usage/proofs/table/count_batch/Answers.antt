@@ -71,8 +71,8 @@ loop-process-preserved c =
       room_for_users = omega (arith, counted.room_for_users, c.loop-process.invariant.room_for_users);
     }
 
-pub returns : goal.returns
-returns c = λ rs sums.
+pub returns-clause-counted : goal.returns-clause-counted
+returns-clause-counted c = λ rs sums.
     let ps = c.args.records.now in
     let whole = take_all (length rs + c.loop-process.process-index) (rs ++ unpacked ps) (omega (arith, length-append rs (unpacked ps), length-map ps record_of)) in
     subst (AreSumsOf (record { commands = c.loop-process.commands.entries; users = c.loop-process.users.entries; total = c.loop-process.total })) whole (c.loop-process.invariant.sums rs sums)

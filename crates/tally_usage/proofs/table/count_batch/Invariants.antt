@@ -10,6 +10,6 @@ invariant-loop-process l =
     record {
       sums : (rs : List ProcRecord) → AreSumsOf (record { commands = l.initial.commands.entries; users = l.initial.users.entries; total = l.initial.total }) rs
           → AreSumsOf (record { commands = l.commands.entries; users = l.users.entries; total = l.total }) (take (length rs + l.process-index) (rs ++ unpacked l.records));
-      room_for_commands : length l.records ≤ spare l.commands + l.process-index;
-      room_for_users : length l.records ≤ spare l.users + l.process-index;
+      room_for_commands : spare l.initial.commands ≤ spare l.commands + l.process-index;
+      room_for_users : spare l.initial.users ≤ spare l.users + l.process-index;
     }
