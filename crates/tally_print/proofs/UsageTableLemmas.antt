@@ -20,7 +20,7 @@ name_text : (row : CommandRow) → before_last (name_fields row) ≡ (field_text
 unfolding name_fields
 name_text row = rw (mark_as_field row.forked, mark_as_field row.other) (simp (append_assoc, append-nil))
 
-sums_text : (u : Usage) → before_last (sum_fields u) ++ (decimal u.mem_cpu ++ 10 ∷ []) ≡ (decimal u.count ++ 44 ∷ [] ++ decimal u.real ++ 44 ∷ [] ++ decimal u.cpu ++ 44 ∷ [] ++ decimal u.io ++ 44 ∷ [] ++ decimal u.mem_cpu ++ 10 ∷ [])
+pub sums_text : (u : Usage) → before_last (sum_fields u) ++ (decimal u.mem_cpu ++ 10 ∷ []) ≡ (decimal u.count ++ 44 ∷ [] ++ decimal u.real ++ 44 ∷ [] ++ decimal u.cpu ++ 44 ∷ [] ++ decimal u.io ++ 44 ∷ [] ++ decimal u.mem_cpu ++ 10 ∷ [])
 unfolding sum_fields
 sums_text u = rw (number_as_field u.count, number_as_field u.real, number_as_field u.cpu, number_as_field u.io) (simp (append_assoc, append-nil))
 

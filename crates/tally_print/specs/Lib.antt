@@ -2,8 +2,10 @@ pub mod AnswerText
 pub mod Civil
 pub mod ConnectTable
 pub mod ConnectText
+pub mod FileUsage
 pub mod LastText
 pub mod Laws
+pub mod NamedUsers
 pub mod Output
 pub mod ReportTable
 pub mod Section

@@ -5,3 +5,4 @@ pub mod Pages
 pub mod Plain
 pub mod Stays
 pub mod Tables
+pub mod Wide

@@ -6,11 +6,13 @@ mod connect;
 mod connect_table;
 mod date;
 mod fields;
+mod file_usage;
 mod kept;
 mod last;
 mod laws;
 mod lines;
 mod local;
+mod named_users;
 mod output;
 mod part_table;
 mod plain;
@@ -30,9 +32,14 @@ mod writing;
 pub use answer::print_answer;
 pub use connect::print_connect;
 pub use date::day_text_is_that_of_jiff;
+pub use file_usage::{
+    FileTable, print_empty_line, print_file_commands, print_file_header, print_file_named_users,
+    print_file_users, print_path_line,
+};
 pub use kept::Kept;
 pub use last::print_last;
 pub use laws::moments_have_their_days;
+pub use named_users::{print_named_user_table, print_named_users};
 pub use output::{Output, OutputFault, PrintFault};
 pub use report_table::{Table, print_table};
 pub use section::{Section, print_all_sections, print_section_table};

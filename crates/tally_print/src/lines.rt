@@ -83,3 +83,21 @@ pub(crate) fn print_fields<X, F: Fields<X>, O: Output>(
 {
     print_lines(new_page(alloc)?, fields, rows, out)
 }
+
+/// Prints a text, and then a row of a table for each row.
+pub(crate) fn print_headed_fields<X, F: Fields<X>, O: Output>(
+    alloc: Global,
+    header: &[u8],
+    fields: &F,
+    rows: &[X],
+    out: &mut O,
+) -> Result<(), PrintFault>
+    requires writable { IsWritable (O.state out.old) }
+    requires printed { All F.Line.prints rows.now }
+    ensures writes { Prints (O.state out.old) (O.state out.new) result (failed_calls result)
+        (header.now ++ csv_text (map (F.fields fields.now) rows.now)) }
+{
+    let mut page = new_page(alloc)?;
+    page.extend_from_slice(header)?;
+    print_lines(page, fields, rows, out)
+}

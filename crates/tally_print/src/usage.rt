@@ -20,7 +20,7 @@ fn average(sum: u128, count: u64) -> u128
 }
 
 #[tactic(auto, unfolding(crate::specs::UsageText::columns))]
-fn push_columns(line: &mut Vec<u8>, usage: &Usage) -> Result<(), AllocError>
+pub(crate) fn push_columns(line: &mut Vec<u8>, usage: &Usage) -> Result<(), AllocError>
     ensures { OnOk result (line.new.items ≡ line.old.items ++ columns usage.now) }
 {
     push_right_number(line, usage.count, 8)?;
@@ -46,7 +46,7 @@ fn push_total(line: &mut Vec<u8>, total: &Usage) -> Result<(), AllocError>
 }
 
 #[tactic(auto, unfolding(crate::specs::UsageText::named_total_line))]
-fn push_named_total(line: &mut Vec<u8>, total: &Usage) -> Result<(), AllocError>
+pub(crate) fn push_named_total(line: &mut Vec<u8>, total: &Usage) -> Result<(), AllocError>
     ensures { OnOk result (line.new.items ≡ line.old.items ++ named_total_line total.now) }
 {
     push_left(line, b"total", 10)?;

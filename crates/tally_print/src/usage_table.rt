@@ -22,7 +22,7 @@ fn push_mark(line: &mut Vec<u8>, mark: bool) -> Result<(), AllocError>
 }
 
 /// Appends what was used, and ends the line.
-fn push_usage(line: &mut Vec<u8>, usage: &Usage) -> Result<(), AllocError>
+pub(crate) fn push_usage(line: &mut Vec<u8>, usage: &Usage) -> Result<(), AllocError>
     ensures { OnOk result (line.new.items ≡ line.old.items ++ (decimal usage.now.count ++ 44 ∷ []
         ++ decimal usage.now.real ++ 44 ∷ [] ++ decimal usage.now.cpu ++ 44 ∷ []
         ++ decimal usage.now.io ++ 44 ∷ [] ++ decimal usage.now.mem_cpu ++ 10 ∷ [])) }
@@ -60,7 +60,7 @@ fn push_command(line: &mut Vec<u8>, row: &CommandRow) -> Result<(), AllocError>
     push_usage(line, &row.usage)
 }
 
-fn push_uid(line: &mut Vec<u8>, row: &UidRow) -> Result<(), AllocError>
+pub(crate) fn push_uid(line: &mut Vec<u8>, row: &UidRow) -> Result<(), AllocError>
     ensures { OnOk result (line.new.items ≡ line.old.items ++ (decimal row.now.uid ++ 44 ∷ [])) }
 {
     push_number(line, row.uid)?;
