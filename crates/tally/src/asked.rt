@@ -1,18 +1,20 @@
-//! What a command line asks to report: its clock and its moments, worked out.
-ghost use Rattle.std.specs.Prelude.{◌≡◌, IfErr, IfOk, None, Ok, Err};
+//! What a command line asks to report: its clock, its moments and its names of users, worked out.
+ghost use Rattle.std.specs.Prelude.{◌≡◌, IfErr, IfOk, None, Some, Ok, Err, if◌then◌else◌};
 ghost use Rattle.tally_clock.specs.Rows.{utc};
 ghost use Rattle.tally_line.specs.Jobs.{IsRunnable, TakesUntil};
-ghost use Rattle.tally_line.specs.Settled.{Settles};
+ghost use Rattle.tally_line.specs.Settled.{Settles, SettlesChoice};
 ghost use Rattle.tally_line.specs.declared.settling.TimesFault.{TimesFault};
 ghost use Rattle.tally_moments.specs.Seconds.{local};
 
-use crate::faults::{times_fault, zone_fault};
-use crate::shown::ErrorsTo;
+use crate::faults::{times_fault, users_fault, zone_fault};
+use crate::shown::{ErrorsTo, Shown};
+use crate::users::names_of;
 use std::process::ExitCode;
 use std::rt::Files;
 use tally_cli::{FileArg, Job};
 use tally_clock::Clock;
-use tally_line::{Times, settle};
+use tally_line::{Times, UsageAsked, settle, settle_choice};
+use tally_usage::{ProcChoice, UserNames};
 use tally_zones::clock_of;
 
 /// What a command line asks to report, and the second at which its words were read.
@@ -20,12 +22,15 @@ use tally_zones::clock_of;
 pub(crate) struct Asked<'a> {
     pub(crate) job: &'a Job,
     pub(crate) times: &'a Times,
+    pub(crate) usage: &'a UsageAsked,
     pub(crate) now: i64,
     pub(crate) zone: Option<&'a String>,
     pub(crate) files: &'a [FileArg],
 }
 
-/// The clock of the zone that the command line names, and UTC where it names none.
+/// The clock of the zone that the command line names, and UTC where it names none. It stays apart, so that a run needs no stack
+/// for it.
+#[inline(never)]
 pub(crate) fn clock_for<R>(rt: &R, to: ErrorsTo, zone: Option<&String>) -> Result<Clock, ExitCode>
 where
     R: Files + Eprint + AllocGlobal,
@@ -51,6 +56,56 @@ pub(crate) fn job_for<R: Eprint>(rt: &R, asked: Asked<'_>, clock: &Clock) -> Res
 {
     match settle(asked.job, asked.times, clock, asked.now) {
         Ok(job) => Ok(job),
+        Err(found) => Err(times_fault(rt, found)),
+    }
+}
+
+/// The names of users that the file of the command line gives, where it names one. It stays apart, as `clock_for` does.
+#[inline(never)]
+pub(crate) fn names_for<R>(
+    rt: &R,
+    to: ErrorsTo,
+    path: Option<&String>,
+) -> Result<Option<UserNames>, ExitCode>
+where
+    R: Files + Input + Eprint + AllocGlobal,
+    R::File: Drop,
+    R::Reader: Drop,
+    ensures { path.entry ≡ None → result ≡ Ok None }
+{
+    let Some(path) = path else {
+        return Ok(None);
+    };
+    match names_of(rt, path.as_str()) {
+        Ok(names) => Ok(Some(names)),
+        Err(found) => Err(users_fault(rt, Shown::new(path.as_str(), to), found)),
+    }
+}
+
+/// The files of the command line, where it asks for each by itself.
+pub(crate) fn files_by_file<'a>(asked: Asked<'a>) -> Option<&'a [FileArg]>
+    ensures { result ≡ if asked.entry.usage.now.by_file then Some asked.entry.files else None }
+{
+    if asked.usage.by_file {
+        Some(asked.files)
+    } else {
+        None
+    }
+}
+
+/// The processes that the command line chooses.
+pub(crate) fn choice_for<R: Eprint>(
+    rt: &R,
+    asked: Asked<'_>,
+    clock: &Clock,
+) -> Result<ProcChoice, ExitCode>
+    ensures settled { IfOk result (λ choice. SettlesChoice (local clock.now asked.entry.job.now.offset) asked.entry.now asked.entry.times.now asked.entry.usage.now.uids (Ok choice)) }
+    ensures refused { IfErr result (λ _. (found : TimesFault) × SettlesChoice (local clock.now asked.entry.job.now.offset) asked.entry.now asked.entry.times.now asked.entry.usage.now.uids (Err found)) }
+{
+    let uids = asked.usage.uids;
+    let minutes = asked.job.offset;
+    match settle_choice(uids, asked.times, clock, minutes, asked.now) {
+        Ok(choice) => Ok(choice),
         Err(found) => Err(times_fault(rt, found)),
     }
 }

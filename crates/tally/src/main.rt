@@ -3,12 +3,14 @@
 
 mod asked;
 mod faults;
+mod limited;
 mod now;
 mod opened;
 mod output;
 mod program;
 mod running;
 mod shown;
+mod users;
 mod words;
 
 use crate::shown::ErrorsTo;

@@ -99,7 +99,7 @@ impl<'a, T: Drop> From<AllocFailed<T>> for OpenFault<'a> {
 
 /// Opens a file. Where `/dev/stdin` is refused, as it is for a pipe that another user made,
 /// standard input is read as the runtime has it.
-fn open<R: Files + Input>(rt: &R, path: &str) -> Option<Opened<R::File, R::Reader>>
+pub(crate) fn open<R: Files + Input>(rt: &R, path: &str) -> Option<Opened<R::File, R::Reader>>
 where
     R::File: Drop,
 {
@@ -131,7 +131,8 @@ where
     })
 }
 
-/// Opens the files in order, up to the first that cannot be opened.
+/// Opens the files in order, up to the first that cannot be opened. It stays apart, so that a run needs no stack for it.
+#[inline(never)]
 pub(crate) fn open_all<'a, R: Files + Input>(
     rt: &R,
     alloc: Global,

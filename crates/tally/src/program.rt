@@ -1,7 +1,7 @@
 //! The program over a runtime.
 ghost use Rattle.tally_line.specs.Jobs.{IsRunnable, TakesUntil};
 
-use crate::asked::{Asked, clock_for, job_for};
+use crate::asked::{Asked, choice_for, clock_for, files_by_file, job_for, names_for};
 use crate::faults::{FAULT, REFUSED, fault, file_fault, not_opened, times_fault, usage};
 use crate::now::now_for;
 use crate::opened::{OpenFault, ROOT, hold_closed_streams, open_all};
@@ -16,9 +16,9 @@ use std::random::RandomSource;
 use std::rt::{Clock as MachineClock, Env, Files};
 use std::sync::Wait;
 use std::thread::Threads;
-use tally_cli::{FileArg, Job, Line, LineFault, RunFault, file_word, job_of};
+use tally_cli::{FileArg, Job, Line, LineFault, RunFault, UsageWanted, file_word, job_of};
 use tally_clock::Clock;
-use tally_line::{Times, known_fault};
+use tally_line::{Times, UsageAsked, known_fault};
 use tally_records::Memory;
 
 /// Runs the program, and says how it went.
@@ -48,10 +48,19 @@ where
             Line::Run {
                 job,
                 times,
+                usage,
                 zone,
                 files,
             },
-        ) => report_at(rt, to, &job, &times, zone.as_ref(), files.as_slice()),
+        ) => report_at(
+            rt,
+            to,
+            &job,
+            &times,
+            &usage,
+            zone.as_ref(),
+            files.as_slice(),
+        ),
         Ok(Line::Help { text }) => help(rt, text.as_str()),
         Err(LineFault::Memory) => fault(rt, FAULT, Memory),
         Err(LineFault::Usage { text }) => refused(rt, to, words.as_slice(), text.as_str()),
@@ -108,6 +117,7 @@ fn report_on<R>(
     rt: &R,
     to: ErrorsTo,
     job: &Job,
+    wanted: UsageWanted<'_>,
     keys: RandomState,
     clock: &Clock,
     files: &[FileArg],
@@ -123,10 +133,43 @@ where
         Err(OpenFault::Memory) => return fault(rt, FAULT, Memory),
         Err(OpenFault::NotOpened(path)) => return not_opened(rt, Shown::new(path, to)),
     };
-    run_over(rt, to, job, keys, clock, files, sources)
+    run_over(rt, to, job, wanted, keys, clock, files, sources)
 }
 
-/// Draws the keys, reads the zone and settles the job on its clock, and then reports.
+/// Settles the choice of processes on a clock and reads the names of users, and then reports.
+fn report_wanted<R>(
+    rt: &R,
+    to: ErrorsTo,
+    asked: Asked<'_>,
+    job: &Job,
+    keys: RandomState,
+    clock: &Clock,
+) -> ExitCode
+where
+    R: Files + Input + Print + Eprint + AllocGlobal + RandomSource + Threads + Wait + Sync,
+    R::File: Drop + Send,
+    R::Reader: Send,
+    requires { IsRunnable job.now }
+{
+    let choice = match choice_for(rt, asked, clock) {
+        Ok(choice) => choice,
+        Err(status) => return status,
+    };
+    match names_for(rt, to, asked.usage.names.as_ref()) {
+        Ok(names) => {
+            let wanted = UsageWanted {
+                choice,
+                names: names.as_ref(),
+                by_file: files_by_file(asked),
+            };
+            report_on(rt, to, job, wanted, keys, clock, asked.files)
+        }
+        Err(status) => status,
+    }
+}
+
+/// Draws the keys, reads the zone and settles the job on its clock, and then reports. It stays apart, so that help needs no stack for it.
+#[inline(never)]
 fn report<R>(rt: &R, to: ErrorsTo, asked: Asked<'_>) -> ExitCode
 where
     R: Files + Input + Print + Eprint + AllocGlobal + RandomSource + Threads + Wait + Sync,
@@ -144,7 +187,7 @@ where
         Err(status) => return status,
     };
     match job_for(rt, asked, &clock) {
-        Ok(job) => report_on(rt, to, &job, keys, &clock, asked.files),
+        Ok(job) => report_wanted(rt, to, asked, &job, keys, &clock),
         Err(status) => status,
     }
 }
@@ -170,6 +213,7 @@ fn report_at<R>(
     to: ErrorsTo,
     job: &Job,
     times: &Times,
+    usage: &UsageAsked,
     zone: Option<&String>,
     files: &[FileArg],
 ) -> ExitCode
@@ -198,6 +242,7 @@ where
     let asked = Asked {
         job,
         times,
+        usage,
         now,
         zone,
         files,

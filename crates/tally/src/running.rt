@@ -13,17 +13,19 @@ use std::io;
 use std::process::ExitCode;
 use std::sync::Wait;
 use std::thread::Threads;
-use tally_cli::{FileArg, Job, Source, is_usage_run, run, run_usage};
+use tally_cli::{FileArg, Job, Source, UsageWanted, is_usage_run, run, run_usage};
 use tally_clock::Clock;
 use tally_desk::{Input, OpenGate};
 use tally_print::Writing;
 
-/// Counts the files, and prints the report on their processes. It stays apart, so that its stack is not that of other reports.
+/// Counts the chosen processes of the files, and prints the report on them. It stays apart, so that its stack is not that of
+/// other reports.
 #[inline(never)]
 fn count_files<R, I: Input + Send>(
     rt: &R,
     to: ErrorsTo,
     job: &Job,
+    wanted: UsageWanted<'_>,
     keys: RandomState,
     clock: &Clock,
     files: &[FileArg],
@@ -38,7 +40,7 @@ where
     requires count { length sources.items ≡ length files.now }
 {
     let mut out = Writing::new(Watched::new(io::writer(rt)));
-    match run_usage(rt, rt.alloc(), keys, clock, job, sources, &mut out) {
+    match run_usage(rt, rt.alloc(), keys, clock, job, wanted, sources, &mut out) {
         Ok(()) => ExitCode::SUCCESS,
         Err(found) => usage_fault(rt, to, files, found, out.writer().is_reader_gone()),
     }
@@ -69,11 +71,12 @@ where
     }
 }
 
-/// Runs the job over the files. For a report on processes alone no record is kept.
+/// Runs the job over the files. For a report on processes alone the chosen are counted, and no record is kept.
 pub(crate) fn run_over<R, I: Input + Send>(
     rt: &R,
     to: ErrorsTo,
     job: &Job,
+    wanted: UsageWanted<'_>,
     keys: RandomState,
     clock: &Clock,
     files: &[FileArg],
@@ -86,7 +89,7 @@ where
     requires count { length sources.items ≡ length files.now }
 {
     if is_usage_run(job, sources.as_slice()) {
-        count_files(rt, to, job, keys, clock, files, sources)
+        count_files(rt, to, job, wanted, keys, clock, files, sources)
     } else {
         read_files(rt, to, job, keys, clock, files, sources)
     }

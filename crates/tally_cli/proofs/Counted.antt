@@ -11,6 +11,7 @@ use Rattle.tally_cli.specs.declared.running.counting.Count.{Count}
 use Rattle.tally_cli.specs.declared.running.counting.Count.TheVariants as count
 use Rattle.tally_cli.specs.declared.running.counting.FileCount.{FileCount}
 use Rattle.tally_cli.specs.declared.running.source.Source.{Source}
+use Rattle.tally_usage.specs.declared.choice.ProcChoice.{ProcChoice}
 use Rattle.tally_cli.specs.inside.Counts.{AreAllCounted, AreCounted, AreDealt, AreExplained, CameOf, HasSums, IsFault, IsPlaced, IsUncounted, StopAtFault, count_in, count_of, untried}
 
 -- ---- a list, file by file
@@ -20,9 +21,9 @@ abbrev pub HaveSums : {I : Type 0} → List (FileCount I) → ℕ → Type 0
 HaveSums us at = (k : ℕ) (d : FileCount _) → k < at → HasSums (get_or us k d).count
 
 -- the files were counted up to a place, and those from there on are as they were
-pub record IsCountedTo {I : Type 0} (to_come : I → Option (List ℕ)) (can_fail : I → Bool) (ts us : List (FileCount I)) (at : ℕ) : Type 0 where
+pub record IsCountedTo {I : Type 0} (choice : ProcChoice) (to_come : I → Option (List ℕ)) (can_fail : I → Bool) (ts us : List (FileCount I)) (at : ℕ) : Type 0 where
   pub length_is : length us ≡ length ts
-  pub came : (k : ℕ) (d : FileCount I) → k < at → CameOf to_come can_fail (get_or ts k d).source (get_or us k d).count
+  pub came : (k : ℕ) (d : FileCount I) → k < at → CameOf choice to_come can_fail (get_or ts k d).source (get_or us k d).count
   pub left : (k : ℕ) (d : FileCount I) → at ≤ k → get_or us k d ≡ get_or ts k d
 
 sums_not_fault : (c : Count) → HasSums c → IsFault c → ⊥
@@ -37,11 +38,11 @@ fault_tried : (c : Count) → IsFault c → c ≡ count.Untried → ⊥
 fault_tried c fault is = subst IsFault is fault
 
 -- nothing is said of a file that was not tried
-came_untried : {I : Type 0} (to_come : I → Option (List ℕ)) (can_fail : I → Bool) (source : Source I) (c : Count) → c ≡ count.Untried → CameOf to_come can_fail source c
-came_untried to_come can_fail source c is = subst (CameOf to_come can_fail source) (sym is) tt
+came_untried : {I : Type 0} (choice : ProcChoice) (to_come : I → Option (List ℕ)) (can_fail : I → Bool) (source : Source I) (c : Count) → c ≡ count.Untried → CameOf choice to_come can_fail source c
+came_untried choice to_come can_fail source c is = subst (CameOf choice to_come can_fail source) (sym is) tt
 
-module _ {I : Type 0} (to_come : I → Option (List ℕ)) (can_fail : I → Bool) (ts us : List (FileCount I)) (at : ℕ) (x u : FileCount I) (near : at < length ts) (is : x ≡ get_or us at x)
-    (before : IsCountedTo to_come can_fail ts us at) (came : CameOf to_come can_fail x.source u.count) where
+module _ {I : Type 0} (choice : ProcChoice) (to_come : I → Option (List ℕ)) (can_fail : I → Bool) (ts us : List (FileCount I)) (at : ℕ) (x u : FileCount I) (near : at < length ts) (is : x ≡ get_or us at x)
+    (before : IsCountedTo choice to_come can_fail ts us at) (came : CameOf choice to_come can_fail x.source u.count) where
   in_us : at < length us
   in_us = omega (arith, near, before.length_is)
 
@@ -51,14 +52,14 @@ module _ {I : Type 0} (to_come : I → Option (List ℕ)) (can_fail : I → Bool
   here : (d : FileCount I) → get_or (set us at u) at d ≡ u
   here d = get_or-set_same us at u d in_us
 
-  pub counted_more : IsCountedTo to_come can_fail ts (set us at u) (at + 1)
+  pub counted_more : IsCountedTo choice to_come can_fail ts (set us at u) (at + 1)
   counted_more = record {
     length_is = length-set us at u ∙ before.length_is;
     came = λ k d l. ⊎_elim
         (λ (same : k ≡ at).
-        subst (λ n. CameOf to_come can_fail (get_or ts n d).source (get_or (set us at u) n d).count) (sym same)
-        (subst (λ (f : FileCount I). CameOf to_come can_fail (get_or ts at d).source f.count) (sym (here d)) (subst (λ (f : FileCount I). CameOf to_come can_fail f.source u.count) (own d) came)))
-        (λ (apart : k ≢ at). subst (λ (f : FileCount I). CameOf to_come can_fail (get_or ts k d).source f.count) (sym (get_or-set_other us at k u d apart)) (before.came k d (omega (arith, l, apart))))
+        subst (λ n. CameOf choice to_come can_fail (get_or ts n d).source (get_or (set us at u) n d).count) (sym same)
+        (subst (λ (f : FileCount I). CameOf choice to_come can_fail (get_or ts at d).source f.count) (sym (here d)) (subst (λ (f : FileCount I). CameOf choice to_come can_fail f.source u.count) (own d) came)))
+        (λ (apart : k ≢ at). subst (λ (f : FileCount I). CameOf choice to_come can_fail (get_or ts k d).source f.count) (sym (get_or-set_other us at k u d apart)) (before.came k d (omega (arith, l, apart))))
         (cases_eq k at);
     left = λ k d l. get_or-set_other us at k u d (λ (same : k ≡ at). omega (arith, same, l)) ∙ before.left k d (omega (arith, l));
   }
@@ -69,15 +70,15 @@ module _ {I : Type 0} (to_come : I → Option (List ℕ)) (can_fail : I → Bool
       (λ (apart : k ≢ at). subst (λ (f : FileCount I). HasSums f.count) (sym (get_or-set_other us at k u d apart)) (all k d (omega (arith, l, apart))))
       (cases_eq k at)
 
-module _ {I : Type 0} (to_come : I → Option (List ℕ)) (can_fail : I → Bool) (failures : I → ℕ) (ts us : List (FileCount I)) (at : ℕ) (uncounted : All (IsUncounted failures) ts) (to : IsCountedTo to_come can_fail ts us at) where
-  came_each : (k : ℕ) (d : FileCount I) → k < length ts → CameOf to_come can_fail (get_or ts k d).source (get_or us k d).count
+module _ {I : Type 0} (choice : ProcChoice) (to_come : I → Option (List ℕ)) (can_fail : I → Bool) (failures : I → ℕ) (ts us : List (FileCount I)) (at : ℕ) (uncounted : All (IsUncounted failures) ts) (to : IsCountedTo choice to_come can_fail ts us at) where
+  came_each : (k : ℕ) (d : FileCount I) → k < length ts → CameOf choice to_come can_fail (get_or ts k d).source (get_or us k d).count
   came_each k d l = ⊎_elim
       (λ (first : k < at). to.came k d first)
-      (λ (rest : at ≤ k). came_untried to_come can_fail (get_or ts k d).source (get_or us k d).count (ap (λ (f : FileCount I). f.count) (to.left k d rest) ∙ (uncounted k d l).untried))
+      (λ (rest : at ≤ k). came_untried choice to_come can_fail (get_or ts k d).source (get_or us k d).count (ap (λ (f : FileCount I). f.count) (to.left k d rest) ∙ (uncounted k d l).untried))
       (cases_lt k at)
 
   -- all files were counted to their end
-  pub counted_all : length ts ≤ at → HaveSums us at → AreCounted to_come can_fail ts us
+  pub counted_all : length ts ≤ at → HaveSums us at → AreCounted choice to_come can_fail ts us
   counted_all all sums = record {
     length_is = to.length_is;
     each = came_each;
@@ -85,13 +86,13 @@ module _ {I : Type 0} (to_come : I → Option (List ℕ)) (can_fail : I → Bool
   }
 
 -- the last file that was counted has a fault
-pub counted_part : {I : Type 0} (to_come : I → Option (List ℕ)) (can_fail : I → Bool) (failures : I → ℕ) (ts us : List (FileCount I)) (at : ℕ) (u : FileCount I) → All (IsUncounted failures) ts → at < length ts → length us ≡ length ts
-    → IsCountedTo to_come can_fail ts (set us at u) (at + 1) → HaveSums us at → IsFault u.count → AreCounted to_come can_fail ts (set us at u)
-counted_part {I} to_come can_fail failures ts us at u uncounted near count to sums fault =
+pub counted_part : {I : Type 0} (choice : ProcChoice) (to_come : I → Option (List ℕ)) (can_fail : I → Bool) (failures : I → ℕ) (ts us : List (FileCount I)) (at : ℕ) (u : FileCount I) → All (IsUncounted failures) ts → at < length ts → length us ≡ length ts
+    → IsCountedTo choice to_come can_fail ts (set us at u) (at + 1) → HaveSums us at → IsFault u.count → AreCounted choice to_come can_fail ts (set us at u)
+counted_part {I} choice to_come can_fail failures ts us at u uncounted near count to sums fault =
     let here : (d : FileCount I) → get_or (set us at u) at d ≡ u = λ d. get_or-set_same us at u d (omega (arith, near, count)) in
     record {
       length_is = to.length_is;
-      each = came_each to_come can_fail failures ts (set us at u) (at + 1) uncounted to;
+      each = came_each choice to_come can_fail failures ts (set us at u) (at + 1) uncounted to;
       stops = λ k d l e. ⊎_elim
           (λ (first : k < at). absurd (sums_tried _ (subst (λ (f : FileCount I). HasSums f.count) (sym (get_or-set_other us at k u d (λ (same : k ≡ at). omega (arith, same, first)))) (sums k d first)) e))
           (λ (other : at ≤ k). ⊎_elim
@@ -106,9 +107,9 @@ pub stops_never : {I : Type 0} (us : List (FileCount I)) (at : ℕ) → length u
 stops_never us at all sums j k d l m fault = absurd (sums_not_fault _ (sums j d (omega (arith, l, m, all))) fault)
 
 -- and those after the last that was counted were not tried
-pub stops_there : {I : Type 0} (to_come : I → Option (List ℕ)) (can_fail : I → Bool) (failures : I → ℕ) (ts us : List (FileCount I)) (at : ℕ) (u : FileCount I) → All (IsUncounted failures) ts
-    → IsCountedTo to_come can_fail ts (set us at u) (at + 1) → HaveSums us at → StopAtFault (set us at u)
-stops_there to_come can_fail failures ts us at u uncounted to sums j k d l m fault = ⊎_elim
+pub stops_there : {I : Type 0} (choice : ProcChoice) (to_come : I → Option (List ℕ)) (can_fail : I → Bool) (failures : I → ℕ) (ts us : List (FileCount I)) (at : ℕ) (u : FileCount I) → All (IsUncounted failures) ts
+    → IsCountedTo choice to_come can_fail ts (set us at u) (at + 1) → HaveSums us at → StopAtFault (set us at u)
+stops_there choice to_come can_fail failures ts us at u uncounted to sums j k d l m fault = ⊎_elim
     (λ (first : j < at). absurd (sums_not_fault _ (subst (λ (f : FileCount _). HasSums f.count) (sym (get_or-set_other us at j u d (λ (same : j ≡ at). omega (arith, same, first)))) (sums j d first)) fault))
     (λ (other : at ≤ j). ap (λ (f : FileCount _). f.count) (to.left k d (omega (arith, l, other))) ∙ (uncounted k d (omega (arith, m, to.length_is))).untried)
     (cases_lt j at)
@@ -116,12 +117,12 @@ stops_there to_come can_fail failures ts us at u uncounted to sums j k d l m fau
 -- ---- all lists
 
 -- what the counts of sources came to, by the number of each
-pub record CameEach {I : Type 0} (to_come : I → Option (List ℕ)) (can_fail : I → Bool) (sources : List (Source I)) (at : ℕ → Count) : Type 0 where
-  pub each : (k : ℕ) (s : Source I) → k < length sources → CameOf to_come can_fail (get_or sources k s) (at k)
+pub record CameEach {I : Type 0} (choice : ProcChoice) (to_come : I → Option (List ℕ)) (can_fail : I → Bool) (sources : List (Source I)) (at : ℕ → Count) : Type 0 where
+  pub each : (k : ℕ) (s : Source I) → k < length sources → CameOf choice to_come can_fail (get_or sources k s) (at k)
   pub explained : AreExplained (length sources) at
 
-module _ {I V : Type 0} (to_come : I → Option (List ℕ)) (can_fail : I → Bool) (sources : List (Source I)) (n : ℕ) (some : 0 < n) (files : V → List (FileCount I)) (vs us : List V) (width : length vs ≡ n)
-    (dealt : AreDealt n sources (map files vs)) (counted : AreAllCounted to_come can_fail files vs us) where
+module _ {I V : Type 0} (choice : ProcChoice) (to_come : I → Option (List ℕ)) (can_fail : I → Bool) (sources : List (Source I)) (n : ℕ) (some : 0 < n) (files : V → List (FileCount I)) (vs us : List V) (width : length vs ≡ n)
+    (dealt : AreDealt n sources (map files vs)) (counted : AreAllCounted choice to_come can_fail files vs us) where
   abbrev pub old : List (List (FileCount I))
   old = map files vs
 
@@ -138,11 +139,11 @@ module _ {I V : Type 0} (to_come : I → Option (List ℕ)) (can_fail : I → Bo
       first [] k l = absurd (omega (arith, l))
       first (x ∷ xs) k l = x
 
-  row : (w : ℕ) → w < length vs → AreCounted to_come can_fail (get_or old w []) (get_or new w [])
+  row : (w : ℕ) → w < length vs → AreCounted choice to_come can_fail (get_or old w []) (get_or new w [])
   row w l =
       let d = some_of w l in
-      subst (λ ts. AreCounted to_come can_fail ts (get_or new w [])) (sym (get_or-map files vs w d [] l))
-      (subst (λ ts. AreCounted to_come can_fail (files (get_or vs w d)) ts) (sym (get_or-map files us w d [] (omega (arith, l, counted.length_is)))) (counted.each w d l))
+      subst (λ ts. AreCounted choice to_come can_fail ts (get_or new w [])) (sym (get_or-map files vs w d [] l))
+      (subst (λ ts. AreCounted choice to_come can_fail (files (get_or vs w d)) ts) (sym (get_or-map files us w d [] (omega (arith, l, counted.length_is)))) (counted.each w d l))
 
   module _ (k : ℕ) (s : Source I) (l : k < length sources) where
     abbrev file : FileCount I
@@ -160,10 +161,10 @@ module _ {I V : Type 0} (to_come : I → Option (List ℕ)) (can_fail : I → Bo
     count_is : count_in n new k ≡ (get_or (get_or new (k % n) []) (k / n) file).count
     count_is = ap count_of (slice_get-get_or (get_or new (k % n) []) (k / n) file within_new)
 
-    came : CameOf to_come can_fail (get_or sources k s) (count_in n new k)
+    came : CameOf choice to_come can_fail (get_or sources k s) (count_in n new k)
     came =
-        subst (CameOf to_come can_fail (get_or sources k s)) (sym count_is)
-        (subst (λ (f : FileCount I). CameOf to_come can_fail f.source (get_or (get_or new (k % n) []) (k / n) file).count) old_is ((row (k % n) (turn k)).each (k / n) file within))
+        subst (CameOf choice to_come can_fail (get_or sources k s)) (sym count_is)
+        (subst (λ (f : FileCount I). CameOf choice to_come can_fail f.source (get_or (get_or new (k % n) []) (k / n) file).count) old_is ((row (k % n) (turn k)).each (k / n) file within))
 
     stopped : count_in n new k ≡ count.Untried → (j : ℕ) × (j < k) × IsFault (count_in n new j)
     stopped e =
@@ -190,7 +191,7 @@ module _ {I V : Type 0} (to_come : I → Option (List ℕ)) (can_fail : I → Bo
   source_of [] k l = absurd (omega (arith, l))
   source_of (x ∷ ss) k l = x
 
-  pub came_all : CameEach to_come can_fail sources (count_in n new)
+  pub came_all : CameEach choice to_come can_fail sources (count_in n new)
   came_all = record { each = came; explained = λ k l e. stopped k (source_of sources k l) l e }
 
   pub placed_all : (k : ℕ) → k < length sources → IsPlaced n new k

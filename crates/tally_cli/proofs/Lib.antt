@@ -13,6 +13,7 @@ pub mod Limits
 pub mod Lists
 pub mod Numbered
 pub mod Outcomes
+pub mod Parts
 pub mod Posted
 pub mod Reported
 pub mod Shares

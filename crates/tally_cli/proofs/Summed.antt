@@ -1,8 +1,9 @@
 -- Sums of files that are joined.
-use Rattle.std.proofs.Common.{◌≡◌, ◌∙◌, ◌++◌, ◌≤◌, ◌<◌, ◌+◌, ◌⊎◌, inl, inr, ℕ, Bool, List, [], ◌∷◌, Option, Some, map, take, length, get_or, ap, sym, subst, refl, arith, append-nil, length-append}
+use Rattle.std.proofs.Common.{◌≡◌, ◌∙◌, ◌++◌, ◌≤◌, ◌<◌, ◌+◌, ◌⊎◌, inl, inr, ℕ, Bool, true, false, List, [], ◌∷◌, Option, Some, map, take, length, get_or, ap, sym, subst, refl, arith, append-nil, length-append}
 use Rattle.std.proofs.lemmas.Bool.{cases_lt}
 use Rattle.std.proofs.lemmas.Grind.{flat_map-append}
 use Rattle.std.proofs.lemmas.List.{get_or-map, length-map, map-append, take-map, take_all, take_more}
+use Rattle.std.proofs.lemmas.List.Elements.{filter-append}
 use Rattle.std.proofs.lemmas.List.Folds.{flat_map-map}
 use Rattle.std.proofs.lemmas.List.Sums.{sum_by-cons}
 use Rattle.std.specs.List.{All, enumerate_from, flat_map}
@@ -11,14 +12,17 @@ use Rattle.tally_desk.specs.declared.fault.CountFault.{CountFault}
 use Rattle.tally_records.specs.Records.{Records, procs_in}
 use Rattle.tally_records.specs.declared.batch.Kind.TheVariants.{Proc}
 use Rattle.tally_records.specs.declared.process.ProcRecord.{ProcRecord}
+use Rattle.tally_usage.specs.Choice.{chosen, is_chosen}
 use Rattle.tally_usage.specs.Summary.{entries_of}
 use Rattle.tally_usage.specs.Sums.{AreSumsOf, Counted}
 use Rattle.tally_usage.specs.Totals.{records_of}
+use Rattle.tally_usage.specs.declared.choice.ProcChoice.{ProcChoice}
 use Rattle.tally_usage.specs.declared.entry.ProcEntry.{ProcEntry}
 use Rattle.tally_usage.specs.declared.usage.TheConstants.{SUMS_LIMIT}
 use Rattle.tally_usage.proofs.SumsLemmas.{count_is}
 use Rattle.tally_cli.specs.Output.{proc_entries}
 use Rattle.tally_cli.specs.Runs.{Tell, Told, records_told}
+use Rattle.tally_cli.specs.UsageOutput.{chosen_entries}
 use Rattle.tally_cli.specs.Usages.{IsCountable, IsOfProcs, count_told, procs_told}
 use Rattle.tally_cli.specs.declared.fault.UsageFault.{UsageFault}
 use Rattle.tally_cli.specs.declared.fault.UsageFault.TheVariants.{Callers, File, Full, Memory, Write}
@@ -43,22 +47,43 @@ numbered_records n (f ∷ fs) =
     ∙ ap (λ l. procs_in f ++ l) (numbered_records (n + 1) fs)
 
 -- the records of the files' entries, in order
-records_of-entries : (inputs : List Told) → records_of (proc_entries (map records_told inputs)) ≡ flat_map procs_told inputs
+records_of-entries : (inputs : List Told) → records_of (proc_entries (map records_told inputs)) ≡ flat_map (λ (i : Told). procs_in (records_told i)) inputs
 records_of-entries inputs = numbered_records 0 (map records_told inputs) ∙ flat_map-map procs_in records_told inputs
 
--- the sums are those of the records of the files' entries
-pub entry_sums : (inputs : List Told) (s : Counted) → AreSummed inputs s → AreSumsOf s (records_of (proc_entries (map records_told inputs)))
-entry_sums inputs s summed = subst (AreSumsOf s) (sym (records_of-entries inputs)) summed.sums
+-- the records of chosen entries are the chosen records
+records_of-chosen : (choice : ProcChoice) (entries : List ProcEntry) → records_of (chosen_entries choice entries) ≡ chosen choice (records_of entries)
+records_of-chosen choice [] = refl
+records_of-chosen choice (e ∷ es) = by (is_chosen choice e.item) refl (records_of-chosen choice es)
+  where
+    by : (b : Bool) → is_chosen choice e.item ≡ b → records_of (chosen_entries choice es) ≡ chosen choice (records_of es)
+        → records_of (chosen_entries choice (e ∷ es)) ≡ chosen choice (e.item ∷ records_of es)
+    by true is rest = rw is (ap (λ l. e.item ∷ l) rest)
+    by false is rest = rw is rest
 
-count_flat : (inputs : List Told) → length (flat_map procs_told inputs) ≡ count_told inputs
-count_flat [] = refl
-count_flat (i ∷ is) =
-    length-append (procs_told i) (flat_map procs_told is) ∙ ap (λ n. length (procs_told i) + n) (count_flat is)
-    ∙ sym (sum_by-cons (λ (input : Told). length (procs_told input)) i is)
+-- those of all inputs are those of each
+chosen_flat : (choice : ProcChoice) (inputs : List Told) → chosen choice (flat_map (λ (i : Told). procs_in (records_told i)) inputs) ≡ flat_map (procs_told choice) inputs
+chosen_flat choice [] = refl
+chosen_flat choice (i ∷ is) =
+    filter-append (is_chosen choice) (procs_in (records_told i)) (flat_map (λ (i : Told). procs_in (records_told i)) is)
+    ∙ ap (λ l. procs_told choice i ++ l) (chosen_flat choice is)
 
--- the inputs have no more records than are counted
-pub few_told : (inputs : List Told) (s : Counted) → AreSummed inputs s → count_told inputs ≤ SUMS_LIMIT
-few_told inputs s summed = omega (arith, summed.sums.few, count_flat inputs)
+-- the records of the files' chosen entries, in order
+pub chosen_records : (choice : ProcChoice) (inputs : List Told) → records_of (chosen_entries choice (proc_entries (map records_told inputs))) ≡ flat_map (procs_told choice) inputs
+chosen_records choice inputs = records_of-chosen choice (proc_entries (map records_told inputs)) ∙ ap (chosen choice) (records_of-entries inputs) ∙ chosen_flat choice inputs
+
+-- the sums are those of these records
+pub entry_sums : (choice : ProcChoice) (inputs : List Told) (s : Counted) → AreSummed choice inputs s → AreSumsOf s (records_of (chosen_entries choice (proc_entries (map records_told inputs))))
+entry_sums choice inputs s summed = subst (AreSumsOf s) (sym (chosen_records choice inputs)) summed.sums
+
+count_flat : (choice : ProcChoice) (inputs : List Told) → length (flat_map (procs_told choice) inputs) ≡ count_told choice inputs
+count_flat choice [] = refl
+count_flat choice (i ∷ is) =
+    length-append (procs_told choice i) (flat_map (procs_told choice) is) ∙ ap (λ n. length (procs_told choice i) + n) (count_flat choice is)
+    ∙ sym (sum_by-cons (λ (input : Told). length (procs_told choice input)) i is)
+
+-- the inputs have no more chosen records than are counted
+pub few_told : (choice : ProcChoice) (inputs : List Told) (s : Counted) → AreSummed choice inputs s → count_told choice inputs ≤ SUMS_LIMIT
+few_told choice inputs s summed = omega (arith, summed.sums.few, count_flat choice inputs)
 
 -- ---- one count more
 
@@ -81,7 +106,7 @@ tried files at host explained near all = elim (sums_or_fault (at host)) [
       absurd (fault_or_sums (at earlier.0) (all earlier.0 earlier.1) earlier.2)
 ]
 
-has_sums : (c : Count) (old new : Counted) → Joins c old new → HasSums c
+pub has_sums : (c : Count) (old new : Counted) → Joins c old new → HasSums c
 has_sums count.Untried old new joins = absurd joins
 has_sums (count.Sums sums) old new joins = tt
 has_sums (count.Fault found) old new joins = absurd joins
@@ -159,25 +184,25 @@ end_joined files at total host end all sums = record {
 
 -- ---- in the words of the inputs
 
-counted_good : {I : Type 0} (to_come : I → Option (List ℕ)) (can_fail : I → Bool) (source : Source I) (c : Count) (input : Told) → HasSums c → CameOf to_come can_fail source c → to_come source.input ≡ Some input.bytes → input.kind ≡ Proc
+counted_good : {I : Type 0} (choice : ProcChoice) (to_come : I → Option (List ℕ)) (can_fail : I → Bool) (source : Source I) (c : Count) (input : Told) → HasSums c → CameOf choice to_come can_fail source c → to_come source.input ≡ Some input.bytes → input.kind ≡ Proc
     → IsCountable input
-counted_good to_come can_fail source count.Untried input has came told kind = absurd has
-counted_good to_come can_fail source (count.Sums sums) input has came told kind = (came input.bytes told).no_fault
-counted_good to_come can_fail source (count.Fault found) input has came told kind = absurd has
+counted_good choice to_come can_fail source count.Untried input has came told kind = absurd has
+counted_good choice to_come can_fail source (count.Sums sums) input has came told kind = (came input.bytes told).no_fault
+counted_good choice to_come can_fail source (count.Fault found) input has came told kind = absurd has
 
-counted_sums : {I : Type 0} (to_come : I → Option (List ℕ)) (can_fail : I → Bool) (source : Source I) (c : Count) (input : Told) → CameOf to_come can_fail source c → to_come source.input ≡ Some input.bytes → input.kind ≡ Proc
-    → AreSumsIn c (procs_told input)
-counted_sums to_come can_fail source count.Untried input came told kind = tt
-counted_sums to_come can_fail source (count.Sums sums) input came told kind = subst (λ k. AreSumsOf sums (procs_in (records_in k input.bytes))) (sym kind) (came input.bytes told).sums
-counted_sums to_come can_fail source (count.Fault found) input came told kind = tt
+counted_sums : {I : Type 0} (choice : ProcChoice) (to_come : I → Option (List ℕ)) (can_fail : I → Bool) (source : Source I) (c : Count) (input : Told) → CameOf choice to_come can_fail source c → to_come source.input ≡ Some input.bytes → input.kind ≡ Proc
+    → AreSumsIn c (procs_told choice input)
+counted_sums choice to_come can_fail source count.Untried input came told kind = tt
+counted_sums choice to_come can_fail source (count.Sums sums) input came told kind = subst (λ k. AreSumsOf sums (chosen choice (procs_in (records_in k input.bytes)))) (sym kind) (came input.bytes told).sums
+counted_sums choice to_come can_fail source (count.Fault found) input came told kind = tt
 
 some_of : {X : Type 0} (xs : List X) (k : ℕ) → k < length xs → X
 some_of [] k l = absurd (omega (arith, l))
 some_of (x ∷ xs) k l = x
 
-module _ {I : Type 0} (to_come : I → Option (List ℕ)) (can_fail : I → Bool) (sources : List (Source I)) (at : ℕ → Count) (came : CameEach to_come can_fail sources at) where
-  own_fault : (host : ℕ) (s : Source I) (found : CountFault) → host < length sources → at host ≡ count.Fault found → CameOf to_come can_fail (get_or sources host s) (count.Fault found)
-  own_fault host s found near is = subst (CameOf to_come can_fail (get_or sources host s)) is (came.each host s near)
+module _ {I : Type 0} (choice : ProcChoice) (to_come : I → Option (List ℕ)) (can_fail : I → Bool) (sources : List (Source I)) (at : ℕ → Count) (came : CameEach choice to_come can_fail sources at) where
+  own_fault : (host : ℕ) (s : Source I) (found : CountFault) → host < length sources → at host ≡ count.Fault found → CameOf choice to_come can_fail (get_or sources host s) (count.Fault found)
+  own_fault host s found near is = subst (CameOf choice to_come can_fail (get_or sources host s)) is (came.each host s near)
 
   pub count_refusal : (f : UsageFault) → IsJoinFault (length sources) at f → IsCountRefusal can_fail sources f
   count_refusal Memory found = tt
@@ -195,38 +220,38 @@ module _ {I : Type 0} (to_come : I → Option (List ℕ)) (can_fail : I → Bool
     good_at : (k : ℕ) (i : Told) → k < length sources → HasSums (at k) → IsCountable (get_or inputs k i)
     good_at k i l has =
         let s = some_of sources k l in
-        counted_good to_come can_fail (get_or sources k s) (at k) (get_or inputs k i) has (came.each k s l) (tell.1 k s i l).bytes (kind_at k i l)
+        counted_good choice to_come can_fail (get_or sources k s) (at k) (get_or inputs k i) has (came.each k s l) (tell.1 k s i l).bytes (kind_at k i l)
 
     abbrev parts : List (List ProcRecord)
-    parts = map procs_told inputs
+    parts = map (procs_told choice) inputs
 
-    each_part : AreSumsInEach (length sources) at parts
+    pub each_part : AreSumsInEach (length sources) at parts
     each_part = record {
-      length_is = length-map inputs procs_told ∙ tell.0;
+      length_is = length-map inputs (procs_told choice) ∙ tell.0;
       each = λ k l.
           let there : k < length inputs = omega (arith, l, tell.0) in
           let i = some_of inputs k there in
           let s = some_of sources k l in
-          subst (AreSumsIn (at k)) (sym (get_or-map procs_told inputs k i [] there))
-          (counted_sums to_come can_fail (get_or sources k s) (at k) (get_or inputs k i) (came.each k s l) (tell.1 k s i l).bytes (kind_at k i l));
+          subst (AreSumsIn (at k)) (sym (get_or-map (procs_told choice) inputs k i [] there))
+          (counted_sums choice to_come can_fail (get_or sources k s) (at k) (get_or inputs k i) (came.each k s l) (tell.1 k s i l).bytes (kind_at k i l));
     }
 
-    first_told : (n : ℕ) → first_parts n parts ≡ flat_map procs_told (take n inputs)
-    first_told n = ap (flat_map (λ (p : List ProcRecord). p)) (take-map procs_told n inputs) ∙ flat_map-map (λ (p : List ProcRecord). p) procs_told (take n inputs)
+    first_told : (n : ℕ) → first_parts n parts ≡ flat_map (procs_told choice) (take n inputs)
+    first_told n = ap (flat_map (λ (p : List ProcRecord). p)) (take-map (procs_told choice) n inputs) ∙ flat_map-map (λ (p : List ProcRecord). p) (procs_told choice) (take n inputs)
 
-    first_count : (n : ℕ) → length (first_parts n parts) ≡ count_told (take n inputs)
-    first_count n = ap length (first_told n) ∙ count_flat (take n inputs)
+    first_count : (n : ℕ) → length (first_parts n parts) ≡ count_told choice (take n inputs)
+    first_count n = ap length (first_told n) ∙ count_flat choice (take n inputs)
 
     -- all counts, joined
-    pub summed : (s : Counted) → AreJoined (length sources) at s → AreSummed inputs s
+    pub summed : (s : Counted) → AreJoined (length sources) at s → AreSummed choice inputs s
     summed s joined = record {
       good = λ k i l.
           let here : k < length sources = omega (arith, l, tell.0) in
           good_at k i here (joined.all k here);
-      sums = subst (AreSumsOf s) (first_told (length sources) ∙ ap (flat_map procs_told) (take_all (length sources) inputs (omega (arith, tell.0)))) (joined.sums parts each_part);
+      sums = subst (AreSumsOf s) (first_told (length sources) ∙ ap (flat_map (procs_told choice)) (take_all (length sources) inputs (omega (arith, tell.0)))) (joined.sums parts each_part);
     }
 
-    pub count_cause : (f : UsageFault) → IsJoinFault (length sources) at f → IsCountCause inputs f
+    pub count_cause : (f : UsageFault) → IsJoinFault (length sources) at f → IsCountCause choice inputs f
     count_cause Memory found = tt
     count_cause (Callers callers) found = absurd found
     count_cause (File host f) found = record {

@@ -8,8 +8,10 @@ use Rattle.tally_print.specs.Output.{AppendsPrefix, OutputNow, Prints, failed_ca
 use Rattle.tally_print.specs.declared.output.PrintFault.{PrintFault}
 use Rattle.tally_print.specs.declared.output.PrintFault.TheVariants as print
 use Rattle.tally_line.specs.declared.job.Job.{Job}
+use Rattle.tally_usage.specs.declared.choice.ProcChoice.{ProcChoice}
+use Rattle.tally_cli.specs.UsageOutput.{Wanted, usage_printed}
 use Rattle.tally_cli.specs.declared.running.source.Source.{Source}
-use Rattle.tally_cli.specs.Runs.{Tell, Told, output_told}
+use Rattle.tally_cli.specs.Runs.{Tell, Told}
 use Rattle.tally_cli.specs.Usages.{IsCountable, IsFailedUsage, IsNamedFile, IsRefusalAllowed, IsUnwrittenYet, IsUsageCause, unwritten_calls, usage_fault_from}
 use Rattle.tally_cli.specs.declared.fault.UsageFault.{UsageFault}
 use Rattle.tally_cli.specs.declared.fault.UsageFault.TheVariants.{Callers, File, Full, Memory, Write}
@@ -29,12 +31,12 @@ prints_from {old} {new} {text} e r is printed = subst (λ (x : Result (Unit {0})
 })
 
 -- what a fault of the counting shows, where nothing was written
-cause_of : (inputs : List Told) (now : OutputNow) (found : UsageFault) → IsCountCause inputs found → IsUsageCause inputs now now found
-cause_of inputs now Memory cause = inl (λ told. refl)
-cause_of inputs now (Callers callers) cause = tt
-cause_of inputs now (File host found) cause = cause
-cause_of inputs now (Full host) cause = cause
-cause_of inputs now Write cause = absurd cause
+cause_of : (choice : ProcChoice) (inputs : List Told) (now : OutputNow) (found : UsageFault) → IsCountCause choice inputs found → IsUsageCause choice inputs now now found
+cause_of choice inputs now Memory cause = inl (λ told. refl)
+cause_of choice inputs now (Callers callers) cause = tt
+cause_of choice inputs now (File host found) cause = cause
+cause_of choice inputs now (Full host) cause = cause
+cause_of choice inputs now Write cause = absurd cause
 
 unwritten : (now : OutputNow) (found : UsageFault) → IsUnwrittenYet now now found
 unwritten now Memory = tt
@@ -44,25 +46,25 @@ unwritten now (Full host) = λ told. refl
 unwritten now Write = tt
 
 -- a run that failed before it wrote
-pub failed_counting : {I : Type 0} {to_come : I → Option (List ℕ)} {can_fail : I → Bool} {clock : ClockRows} {job : Job} {sources : List (Source I)} {now : OutputNow} {found : UsageFault}
+pub failed_counting : {I : Type 0} {to_come : I → Option (List ℕ)} {can_fail : I → Bool} {clock : ClockRows} {job : Job} {wanted : Wanted} {sources : List (Source I)} {now : OutputNow} {found : UsageFault}
     → IsRefusalAllowed (length sources + job.askers) found → IsNamedFile (length sources) found
     → ((host : ℕ) → found ≡ File host count.Read → (s : Source I) → can_fail (slice_index_or sources host s).input ≡ true)
-    → ((inputs : List Told) → Tell to_come sources inputs → IsCountCause inputs found) → IsFailedUsage to_come can_fail clock job sources now now found
-failed_counting {clock = clock} {job = job} {now = now} {found = found} allowed named read cause = record {
+    → ((inputs : List Told) → Tell to_come sources inputs → IsCountCause wanted.choice inputs found) → IsFailedUsage to_come can_fail clock job wanted sources now now found
+failed_counting {clock = clock} {job = job} {wanted = wanted} {now = now} {found = found} allowed named read cause = record {
   allowed = allowed;
   named = named;
   read = read;
   unwritten = unwritten now found;
   told = λ inputs tell. record {
-    cause = cause_of inputs now found (cause inputs tell);
-    prefix = λ told. record { front = []; rest = output_told clock job inputs; appended = sym (append-nil now.written); whole = refl };
+    cause = cause_of wanted.choice inputs now found (cause inputs tell);
+    prefix = λ told. record { front = []; rest = usage_printed clock job wanted inputs; appended = sym (append-nil now.written); whole = refl };
   };
 }
 
 -- a run that failed in printing, of files that are good
-pub failed_showing : {I : Type 0} {to_come : I → Option (List ℕ)} {can_fail : I → Bool} {clock : ClockRows} {job : Job} {sources : List (Source I)} {old new : OutputNow} (found : UsageFault)
-    → IsPrinting found → ((inputs : List Told) → Tell to_come sources inputs → All IsCountable inputs × (IsTrue old.tells → AppendsPrefix old.written new.written (output_told clock job inputs)))
-    → IsFailedUsage to_come can_fail clock job sources old new found
+pub failed_showing : {I : Type 0} {to_come : I → Option (List ℕ)} {can_fail : I → Bool} {clock : ClockRows} {job : Job} {wanted : Wanted} {sources : List (Source I)} {old new : OutputNow} (found : UsageFault)
+    → IsPrinting found → ((inputs : List Told) → Tell to_come sources inputs → All IsCountable inputs × (IsTrue old.tells → AppendsPrefix old.written new.written (usage_printed clock job wanted inputs)))
+    → IsFailedUsage to_come can_fail clock job wanted sources old new found
 failed_showing Memory printing told = record {
   allowed = tt;
   named = tt;

@@ -4,6 +4,7 @@ use Rattle.tally_desk.specs.declared.fault.CountFault.TheVariants as count
 use Rattle.tally_desk.specs.Batches.{records_in}
 use Rattle.tally_print.specs.declared.output.PrintFault.TheVariants as print
 use Rattle.tally_records.specs.declared.batch.Kind.TheVariants.{Proc}
+use Rattle.tally_usage.specs.Choice.{every_proc}
 use Rattle.tally_usage.specs.declared.usage.TheConstants.{SUMS_LIMIT}
 use Rattle.tally_cli.specs.Runs.{Told}
 use Rattle.tally_cli.specs.Usages.{callers_refused, count_told, unwritten_calls, usage_fault_from}
@@ -26,7 +27,7 @@ abbrev file : List ℕ → Told
 file bytes = record { kind = Proc; bytes = bytes }
 
 -- two records, none, and one
-counted : count_told (file (nothing ++ nothing) ∷ file [] ∷ file nothing ∷ []) ≡ 3
+counted : count_told every_proc (file (nothing ++ nothing) ∷ file [] ∷ file nothing ∷ []) ≡ 3
 unfolding records_in
 counted = refl
 

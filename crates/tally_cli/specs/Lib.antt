@@ -1,4 +1,5 @@
 pub mod Output
 pub mod Runs
+pub mod UsageOutput
 pub mod Usages
 pub mod inside

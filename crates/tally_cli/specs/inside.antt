@@ -3,5 +3,6 @@ pub mod Asked
 pub mod Counts
 pub mod Deals
 pub mod Failures
+pub mod Parts
 pub mod RunSteps
 pub mod Tasks

@@ -71,7 +71,7 @@ pub enum UsageFault {
     /// The source of this number, counted from 0, was not counted to its end.
     #[error("file {host}: {fault}")]
     File { host: u32, fault: CountFault },
-    /// The records of the source of this number, counted from 0, and of those before it are more than 268,435,456.
+    /// The chosen records of the source of this number, counted from 0, and of those before it are more than 268,435,456.
     #[error("more than 268435456 records with those before")]
     Full { host: u32 },
     /// The output failed.

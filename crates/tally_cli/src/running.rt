@@ -13,11 +13,14 @@ pub(crate) mod counting;
 mod deal;
 mod forms;
 mod gather;
+mod naming;
+mod parts;
 mod reporting;
 mod sections;
 pub(crate) mod source;
 mod task;
 pub(crate) mod usage;
+pub(crate) mod wanted;
 mod work;
 
 use crate::fault::RunFault;

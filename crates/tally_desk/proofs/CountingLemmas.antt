@@ -1,12 +1,16 @@
 -- How far a count has come.
 use Rattle.std.proofs.Common.{◌≡◌, ◌∙◌, ◌++◌, ◌≤◌, ◌<◌, ◌+◌, ◌*◌, ◌/◌, ◌⊎◌, inl, inr, ℕ, List, [], ◌∷◌, Option, Some, None, map, take, drop, length, ap, sym, subst, refl, arith, append-nil, length-append}
 use Rattle.std.proofs.lemmas.Grind.{flat_map-append}
+use Rattle.std.proofs.lemmas.List.Elements.{filter-append}
 use Rattle.std.proofs.lemmas.List.{drop_all, length-drop, length-take, map-append}
 use Rattle.std.specs.List.{flat_map}
 use Rattle.tally_records.specs.Records.{Records, Logins, Procs, IsProcs, procs_in, record_count}
 use Rattle.tally_records.specs.declared.batch.Kind.TheVariants.{Proc}
 use Rattle.tally_records.specs.declared.process.ProcRecord.{ProcRecord}
+use Rattle.tally_usage.specs.Choice.{chosen, is_chosen}
 use Rattle.tally_usage.specs.Sums.{AreSumsOf, Counted, CountsMore}
+use Rattle.tally_usage.specs.declared.choice.ProcChoice.{ProcChoice}
+use Rattle.tally_usage.proofs.ChoiceLemmas.{length-chosen}
 use Rattle.tally_usage.specs.declared.usage.TheConstants.{SUMS_LIMIT}
 use Rattle.tally_usage.proofs.SumsLemmas.{count_is}
 use Rattle.tally_desk.specs.Blocks.{block_size, blocks, feed_fault, limited_fault}
@@ -27,18 +31,18 @@ use Rattle.tally_desk.proofs.BlockLemmas.{block_size_some}
 use Rattle.tally_desk.proofs.Pieces.{pieces-more, pieces-nil}
 use Rattle.tally_desk.proofs.TakeLemmas.{takes_more}
 
--- these are the sums of the batches
-abbrev pub SumUp : Counted → List Records → Type 0
-SumUp s batches = AreSumsOf s (flat_map procs_in batches)
+-- these are the sums of the chosen records of the batches
+abbrev pub SumUp : ProcChoice → Counted → List Records → Type 0
+SumUp choice s batches = AreSumsOf s (chosen choice (flat_map procs_in batches))
 
--- full blocks were counted, so many
+-- records of so many full blocks were counted
 pub record HasCounted (s : Counted) (turn : ℕ) : Type 0 where
   pub records : List ProcRecord
   pub sums : AreSumsOf s records
-  pub count : length records ≡ turn * 1024
+  pub count : length records ≤ turn * 1024
 
 pub nothing_counted : (s : Counted) → AreSumsOf s [] → HasCounted s 0
-nothing_counted s sums = record { records = []; sums = sums; count = refl }
+nothing_counted s sums = record { records = []; sums = sums; count = omega arith }
 
 -- a batch of process records has as many
 pub procs_count : (batch : Records) → IsProcs batch → length (procs_in batch) ≡ record_count batch
@@ -55,30 +59,24 @@ pub never_full : {X : Type 0} → (s : Counted) (n : ℕ) → (rs : List ProcRec
 never_full s n known over = absurd (omega (arith, count_is s known.0 known.1, known.2, over))
 
 -- one more full block
-pub block_counted : (s t : Counted) (turn : ℕ) (batch : Records) → HasCounted s turn → IsBatch Proc batch → CountsMore s t (procs_in batch) → IsFull batch → HasCounted t (turn + 1)
-block_counted s t turn batch counted is more full = record {
-  records = counted.records ++ procs_in batch;
+pub block_counted : (choice : ProcChoice) (s t : Counted) (turn : ℕ) (batch : Records) → HasCounted s turn → IsBatch Proc batch → CountsMore s t (chosen choice (procs_in batch)) → HasCounted t (turn + 1)
+block_counted choice s t turn batch counted is more = record {
+  records = counted.records ++ chosen choice (procs_in batch);
   sums = more counted.records counted.sums;
-  count = length-append counted.records (procs_in batch) ∙ omega (arith, counted.count, procs_count batch is.of_kind, full);
+  count = omega (arith, length-append counted.records (chosen choice (procs_in batch)), length-chosen choice (procs_in batch), counted.count, procs_count batch is.of_kind, is.few);
 }
 
 -- sums of some records
 pub some_counted : (most : ℕ) (s : Counted) (turn : ℕ) → HasCounted s turn → turn ≤ most → AreSumsOfAtMost (most * 1024) s
 some_counted most s turn counted few = (counted.records, counted.sums, omega (arith, counted.count, few))
 
-pub more_counted : (most : ℕ) (s t : Counted) (turn : ℕ) (batch : Records) → HasCounted s turn → IsBatch Proc batch → CountsMore s t (procs_in batch) → turn < most → AreSumsOfAtMost (most * 1024) t
-more_counted most s t turn batch counted is more early = (
-  counted.records ++ procs_in batch,
-  more counted.records counted.sums,
-  omega (arith, length-append counted.records (procs_in batch), procs_count batch is.of_kind, is.few, counted.count, early),
-)
-
 -- one more batch
-sum_more : (s t : Counted) (batches : List Records) (batch : Records) → CountsMore s t (procs_in batch) → SumUp s batches → SumUp t (batches ++ batch ∷ [])
-sum_more s t batches batch more sums =
+sum_more : (choice : ProcChoice) (s t : Counted) (batches : List Records) (batch : Records) → CountsMore s t (chosen choice (procs_in batch)) → SumUp choice s batches → SumUp choice t (batches ++ batch ∷ [])
+sum_more choice s t batches batch more sums =
     subst (AreSumsOf t)
-    (sym (flat_map-append procs_in batches (batch ∷ []) ∙ ap (λ l. flat_map procs_in batches ++ l) (append-nil (procs_in batch))))
-    (more (flat_map procs_in batches) sums)
+    (sym (ap (chosen choice) (flat_map-append procs_in batches (batch ∷ []) ∙ ap (λ l. flat_map procs_in batches ++ l) (append-nil (procs_in batch)))
+    ∙ filter-append (is_chosen choice) (flat_map procs_in batches) (procs_in batch)))
+    (more (chosen choice (flat_map procs_in batches)) sums)
 
 -- the first fault of the blocks that are numbered from `index`
 abbrev pub fault_from : ℕ → ℕ → ℕ → List ℕ → Option FeedFault
@@ -101,52 +99,52 @@ pub fault_of_feed : (bytes : List ℕ) → count_fault 1024 bytes ≡ feed_fault
 fault_of_feed bytes = refl
 
 -- the first blocks were counted, `turn` in number, and these bytes are to come
-pub record CountedTo (most : ℕ) (bytes : List ℕ) (s : Counted) (turn : ℕ) (rest : List ℕ) : Type 0 where
+pub record CountedTo (choice : ProcChoice) (most : ℕ) (bytes : List ℕ) (s : Counted) (turn : ℕ) (rest : List ℕ) : Type 0 where
   pub done : List (List ℕ)
-  pub posted : SumUp s (map (records_in Proc) done)
+  pub posted : SumUp choice s (map (records_in Proc) done)
   pub fault : fault_from most (length bytes) turn rest ≡ count_fault most bytes
   pub covers : Covers Proc bytes done rest
 
 -- the same, of an input whose bytes to come are known
-pub record ToldCount (most : ℕ) (now : Option (List ℕ)) (s : Counted) (turn : ℕ) (bytes : List ℕ) : Type 0 where
+pub record ToldCount (choice : ProcChoice) (most : ℕ) (now : Option (List ℕ)) (s : Counted) (turn : ℕ) (bytes : List ℕ) : Type 0 where
   pub rest : List ℕ
   pub to_come : now ≡ Some rest
   pub total : length bytes ≡ turn * block_size Proc + length rest
-  pub fed : CountedTo most bytes s turn rest
+  pub fed : CountedTo choice most bytes s turn rest
 
-module _ (most : ℕ) (bytes : List ℕ) where
-  none_summed : (s : Counted) → AreSumsOf s [] → CountedTo most bytes s 0 bytes
+module _ (choice : ProcChoice) (most : ℕ) (bytes : List ℕ) where
+  none_summed : (s : Counted) → AreSumsOf s [] → CountedTo choice most bytes s 0 bytes
   none_summed s empty = record { done = []; posted = empty; fault = refl; covers = covers_none Proc bytes }
 
-  block_summed : (s t : Counted) (turn : ℕ) (rest : List ℕ) → CountedTo most bytes s turn rest → 0 < length rest
+  block_summed : (s t : Counted) (turn : ℕ) (rest : List ℕ) → CountedTo choice most bytes s turn rest → 0 < length rest
       → limited_fault most Proc (length bytes) (turn, take (block_size Proc) rest) ≡ None
-      → CountsMore s t (procs_in (records_in Proc (take (block_size Proc) rest)))
-      → CountedTo most bytes t (turn + 1) (drop (block_size Proc) rest)
+      → CountsMore s t (chosen choice (procs_in (records_in Proc (take (block_size Proc) rest))))
+      → CountedTo choice most bytes t (turn + 1) (drop (block_size Proc) rest)
   block_summed s t turn rest fed some ok more =
       let block = take (block_size Proc) rest in
       record {
         done = fed.done ++ block ∷ [];
-        posted = subst (SumUp t) (sym (map-append (records_in Proc) fed.done (block ∷ [])))
-            (sum_more s t (map (records_in Proc) fed.done) (records_in Proc block) more fed.posted);
+        posted = subst (SumUp choice t) (sym (map-append (records_in Proc) fed.done (block ∷ [])))
+            (sum_more choice s t (map (records_in Proc) fed.done) (records_in Proc block) more fed.posted);
         fault = sym (fault-later most (length bytes) turn rest some ok) ∙ fed.fault;
         covers = covers_more Proc bytes fed.done rest fed.covers;
       }
 
-  all_summed : (s : Counted) (turn : ℕ) (rest : List ℕ) → CountedTo most bytes s turn rest → rest ≡ [] → IsCounted most bytes s
+  all_summed : (s : Counted) (turn : ℕ) (rest : List ℕ) → CountedTo choice most bytes s turn rest → rest ≡ [] → IsCounted choice most bytes s
   all_summed s turn rest fed end =
       let joined = covers_all Proc bytes fed.done (subst (Covers Proc bytes fed.done) end fed.covers) in
       record {
         no_fault = sym fed.fault ∙ fault-end most (length bytes) turn rest end;
-        sums = subst (AreSumsOf s) joined.procs fed.posted;
+        sums = subst (λ rs. AreSumsOf s (chosen choice rs)) joined.procs fed.posted;
       }
 
-  fault_is : (s : Counted) (turn : ℕ) (rest : List ℕ) (f : FeedFault) → CountedTo most bytes s turn rest → length bytes ≡ turn * block_size Proc + length rest → 0 < length rest
+  fault_is : (s : Counted) (turn : ℕ) (rest : List ℕ) (f : FeedFault) → CountedTo choice most bytes s turn rest → length bytes ≡ turn * block_size Proc + length rest → 0 < length rest
       → limited_fault most Proc (turn * block_size Proc + length rest) (turn, take (block_size Proc) rest) ≡ Some f → count_fault most bytes ≡ Some f
   fault_is s turn rest f fed total some bad =
       sym fed.fault ∙ fault-here most (length bytes) turn rest f some (ap (λ n. limited_fault most Proc n (turn, take (block_size Proc) rest)) total ∙ bad)
 
   -- a turn that took nothing
-  stopped : (s : Counted) (turn : ℕ) (rest : List ℕ) (f : FeedFault) → CountedTo most bytes s turn rest → length bytes ≡ turn * block_size Proc + length rest → TurnStops most Proc turn rest f → IsFirstFault most bytes f
+  stopped : (s : Counted) (turn : ℕ) (rest : List ℕ) (f : FeedFault) → CountedTo choice most bytes s turn rest → length bytes ≡ turn * block_size Proc + length rest → TurnStops most Proc turn rest f → IsFirstFault most bytes f
   stopped s turn rest Memory fed total stops = tt
   stopped s turn rest Read fed total stops = tt
   stopped s turn rest (Torn records torn) fed total stops = fault_is s turn rest _ fed total stops.0 stops.1
@@ -156,8 +154,8 @@ module _ (most : ℕ) (bytes : List ℕ) where
   stopped s turn rest (ProcsFull stored) fed total stops = absurd stops.1
   stopped s turn rest CallsFull fed total stops = absurd stops.1
 
-pub begins_count : (most : ℕ) (bytes : List ℕ) (now : Option (List ℕ)) (s : Counted) → AreSumsOf s [] → now ≡ Some bytes → ToldCount most now s 0 bytes
-begins_count most bytes now s empty tells = record { rest = bytes; to_come = tells; total = omega arith; fed = none_summed most bytes s empty }
+pub begins_count : (choice : ProcChoice) (most : ℕ) (bytes : List ℕ) (now : Option (List ℕ)) (s : Counted) → AreSumsOf s [] → now ≡ Some bytes → ToldCount choice most now s 0 bytes
+begins_count choice most bytes now s empty tells = record { rest = bytes; to_come = tells; total = omega arith; fed = none_summed choice most bytes s empty }
 
 full_size : (n : ℕ) → n / 64 ≡ 1024 → n ≤ 65536 → n ≡ 65536
 full_size n is few = omega arith
@@ -165,21 +163,21 @@ full_size n is few = omega arith
 short_size : (n : ℕ) → n / 64 < 1024 → n < 65536
 short_size n short = omega arith
 
-module _ (most : ℕ) (bytes : List ℕ) (now : Option (List ℕ)) where
+module _ (choice : ProcChoice) (most : ℕ) (bytes : List ℕ) (now : Option (List ℕ)) where
   -- a turn that stops a count
-  pub told_fault : (s : Counted) (turn : ℕ) (f : FeedFault) → (told : ToldCount most now s turn bytes) → TurnStops most Proc turn told.rest f → IsFirstFault most bytes f
-  told_fault s turn f told stops = stopped most bytes s turn told.rest f told.fed told.total stops
+  pub told_fault : (s : Counted) (turn : ℕ) (f : FeedFault) → (told : ToldCount choice most now s turn bytes) → TurnStops most Proc turn told.rest f → IsFirstFault most bytes f
+  told_fault s turn f told stops = stopped choice most bytes s turn told.rest f told.fed told.total stops
 
-  next_summed : (after : Option (List ℕ)) (s t : Counted) (turn : ℕ) (batch : Records) → (told : ToldCount most now s turn bytes)
-      → TakesBlock most Proc turn told.rest after batch → CountsMore s t (procs_in batch) → CountedTo most bytes t (turn + 1) (drop (block_size Proc) told.rest)
+  next_summed : (after : Option (List ℕ)) (s t : Counted) (turn : ℕ) (batch : Records) → (told : ToldCount choice most now s turn bytes)
+      → TakesBlock most Proc turn told.rest after batch → CountsMore s t (chosen choice (procs_in batch)) → CountedTo choice most bytes t (turn + 1) (drop (block_size Proc) told.rest)
   next_summed after s t turn batch told takes more =
-      block_summed most bytes s t turn told.rest told.fed takes.some
+      block_summed choice most bytes s t turn told.rest told.fed takes.some
       (ap (λ n. limited_fault most Proc n (turn, take (block_size Proc) told.rest)) told.total ∙ takes.good)
-      (subst (λ b. CountsMore s t (procs_in b)) takes.batch_is more)
+      (subst (λ b. CountsMore s t (chosen choice (procs_in b))) takes.batch_is more)
 
   -- a full block
-  pub told_block : (after : Option (List ℕ)) (s t : Counted) (turn : ℕ) (batch : Records) → (told : ToldCount most now s turn bytes)
-      → TakesBlock most Proc turn told.rest after batch → CountsMore s t (procs_in batch) → IsFull batch → ToldCount most after t (turn + 1) bytes
+  pub told_block : (after : Option (List ℕ)) (s t : Counted) (turn : ℕ) (batch : Records) → (told : ToldCount choice most now s turn bytes)
+      → TakesBlock most Proc turn told.rest after batch → CountsMore s t (chosen choice (procs_in batch)) → IsFull batch → ToldCount choice most after t (turn + 1) bytes
   told_block after s t turn batch told takes more full =
       let few : length (take (block_size Proc) told.rest) ≤ block_size Proc = omega (arith, length-take (block_size Proc) told.rest) in
       let size : length (take (block_size Proc) told.rest) ≡ block_size Proc = full_size _ (sym takes.count ∙ full) few in
@@ -193,16 +191,16 @@ module _ (most : ℕ) (bytes : List ℕ) (now : Option (List ℕ)) where
       }
 
   -- a short block, which is the last
-  pub told_last : (after : Option (List ℕ)) (s t : Counted) (turn : ℕ) (batch : Records) → (told : ToldCount most now s turn bytes)
-      → TakesBlock most Proc turn told.rest after batch → CountsMore s t (procs_in batch) → record_count batch < 1024 → IsCounted most bytes t
+  pub told_last : (after : Option (List ℕ)) (s t : Counted) (turn : ℕ) (batch : Records) → (told : ToldCount choice most now s turn bytes)
+      → TakesBlock most Proc turn told.rest after batch → CountsMore s t (chosen choice (procs_in batch)) → record_count batch < 1024 → IsCounted choice most bytes t
   told_last after s t turn batch told takes more short =
       let size : length (take (block_size Proc) told.rest) < block_size Proc = short_size _ (subst (λ n. n < 1024) takes.count short) in
       let end : length told.rest ≤ block_size Proc = omega (arith, length-take (block_size Proc) told.rest) in
-      all_summed most bytes t (turn + 1) (drop (block_size Proc) told.rest) (next_summed after s t turn batch told takes more) (drop_all (block_size Proc) told.rest end)
+      all_summed choice most bytes t (turn + 1) (drop (block_size Proc) told.rest) (next_summed after s t turn batch told takes more) (drop_all (block_size Proc) told.rest end)
 
   -- the end of the input
-  pub told_whole : (s : Counted) (turn : ℕ) → (told : ToldCount most now s turn bytes) → told.rest ≡ [] → IsCounted most bytes s
-  told_whole s turn told end = all_summed most bytes s turn told.rest told.fed end
+  pub told_whole : (s : Counted) (turn : ℕ) → (told : ToldCount choice most now s turn bytes) → told.rest ≡ [] → IsCounted choice most bytes s
+  told_whole s turn told end = all_summed choice most bytes s turn told.rest told.fed end
 
 -- the end that was not there is a fault of the reading
 pub end_is_reading : (f : FeedFault) → (f ≡ Read) ⊎ (f ≡ TooLong) → IsReadFault f

@@ -4,7 +4,9 @@ use Rattle.std.specs.List.{filter_map}
 use Rattle.tally_records.specs.Records.{procs_in}
 use Rattle.tally_records.specs.declared.batch.Kind.TheVariants.{Proc}
 use Rattle.tally_records.specs.declared.process.ProcRecord.{ProcRecord}
+use Rattle.tally_usage.specs.Choice.{chosen}
 use Rattle.tally_usage.specs.Sums.{AreSumsOf, Counted}
+use Rattle.tally_usage.specs.declared.choice.ProcChoice.{ProcChoice}
 use Rattle.tally_desk.specs.Batches.{record_size, records_in}
 use Rattle.tally_desk.specs.Blocks.{limited_fault, numbered_blocks}
 use Rattle.tally_desk.specs.declared.fault.CountFault.{CountFault}
@@ -17,10 +19,10 @@ abbrev pub count_fault : ℕ → List ℕ → Option FeedFault
 count_fault most bytes =
     slice_get (filter_map (limited_fault most Proc (length bytes)) (numbered_blocks Proc bytes)) 0
 
--- the input has no fault, and these are the sums of its records
-pub record IsCounted (most : ℕ) (bytes : List ℕ) (s : Counted) : Type 0 where
+-- the input has no fault, and these are the sums of its chosen records
+pub record IsCounted (choice : ProcChoice) (most : ℕ) (bytes : List ℕ) (s : Counted) : Type 0 where
   pub no_fault : count_fault most bytes ≡ None
-  pub sums : AreSumsOf s (procs_in (records_in Proc bytes))
+  pub sums : AreSumsOf s (chosen choice (procs_in (records_in Proc bytes)))
 
 -- the sums of some records, no more than so many
 abbrev pub AreSumsOfAtMost : ℕ → Counted → Type 0

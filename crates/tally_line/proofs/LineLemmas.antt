@@ -20,6 +20,8 @@ use Rattle.tally_line.specs.Lines.{Answers, AreAccepted, AsksFor, HasNoWord, Are
 use Rattle.tally_line.specs.inside.LineSteps.{IsComplete, IsFaultFor, IsHelpFor, IsFaultOf, IsFileFault, IsLineOf, IsMemoryOrUsage}
 use Rattle.tally_line.specs.Jobs.{IsRunnable, TakesUntil}
 use Rattle.tally_line.specs.Times.{times_in}
+use Rattle.tally_line.specs.UsageWords.{IsUsageAsked}
+use Rattle.tally_line.specs.declared.line.UsageAsked.{UsageAsked}
 use Rattle.tally_line.specs.Zones.{IsZoneOf}
 use Rattle.std.specs.declared.alloc.Global.{Global}
 use Rattle.tally_line.specs.Options.{SetsJob}
@@ -69,11 +71,11 @@ file_fault name rows r words (fault.Usage text) named words_are h = absurd h
 file_fault name rows r words (fault.Prefix index) named words_are h =
     (ap Some (named ∙ ap name_of h.0), rw words_are h.1)
 
-pub run_found : (name : Text) (rows : List Row) (r : Report) (words : List (Bor Text)) (job : Job) (times : Times) (zone : Option (String Global)) (files : List FileArg) → name ≡ name_of r
+pub run_found : (name : Text) (rows : List Row) (r : Report) (words : List (Bor Text)) (job : Job) (times : Times) (usage : UsageAsked) (zone : Option (String Global)) (files : List FileArg) → name ≡ name_of r
     → words_in rows ≡ texts words → 0 < length (words_in rows) → job.report ≡ r → IsRunnable job → job.askers ≤ 64 → (job.askers ≡ 0) ⊎ (r ≡ report.All)
-    → AsksForm r rows job.form → SetsJob rows job → times ≡ times_in r rows → TakesUntil r times.until → IsZoneOf rows zone → AreSound rows → NamesFiles r (texts words) files
-    → IsRunOf (Some (name, rows)) job times zone files
-run_found name rows r words job times word files named words_are some is runnable few asked form options moments until zone_word sound names = record {
+    → AsksForm r rows job.form → SetsJob rows job → times ≡ times_in r rows → TakesUntil r times.until → IsUsageAsked rows usage → IsZoneOf rows zone → AreSound rows → NamesFiles r (texts words) files
+    → IsRunOf (Some (name, rows)) job times usage zone files
+run_found name rows r words job times usage word files named words_are some is runnable few asked form options moments until usage_words zone_word sound names = record {
   named = ap Some (named ∙ ap name_of (sym is));
   runnable = runnable;
   form = rw is form;
@@ -82,6 +84,7 @@ run_found name rows r words job times word files named words_are some is runnabl
   options = options;
   moments = rw is moments;
   until = rw is until;
+  usage_words = usage_words;
   zone_word = zone_word;
   sound = sound;
   some_file = omega (arith, some, ap length words_are, length-map {A = FileArg} {B = Text}, length-map {A = Bor Text} {B = Text}, ap length names.each_word);
@@ -119,7 +122,7 @@ module _ (words : List Text) (command : Command) (is : app_of command ≡ tally_
   pub answers : (m : ArgMatches) (l : Line) → HasMatchesOf (app_of command) words m
       → (is_simple_and_free (app_of command) ≡ true → fault_of (app_of command) words ≡ [])
       → IsLineOf (subcommand_rows_of m) l → Answers words l
-  answers m (line.Run job times zone files) has taken found = (accepted taken, subst (λ met. IsRunOf met job times zone files.items) (met_in_words m has) found)
+  answers m (line.Run job times usage zone files) has taken found = (accepted taken, subst (λ met. IsRunOf met job times usage zone files.items) (met_in_words m has) found)
   answers m (line.Help text) has taken found = absurd found
 
   pub refuses : (m : ArgMatches) (f : LineFault) → HasMatchesOf (app_of command) words m
@@ -139,7 +142,7 @@ module _ (words : List Text) (command : Command) (is : app_of command ≡ tally_
   ]
 
   as_help : (e : Error) (l : Line) → IsAmong (kind_of e) (fault_of tally_app words) → IsHelpFor (kind_of e) l → Answers words l
-  as_help e (line.Run job times _ files) one h = absurd h
+  as_help e (line.Run job times usage _ files) one h = absurd h
   as_help e (line.Help text) one h = (kind_of e, one, h)
 
   as_fault : (e : Error) (f : LineFault) → IsAmong (kind_of e) (fault_of tally_app words) → IsFaultFor (kind_of e) f → Refuses words f

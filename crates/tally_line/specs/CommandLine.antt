@@ -36,6 +36,10 @@ limit_rule = record (new_rule (codes "limit")) {
 abbrev pub csv_rule : Rule
 csv_rule = record (new_rule (codes "csv")) { long = Some (codes "csv"); action = Some SetTrue }
 
+-- `--by-file`
+abbrev pub by_file_rule : Rule
+by_file_rule = record (new_rule (codes "by-file")) { long = Some (codes "by-file"); action = Some SetTrue }
+
 -- threads that read files
 abbrev pub feeders_rule : Rule
 feeders_rule = number_rule (codes "feeders") (between 1 64) (codes "4")
@@ -97,7 +101,7 @@ with_common app =
 abbrev pub with_names : App → App
 with_names app = with_rule (with_rule app (repeated_rule (codes "user"))) (repeated_rule (codes "line"))
 
--- the period that `ac` is over
+-- the period that `ac` or `sa` is over
 abbrev pub with_period : App → App
 with_period app =
     with_rule (with_rule (with_rule app (word_rule (codes "from"))) (word_rule (codes "to"))) (word_rule (codes "in"))
@@ -126,13 +130,20 @@ connect_app = with_common (with_rule (with_rule (with_period (with_names (with_r
     until_rule)
     csv_rule)
 
--- `sa`
-abbrev pub usage_app : App
-usage_app = with_common (with_rule (with_rule (with_rule (with_rule (with_rule (new_app (codes "sa"))
+-- the flags of `sa`
+abbrev pub with_usage_flags : App → App
+with_usage_flags app = with_rule (with_rule (with_rule (with_rule app
     (flag_rule (codes "keep_all") 97))
     (flag_rule (codes "by_user") 109))
     (flag_rule (codes "by_calls") 110))
-    (flag_rule (codes "reverse") 114))
+    (flag_rule (codes "reverse") 114)
+
+-- `sa`
+abbrev pub usage_app : App
+usage_app = with_common (with_rule (with_rule (with_rule (with_period (with_rule (with_usage_flags (new_app (codes "sa")))
+    (repeated_rule (codes "uid"))))
+    (word_rule (codes "names")))
+    by_file_rule)
     csv_rule)
 
 -- `all`

@@ -7,5 +7,6 @@ pub mod Offsets
 pub mod Options
 pub mod Settled
 pub mod Times
+pub mod UsageWords
 pub mod Zones
 pub mod inside

@@ -11,6 +11,7 @@ use Rattle.tally_line.specs.Named.{AreNamed}
 use Rattle.tally_line.specs.Offsets.{HasPlainOffsets}
 use Rattle.tally_line.specs.Options.{SetsJob}
 use Rattle.tally_line.specs.Times.{AreMoments, times_in}
+use Rattle.tally_line.specs.UsageWords.{AreUsageWords, IsUsageAsked}
 use Rattle.tally_line.specs.Zones.{HasOneClock, IsZoneOf}
 use Rattle.std.specs.declared.alloc.Global.{Global}
 use Rattle.tally_line.specs.declared.line.FileArg.{FileArg}
@@ -23,6 +24,7 @@ use Rattle.tally_line.specs.declared.line.Line.{Line}
 use Rattle.tally_line.specs.declared.line.Line.TheVariants as line
 use Rattle.tally_line.specs.declared.line.LineFault.{LineFault}
 use Rattle.tally_line.specs.declared.line.LineFault.TheVariants as fault
+use Rattle.tally_line.specs.declared.line.UsageAsked.{UsageAsked}
 use Rattle.tally_line.specs.declared.times.Times.{Times}
 
 -- the name of a subcommand and its matches
@@ -70,15 +72,16 @@ name_of report.All = codes "all"
 abbrev pub AsksFor : Report → Met → Type 0
 AsksFor r met = option_map (λ found. found.0) met ≡ Some (name_of r)
 
--- offsets are plain, none stands beside a zone, and the words that name or say moments are as they have to be
+-- offsets are plain, none stands beside a zone, and the words that name, choose processes or say moments are as they have to be
 pub record AreSound (rows : List Row) : Type 0 where
   pub offsets : HasPlainOffsets rows
   pub clock : HasOneClock rows
   pub named : AreNamed rows
+  pub usage : AreUsageWords rows
   pub moments : AreMoments rows
 
 -- a run that the matches ask for
-pub record IsRunOf (met : Met) (job : Job) (times : Times) (zone : Option (String Global)) (files : List FileArg) : Type 0 where
+pub record IsRunOf (met : Met) (job : Job) (times : Times) (usage : UsageAsked) (zone : Option (String Global)) (files : List FileArg) : Type 0 where
   pub named : AsksFor job.report met
   pub runnable : IsRunnable job
   pub form : AsksForm job.report (rows_met met) job.form
@@ -87,6 +90,7 @@ pub record IsRunOf (met : Met) (job : Job) (times : Times) (zone : Option (Strin
   pub options : SetsJob (rows_met met) job
   pub moments : times ≡ times_in job.report (rows_met met)
   pub until : TakesUntil job.report times.until
+  pub usage_words : IsUsageAsked (rows_met met) usage
   pub zone_word : IsZoneOf (rows_met met) zone
   pub sound : AreSound (rows_met met)
   pub some_file : 0 < length files
@@ -114,7 +118,7 @@ AreAccepted words = fault_of tally_app words ≡ []
 
 -- the answer to words
 abbrev pub Answers : List Text → Line → Type 0
-Answers words (line.Run job times zone files) = AreAccepted words × IsRunOf (met_in words) job times zone files.items
+Answers words (line.Run job times usage zone files) = AreAccepted words × IsRunOf (met_in words) job times usage zone files.items
 Answers words (line.Help text) = AskForHelp words
 
 -- why words are refused

@@ -1,5 +1,5 @@
 -- The moments of a command line as seconds on a clock, and the job that they make.
-use Rattle.std.specs.Prelude.{◌≡◌, ℤ, pos, neg_ℤ, ◌+ℤ◌, ◌&&◌, ◌^◌, ◌-◌, Bool, true, false, not, Option, Some, None, Result, Ok, Err, ⊤, int_le, int_lt, if◌then◌else◌}
+use Rattle.std.specs.Prelude.{◌≡◌, ℕ, ℤ, List, pos, neg_ℤ, ◌+ℤ◌, ◌&&◌, ◌^◌, ◌-◌, Bool, true, false, not, Option, Some, None, Result, Ok, Err, ⊤, int_le, int_lt, if◌then◌else◌}
 use Rattle.std.specs.Option.{option_or}
 use Rattle.tally_moments.specs.Seconds.{IsSecondOf}
 use Rattle.tally_moments.specs.declared.moment.Moment.{Moment}
@@ -12,6 +12,7 @@ use Rattle.tally_line.specs.declared.settling.Seconds.{Seconds}
 use Rattle.tally_line.specs.declared.settling.TimesFault.{TimesFault}
 use Rattle.tally_line.specs.declared.settling.TimesFault.TheVariants as fault
 use Rattle.tally_line.specs.declared.times.Times.{Times}
+use Rattle.tally_usage.specs.declared.choice.ProcChoice.{ProcChoice}
 
 -- ---- seconds
 
@@ -103,6 +104,23 @@ settled times job seconds = settled_by (option_or (known_fault times) (fault_of 
 -- what a job with moments comes to: each is found on the clock
 abbrev pub Settles : (ℤ → ℤ) → ℤ → Times → Job → Result Job TimesFault → Type 0
 Settles clock now times job result = (seconds : Seconds) × AreSecondsOf clock now times seconds × (result ≡ settled times job seconds)
+
+-- the processes that are chosen in the period of seconds, where nothing is wrong
+abbrev pub choice_by : Option TimesFault → List (Option ℕ) → Seconds → Result ProcChoice TimesFault
+choice_by (Some found) uids seconds = Err found
+choice_by None uids seconds = Ok (record { uids = uids; period = period_of seconds })
+
+-- what is wrong with moments that come to these seconds, as `settled` finds it
+abbrev pub fault_in : Times → Seconds → Option TimesFault
+fault_in times seconds = option_or (known_fault times) (fault_of seconds)
+
+-- the processes that are chosen by moments, or what is wrong with them
+abbrev pub chosen_procs : Times → List (Option ℕ) → Seconds → Result ProcChoice TimesFault
+chosen_procs times uids seconds = choice_by (fault_in times seconds) uids seconds
+
+-- what a choice with moments comes to: each is found on the clock
+abbrev pub SettlesChoice : (ℤ → ℤ) → ℤ → Times → List (Option ℕ) → Result ProcChoice TimesFault → Type 0
+SettlesChoice clock now times uids result = (seconds : Seconds) × AreSecondsOf clock now times seconds × (result ≡ chosen_procs times uids seconds)
 
 -- on every clock and with every job the moments come to a fault
 abbrev pub AreRefused : Times → TimesFault → Type 0

@@ -1,7 +1,7 @@
 //! The arguments of the command line.
 ghost use Rattle.std.specs.Prelude.{◌≡◌, false};
 ghost use Rattle.clap.specs.Words.{rule_of};
-ghost use Rattle.tally_line.specs.CommandLine.{askers_rule, csv_rule, feeders_rule, file_rule, flag_rule, lettered_rule, limit_rule, minutes_rule, number_rule, repeated_rule, until_rule, word_rule, zone_rule};
+ghost use Rattle.tally_line.specs.CommandLine.{askers_rule, by_file_rule, csv_rule, feeders_rule, file_rule, flag_rule, lettered_rule, limit_rule, minutes_rule, number_rule, repeated_rule, until_rule, word_rule, zone_rule};
 
 use clap::builder::ValueParser;
 use clap::{Arg, ArgAction, value_parser};
@@ -35,6 +35,16 @@ pub(crate) fn csv<'a>(alloc: Global) -> Arg<'a>
     Arg::new(alloc, "csv")
         .long("csv")
         .help("Print one table in CSV, in seconds and whole numbers, for other programs")
+        .action(ArgAction::SetTrue)
+}
+
+pub(crate) fn by_file<'a>(alloc: Global) -> Arg<'a>
+    ensures rule { rule_of result ≡ by_file_rule }
+    ensures local { result.global ≡ false }
+{
+    Arg::new(alloc, "by-file")
+        .long("by-file")
+        .help("Report on each file by itself, and then on all; with --csv on each alone")
         .action(ArgAction::SetTrue)
 }
 

@@ -1,11 +1,12 @@
 //! The command line as `clap` reads it.
 ghost use Rattle.std.specs.Prelude.{◌≡◌, IfOk, false};
 ghost use Rattle.clap.specs.Words.{App, Rule, new_app, rule_of, with_rule, with_subcommand};
-ghost use Rattle.tally_line.specs.CommandLine.{all_app, connect_app, last_app, tally_app, top_app, usage_app, with_common, with_lettered_period, with_names, with_period};
+ghost use Rattle.tally_line.specs.CommandLine.{all_app, connect_app, last_app, tally_app, top_app, usage_app, with_common, with_lettered_period, with_names, with_period, with_usage_flags};
 ghost use Rattle.tally_line.specs.inside.Commands.{IsCommand};
 
 use crate::args::{
-    askers, csv, feeders, file, flag, lettered, limit, minutes, repeated, until, word, zone,
+    askers, by_file, csv, feeders, file, flag, lettered, limit, minutes, repeated, until, word,
+    zone,
 };
 use clap::{Arg, Command};
 use std::alloc::{AllocError, Global};
@@ -121,7 +122,37 @@ fn connect<'a>(alloc: Global) -> Made<'a>
 fn usage<'a>(alloc: Global) -> Made<'a>
     ensures { IfOk result (IsCommand usage_app) }
 {
-    let command = Ok(named(alloc, "sa", "Sum the usage of commands, as sa(8) does"));
+    let about = "Sum the usage of commands, as sa(8) does";
+    let command = with_usage_flags(alloc, Ok(named(alloc, "sa", about)));
+    let help = "Sum processes of the user with number N, 0 to 4294967295, up to eight times";
+    let command = with(command, repeated(alloc, "uid", "N", help));
+    let command = with_period(alloc, command);
+    let help = "With -m, name users as FILE does, which has lines of passwd(5), as /etc/passwd";
+    let command = with(command, word(alloc, "names", "FILE", help));
+    let command = with(command, by_file(alloc));
+    let command = with(command, csv(alloc));
+    with_options(alloc, command, "Read the process records of FILE")
+}
+
+#[inline(never)]
+fn all<'a>(alloc: Global) -> Made<'a>
+    ensures { IfOk result (IsCommand all_app) }
+{
+    let about = "Print last for each login file, then ac, then sa";
+    let command = with(Ok(named(alloc, "all", about)), askers(alloc));
+    let command = with(command, until(alloc));
+    with_options(
+        alloc,
+        command,
+        "Read login records of w:PATH, process records of p:PATH",
+    )
+}
+
+/// The flags of `sa`.
+#[inline(never)]
+fn with_usage_flags<'a>(alloc: Global, command: Made<'a>) -> Made<'a>
+    ensures { (app : App) → IfOk command.entry (IsCommand app) → IfOk result (IsCommand (with_usage_flags app)) }
+{
     let command = with(
         command,
         flag(
@@ -139,23 +170,7 @@ fn usage<'a>(alloc: Global) -> Made<'a>
         command,
         flag(alloc, "by_calls", 'n', "Order by calls, not by cpu time"),
     );
-    let command = with(command, flag(alloc, "reverse", 'r', "Reverse the order"));
-    let command = with(command, csv(alloc));
-    with_options(alloc, command, "Read the process records of FILE")
-}
-
-#[inline(never)]
-fn all<'a>(alloc: Global) -> Made<'a>
-    ensures { IfOk result (IsCommand all_app) }
-{
-    let about = "Print last for each login file, then ac, then sa";
-    let command = with(Ok(named(alloc, "all", about)), askers(alloc));
-    let command = with(command, until(alloc));
-    with_options(
-        alloc,
-        command,
-        "Read login records of w:PATH, process records of p:PATH",
-    )
+    with(command, flag(alloc, "reverse", 'r', "Reverse the order"))
 }
 
 /// The users and lines that sessions are chosen by.
@@ -198,7 +213,7 @@ fn with_options<'a>(alloc: Global, command: Made<'a>, files: &'a str) -> Made<'a
         minutes(
             alloc,
             "east",
-            "Show times and cut days M minutes east of UTC, 0 to 1439; 60 for +0100; sa has neither",
+            "Show times, cut days and read moments M minutes east of UTC, 0 to 1439; 60 for +0100",
         ),
     );
     let command = with(
@@ -206,7 +221,7 @@ fn with_options<'a>(alloc: Global, command: Made<'a>, files: &'a str) -> Made<'a
         minutes(
             alloc,
             "west",
-            "Show times and cut days M minutes west of UTC, 0 to 1439; 300 for -0500; sa has neither",
+            "Show times, cut days and read moments M minutes west of UTC, 0 to 1439; 300 for -0500",
         ),
     );
     let command = with(command, zone(alloc));

@@ -1,7 +1,8 @@
 //! The command line of `tally`, read as a job.
 //!
 //! `words` makes a `line` of the words: `command` is what the parser knows and `args` its arguments, `given` are the words of
-//! options, `options` what the options of a report set, `named` the users and lines, `moments` its `times`, `offsets` refuses
+//! options, `options` what the options of a report set, `named` the users and lines, `usage_words` what a report on
+//! processes is asked, `moments` its `times`, `offsets` refuses
 //! what only looks like minutes, `zones` a zone beside an offset, `files` the files that the words name, `refused` the answer
 //! where the parser gives no matches. A `line` asks for a `job`, or for help; `settling` makes seconds of the times of a job.
 #![tactic(auto)]
@@ -19,11 +20,12 @@ mod options;
 mod refused;
 mod settling;
 mod times;
+mod usage_words;
 mod words;
 mod zones;
 
 pub use crate::job::{Form, Job, Report};
-pub use crate::line::{FileArg, Line, LineFault};
-pub use crate::settling::{TimesFault, known_fault, settle};
+pub use crate::line::{FileArg, Line, LineFault, UsageAsked};
+pub use crate::settling::{TimesFault, known_fault, settle, settle_choice};
 pub use crate::times::Times;
 pub use crate::words::{file_word, job_of};

@@ -6,6 +6,7 @@ use crate::job::Job;
 use crate::times::Times;
 use std::alloc::{AllocError, AllocFailed};
 use tally_records::Kind;
+use tally_usage::Uids;
 use thiserror::Error as ErrorText;
 
 /// A file of the command line.
@@ -15,6 +16,17 @@ pub struct FileArg {
     pub path: String,
 }
 
+/// What a report on processes is asked beside its job. Another report is asked nothing of it.
+#[derive(Debug, Drop)]
+pub struct UsageAsked {
+    /// `--uid`: the numbers of the users whose processes are chosen.
+    pub uids: Uids,
+    /// `--names`: the word of a file with the names of users, as it was given.
+    pub names: Option<String>,
+    /// `--by-file`: whether each file is reported by itself, too.
+    pub by_file: bool,
+}
+
 /// What a command line asks for.
 #[derive(Debug, Drop)]
 pub enum Line {
@@ -22,6 +34,7 @@ pub enum Line {
     Run {
         job: Job,
         times: Times,
+        usage: UsageAsked,
         zone: Option<String>,
         files: Vec<FileArg>,
     },

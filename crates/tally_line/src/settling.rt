@@ -1,8 +1,8 @@
 //! The moments of a command line as seconds on the clock of a run.
-ghost use Rattle.std.specs.Prelude.{◌≡◌, IfOk, IfSome, None, true};
+ghost use Rattle.std.specs.Prelude.{◌≡◌, IfNone, IfOk, IfSome, None, true};
 ghost use Rattle.tally_line.specs.Jobs.{IsRunnable, TakesUntil};
 ghost use Rattle.tally_line.specs.Settled as Spec;
-ghost use Rattle.tally_line.specs.Settled.{AreRefused, AreSecondsOf, IsSecondIn, Settles};
+ghost use Rattle.tally_line.specs.Settled.{AreRefused, AreSecondsOf, IsSecondIn, Settles, SettlesChoice};
 ghost use Rattle.tally_moments.specs.Seconds.{local};
 
 use crate::job::{Job, Report};
@@ -10,6 +10,7 @@ use crate::times::Times;
 use tally_clock::Clock;
 use tally_moments::{Moment, second_of};
 use tally_records::{LoginChoice, Period};
+use tally_usage::{ProcChoice, Uids};
 use thiserror::Error as ErrorText;
 
 /// Why the moments of a command line are refused. The text says how to find more, as that of refused
@@ -60,6 +61,20 @@ pub fn settle(job: &Job, times: &Times, clock: &Clock, now: i64) -> Result<Job, 
     settled(times, job, seconds_of(times, clock, job.offset, now))
 }
 
+/// The processes of these users in the period of a command line's moments, on a clock with so many minutes east of it on top;
+/// `now` is the second at which the words were read. It errs as `settle` does.
+pub fn settle_choice(
+    uids: Uids,
+    times: &Times,
+    clock: &Clock,
+    minutes: i32,
+    now: i64,
+) -> Result<ProcChoice, TimesFault>
+    ensures { SettlesChoice (local clock.now minutes) now times.now uids result }
+{
+    chosen_procs(times, uids, seconds_of(times, clock, minutes, now))
+}
+
 /// The second of a moment that needs no clock.
 fn known(moment: Option<Moment>) -> Option<i64>
     ensures { result ≡ Spec.known moment }
@@ -103,10 +118,31 @@ fn seconds_of(times: &Times, clock: &Clock, minutes: i32, now: i64) -> Seconds
 fn settled(times: &Times, job: &Job, seconds: Seconds) -> Result<Job, TimesFault>
     ensures { result ≡ Spec.settled times.now job.now seconds }
 {
-    match known_fault(times).or(fault_of(seconds)) {
+    match fault_in(times, seconds) {
         Some(fault) => Err(fault),
         None => Ok(with_seconds(job, seconds)),
     }
+}
+
+/// The processes of these users in the period of these seconds, or what is wrong with them, as `settled` finds it.
+fn chosen_procs(times: &Times, uids: Uids, seconds: Seconds) -> Result<ProcChoice, TimesFault>
+    ensures { result ≡ Spec.chosen_procs times.now uids seconds }
+{
+    match fault_in(times, seconds) {
+        Some(found) => Err(found),
+        None => Ok(ProcChoice {
+            uids,
+            period: period_of(seconds),
+        }),
+    }
+}
+
+/// What is wrong with moments that come to these seconds: first what is wrong on every clock.
+fn fault_in(times: &Times, seconds: Seconds) -> Option<TimesFault>
+    ensures value { result ≡ Spec.fault_in times.now seconds }
+    ensures none { IfNone result (Spec.fault_of seconds ≡ None) }
+{
+    known_fault(times).or(fault_of(seconds))
 }
 
 /// What is wrong with seconds.

@@ -12,6 +12,7 @@ use crate::named::mistake_in_names;
 use crate::offsets::{NOT_PLAIN, has_plain_offsets};
 use crate::options::{job_from, report_of};
 use crate::refused::{fault_of, refused};
+use crate::usage_words::{mistake_in_usage, usage_asked};
 use crate::zones::{TWO_CLOCKS, has_one_clock, zone_of};
 use clap::ArgMatches;
 use std::alloc::Global;
@@ -95,11 +96,13 @@ fn run_under(alloc: Global, name: &str, matches: &ArgMatches<'_>) -> Result<Line
     };
     let files = files_of(alloc, report, words)?;
     let zone = zone_of(alloc, matches)?;
+    let usage = usage_asked(alloc, matches)?;
     let job = job_from(report, matches);
     let times = times_in(report, matches);
     Ok(Line::Run {
         job,
         times,
+        usage,
         zone,
         files,
     })
@@ -115,6 +118,8 @@ fn mistake_in(matches: &ArgMatches<'_>) -> Option<&'static str>
     } else if !has_one_clock(matches) {
         Some(TWO_CLOCKS)
     } else {
-        mistake_in_names(matches).or(mistake_in_moments(matches))
+        mistake_in_names(matches)
+            .or(mistake_in_usage(matches))
+            .or(mistake_in_moments(matches))
     }
 }

@@ -58,6 +58,7 @@ fn print_read<R: Print + AllocGlobal>(
             Line::Run {
                 job,
                 times: _,
+                usage: _,
                 zone: _,
                 files,
             },

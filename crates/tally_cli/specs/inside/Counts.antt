@@ -13,6 +13,7 @@ use Rattle.tally_records.specs.declared.process.ProcRecord.{ProcRecord}
 use Rattle.tally_sessions.specs.declared.entry.Entry.{Entry}
 use Rattle.tally_usage.specs.Sums.{AreSumsOf, Counted, CountsBoth}
 use Rattle.tally_usage.specs.Totals.{records_of}
+use Rattle.tally_usage.specs.declared.choice.ProcChoice.{ProcChoice}
 use Rattle.tally_usage.specs.declared.entry.ProcEntry.{ProcEntry}
 use Rattle.tally_usage.specs.declared.usage.TheConstants.{SUMS_LIMIT}
 use Rattle.tally_cli.specs.Output.{questions_of}
@@ -41,10 +42,10 @@ IsFault (count.Fault found) = ⊤
 IsFault c = ⊥
 
 -- what a source's count came to, where it was tried
-abbrev pub CameOf : {I : Type 0} → (I → Option (List ℕ)) → (I → Bool) → Source I → Count → Type 0
-CameOf to_come can_fail source count.Untried = ⊤
-CameOf to_come can_fail source (count.Sums sums) = (bytes : List ℕ) → to_come source.input ≡ Some bytes → IsCounted FILE_BLOCKS bytes sums
-CameOf to_come can_fail source (count.Fault found) = (found ≡ fault.Read → can_fail source.input ≡ true)
+abbrev pub CameOf : {I : Type 0} → ProcChoice → (I → Option (List ℕ)) → (I → Bool) → Source I → Count → Type 0
+CameOf choice to_come can_fail source count.Untried = ⊤
+CameOf choice to_come can_fail source (count.Sums sums) = (bytes : List ℕ) → to_come source.input ≡ Some bytes → IsCounted choice FILE_BLOCKS bytes sums
+CameOf choice to_come can_fail source (count.Fault found) = (found ≡ fault.Read → can_fail source.input ≡ true)
     × ((bytes : List ℕ) → to_come source.input ≡ Some bytes → IsCountFault FILE_BLOCKS bytes found)
 
 -- the file can be read, and was not counted
@@ -53,9 +54,9 @@ pub record IsUncounted {I : Type 0} (failures : I → ℕ) (file : FileCount I) 
   pub untried : file.count ≡ count.Untried
 
 -- the files of a list were counted in order, up to the first that has a fault
-pub record AreCounted {I : Type 0} (to_come : I → Option (List ℕ)) (can_fail : I → Bool) (old new : List (FileCount I)) : Type 0 where
+pub record AreCounted {I : Type 0} (choice : ProcChoice) (to_come : I → Option (List ℕ)) (can_fail : I → Bool) (old new : List (FileCount I)) : Type 0 where
   pub length_is : length new ≡ length old
-  pub each : (k : ℕ) (d : FileCount I) → k < length old → CameOf to_come can_fail (slice_index_or old k d).source (slice_index_or new k d).count
+  pub each : (k : ℕ) (d : FileCount I) → k < length old → CameOf choice to_come can_fail (slice_index_or old k d).source (slice_index_or new k d).count
   pub stops : (k : ℕ) (d : FileCount I) → k < length old → (slice_index_or new k d).count ≡ count.Untried → (j : ℕ) × (j < k) × IsFault (slice_index_or new j d).count
 
 -- once a file has a fault, none after it was tried
@@ -63,9 +64,9 @@ abbrev pub StopAtFault : {I : Type 0} → List (FileCount I) → Type 0
 StopAtFault files = (j k : ℕ) (d : FileCount _) → j < k → k < length files → IsFault (slice_index_or files j d).count → (slice_index_or files k d).count ≡ count.Untried
 
 -- each list was counted so
-pub record AreAllCounted {V I : Type 0} (to_come : I → Option (List ℕ)) (can_fail : I → Bool) (files : V → List (FileCount I)) (vs us : List V) : Type 0 where
+pub record AreAllCounted {V I : Type 0} (choice : ProcChoice) (to_come : I → Option (List ℕ)) (can_fail : I → Bool) (files : V → List (FileCount I)) (vs us : List V) : Type 0 where
   pub length_is : length us ≡ length vs
-  pub each : (w : ℕ) (d : V) → w < length vs → AreCounted to_come can_fail (files (slice_index_or vs w d)) (files (slice_index_or us w d))
+  pub each : (w : ℕ) (d : V) → w < length vs → AreCounted choice to_come can_fail (files (slice_index_or vs w d)) (files (slice_index_or us w d))
 
 -- the file with this number, of files that are dealt to so many lists by turns
 abbrev pub file_in : {I : Type 0} → ℕ → List (List (FileCount I)) → ℕ → Option (FileCount I)
@@ -148,18 +149,18 @@ IsJoinFault files at (File host found) = IsFirst files at host found
 IsJoinFault files at (Full host) = IsFirstTooMany files at host
 IsJoinFault files at found = ⊥
 
--- the inputs have no fault, and these are the sums of their records
-pub record AreSummed (inputs : List Told) (s : Counted) : Type 0 where
+-- the inputs have no fault, and these are the sums of their chosen records
+pub record AreSummed (choice : ProcChoice) (inputs : List Told) (s : Counted) : Type 0 where
   pub good : All IsCountable inputs
-  pub sums : AreSumsOf s (flat_map procs_told inputs)
+  pub sums : AreSumsOf s (flat_map (procs_told choice) inputs)
 
 -- what a fault of the counting shows of the inputs
-abbrev pub IsCountCause : List Told → UsageFault → Type 0
-IsCountCause inputs Memory = ⊤
-IsCountCause inputs (Callers callers) = ⊤
-IsCountCause inputs (File host found) = IsFirstUncounted inputs host found
-IsCountCause inputs (Full host) = IsFirstOver inputs host
-IsCountCause inputs Write = ⊥
+abbrev pub IsCountCause : ProcChoice → List Told → UsageFault → Type 0
+IsCountCause choice inputs Memory = ⊤
+IsCountCause choice inputs (Callers callers) = ⊤
+IsCountCause choice inputs (File host found) = IsFirstUncounted inputs host found
+IsCountCause choice inputs (Full host) = IsFirstOver choice inputs host
+IsCountCause choice inputs Write = ⊥
 
 -- memory ran out, or a file is at fault, by a failed read only where it can fail
 abbrev pub IsCountRefusal : {I : Type 0} → (I → Bool) → List (Source I) → UsageFault → Type 0

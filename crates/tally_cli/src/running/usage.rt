@@ -2,10 +2,12 @@
 ghost use Rattle.std.specs.Prelude.{◌≡◌, ◌+◌, ◌<◌, ◌≤◌, ◌↔◌, ◌∷◌, [], Err, IfErr, IfOk, IsTrue, List, OnErr, OnOk, length, map};
 ghost use Rattle.std.specs.List.{All};
 ghost use Rattle.tally_book.specs.Answers.{HasDays};
-ghost use Rattle.tally_cli.specs.Output.{report_text};
-ghost use Rattle.tally_cli.specs.Runs.{IsReadable, IsWrongNumber, Told, output_told};
+ghost use Rattle.tally_cli.specs.Output.{answers_of};
+ghost use Rattle.tally_cli.specs.Runs.{IsReadable, IsWrongNumber, Told};
+ghost use Rattle.tally_cli.specs.UsageOutput.{by_file_output, names_given, paths_of, usage_printed, usage_text, wanted_of};
 ghost use Rattle.tally_cli.specs.Usages.{IsFailedUsage, IsOfProcs, IsUsage, IsWholeUsage, callers_refused, unwritten_calls};
 ghost use Rattle.tally_cli.specs.inside.Counts.{AreSummed, IsAnswerOn, IsPrinting};
+ghost use Rattle.tally_cli.specs.inside.Parts.{AreAnswered, AreAnsweredWanted, HasPart, report_by_file};
 ghost use Rattle.tally_line.specs.Jobs.{IsRunnable};
 ghost use Rattle.tally_print.specs.Output.{IsWritable, Prints};
 ghost use Rattle.tally_sessions.specs.Days.{IsOffset};
@@ -16,21 +18,22 @@ ghost use Rattle.tally_usage.specs.declared.entry.ProcEntry.{ProcEntry};
 
 use crate::fault::{RunFault, UsageFault};
 use crate::running::callers_of;
-use crate::running::counting::count_sources;
-use crate::running::forms::print_answers;
+use crate::running::counting::{Joined, count_sources};
+use crate::running::naming::print_usage;
+use crate::running::parts::{file_table, print_parts};
 use crate::running::source::Source;
+use crate::running::wanted::{UsageWanted, report_by_file};
 use std::alloc::Global;
 use std::hash::RandomState;
-use std::slice;
 use std::thread::Threads;
 use tally_book::Answer;
 use tally_clock::Clock;
 use tally_desk::Input;
-use tally_line::{Job, Report};
-use tally_print::Output;
+use tally_line::{FileArg, Form, Job, Report};
+use tally_print::{Output, print_file_header};
 use tally_records::{Kind, Memory};
 use tally_sessions::HOST_LIMIT;
-use tally_usage::Sums;
+use tally_usage::{Sums, UserNames};
 
 /// Refuses a number of callers, a source or an asker each, as `run` does.
 fn refuse_callers(sources: usize, askers: u32) -> Result<(), UsageFault>
@@ -48,7 +51,7 @@ fn refuse_callers(sources: usize, askers: u32) -> Result<(), UsageFault>
 }
 
 /// The answer to the question of a report on processes.
-fn answer_of_sums(alloc: Global, report: &Report, sums: &Sums) -> Result<Answer, Memory>
+pub(crate) fn answer_of_sums(alloc: Global, report: &Report, sums: &Sums) -> Result<Answer, Memory>
     requires usage { IsUsage report.now }
     ensures value { IfOk result (IsAnswerOn report.now sums.now) }
     ensures days { IfOk result HasDays }
@@ -70,11 +73,12 @@ fn answer_of_sums(alloc: Global, report: &Report, sums: &Sums) -> Result<Answer,
     }
 }
 
-/// Prints the job's report on the processes that the sums are of.
+/// Prints the job's report on the processes that the sums are of, with the names of users where they are given.
 fn report_sums<O: Output>(
     alloc: Global,
     clock: &Clock,
     job: &Job,
+    names: Option<&UserNames>,
     sums: &Sums,
     out: &mut O,
 ) -> Result<(), UsageFault>
@@ -82,34 +86,75 @@ fn report_sums<O: Output>(
     requires offset { IsOffset job.now.offset }
     requires writable { IsWritable (O.state out.old) }
     ensures writes { (kinds : List Kind) (logins : List Entry) (procs : List ProcEntry) → AreSumsOf sums.now (records_of procs)
-        → Prints (O.state out.old) (O.state out.new) result (unwritten_calls result) (report_text clock.now job.now kinds logins procs) }
+        → Prints (O.state out.old) (O.state out.new) result (unwritten_calls result) (usage_text clock.now job.now (names_given names.entry) (answers_of clock.now job.now kinds logins procs)) }
     ensures counts { (O.state out.new).failures ≡ (O.state out.old).failures + unwritten_calls result }
     ensures tells { (O.state out.new).tells ≡ (O.state out.old).tells }
     ensures cause { IfErr result IsPrinting }
 {
     let answer = answer_of_sums(alloc, &job.report, sums)?;
-    print_answers(alloc, clock, job, slice::from_ref(&answer), out)?;
+    print_usage(alloc, clock, job, names, &answer, out)?;
     Ok(())
 }
 
-/// Prints the job's report on the processes of the inputs that the sums are of.
-fn report_counted<O: Output>(
+/// Prints the parts of the files that were counted, and in text the report on all of them.
+fn report_files<O: Output>(
     alloc: Global,
     clock: &Clock,
     job: &Job,
-    sums: &Sums,
+    wanted: UsageWanted<'_>,
+    files: &[FileArg],
+    joined: &Joined,
     out: &mut O,
 ) -> Result<(), UsageFault>
     requires usage { IsUsage job.now.report }
     requires offset { IsOffset job.now.offset }
+    requires parts { All HasPart joined.now.parts.items }
     requires writable { IsWritable (O.state out.old) }
-    ensures writes { (inputs : List Told) → AreSummed inputs sums.now
-        → Prints (O.state out.old) (O.state out.new) result (unwritten_calls result) (output_told clock.now job.now inputs) }
+    ensures writes { (inputs : List Told) → AreSummed wanted.entry.choice inputs joined.now.total → AreAnswered wanted.entry.choice job.now.report inputs joined.now.parts.items
+        → Prints (O.state out.old) (O.state out.new) result (unwritten_calls result) (by_file_output clock.now job.now (wanted_of wanted.entry) (paths_of files.now) inputs) }
     ensures counts { (O.state out.new).failures ≡ (O.state out.old).failures + unwritten_calls result }
     ensures tells { (O.state out.new).tells ≡ (O.state out.old).tells }
     ensures cause { IfErr result IsPrinting }
 {
-    report_sums(alloc, clock, job, sums, out)
+    let names = wanted.names;
+    let parts = joined.parts.as_slice();
+    match job.form {
+        Form::Text => {
+            print_parts(alloc, clock, job, names, files, parts, out)?;
+            report_sums(alloc, clock, job, names, &joined.total, out)
+        }
+        Form::Csv => {
+            print_file_header(file_table(&job.report, names), out)?;
+            print_parts(alloc, clock, job, names, files, parts, out)?;
+            Ok(())
+        }
+    }
+}
+
+/// Prints the job's report on the files that were counted, as it is wanted.
+fn report_joined<O: Output>(
+    alloc: Global,
+    clock: &Clock,
+    job: &Job,
+    wanted: UsageWanted<'_>,
+    joined: &Joined,
+    out: &mut O,
+) -> Result<(), UsageFault>
+    requires usage { IsUsage job.now.report }
+    requires offset { IsOffset job.now.offset }
+    requires parts { All HasPart joined.now.parts.items }
+    requires writable { IsWritable (O.state out.old) }
+    ensures writes { (inputs : List Told) → AreSummed wanted.entry.choice inputs joined.now.total
+        → AreAnsweredWanted wanted.entry.choice (report_by_file wanted.entry job.now.report) inputs joined.now.parts.items
+        → Prints (O.state out.old) (O.state out.new) result (unwritten_calls result) (usage_printed clock.now job.now (wanted_of wanted.entry) inputs) }
+    ensures counts { (O.state out.new).failures ≡ (O.state out.old).failures + unwritten_calls result }
+    ensures tells { (O.state out.new).tells ≡ (O.state out.old).tells }
+    ensures cause { IfErr result IsPrinting }
+{
+    match wanted.by_file {
+        Some(files) => report_files(alloc, clock, job, wanted, files, joined, out),
+        None => report_sums(alloc, clock, job, wanted.names, &joined.total, out),
+    }
 }
 
 /// Sees that what was written arrives.
@@ -141,16 +186,18 @@ pub fn is_usage_run<I>(job: &Job, sources: &[Source<I>]) -> bool
     }
 }
 
-/// Counts each file of process records, several at once, and then prints the job's report on all of them, which is that of
-/// `run`. No record is kept, so a file, and all files together, may have 268,435,456 records, and the memory that is taken goes by
-/// the commands and users in them. Nothing is written before every file is found to be good. A fault is that of the first file at
-/// fault.
+/// Counts the chosen records of each file of process records, several at once, and then prints the job's report on them, as it is
+/// wanted. Where everything is wanted, it is that of `run`. By file it is in text that of each file alone and then that of all, and as
+/// a table the rows of each file alone. No record is kept, so a file may have 268,435,456 records, and as many may be chosen of all
+/// files together; the memory that is taken goes by the commands and users in them. Nothing is written before every file is found
+/// to be good. A fault is that of the first file at fault.
 pub fn run_usage<R: Threads + Sync, I: Input + Send, O: Output>(
     rt: &R,
     alloc: Global,
     keys: RandomState,
     clock: &Clock,
     job: &Job,
+    wanted: UsageWanted<'_>,
     sources: Vec<Source<I>>,
     out: &mut O,
 ) -> Result<(), UsageFault>
@@ -159,15 +206,17 @@ pub fn run_usage<R: Threads + Sync, I: Input + Send, O: Output>(
     requires procs { All IsOfProcs sources.items }
     requires readable { All (IsReadable I.failures) sources.items }
     requires writable { IsWritable (O.state out.old) }
-    ensures whole { OnOk result (IsWholeUsage I.to_come clock.now job.now sources.items (O.state out.old) (O.state out.new)) }
-    ensures failed { IfErr result (IsFailedUsage I.to_come I.can_fail clock.now job.now sources.items (O.state out.old) (O.state out.new)) }
+    ensures whole { OnOk result (IsWholeUsage I.to_come clock.now job.now (wanted_of wanted.entry) sources.items (O.state out.old) (O.state out.new)) }
+    ensures failed { IfErr result (IsFailedUsage I.to_come I.can_fail clock.now job.now (wanted_of wanted.entry) sources.items (O.state out.old) (O.state out.new)) }
     ensures callers { IsWrongNumber (length sources.items + job.now.askers)
         → result ≡ Err (callers_refused (length sources.items + job.now.askers)) }
     ensures counts { (O.state out.new).failures ≡ (O.state out.old).failures + unwritten_calls result }
     ensures tells { (O.state out.new).tells ≡ (O.state out.old).tells }
 {
     refuse_callers(sources.len(), job.askers)?;
-    let sums = count_sources(rt, alloc, keys, sources, job.feeders as usize)?;
-    report_counted(alloc, clock, job, &sums, out)?;
+    let report = report_by_file(job, wanted);
+    let feeders = job.feeders as usize;
+    let joined = count_sources(rt, alloc, keys, &wanted.choice, report, sources, feeders)?;
+    report_joined(alloc, clock, job, wanted, &joined, out)?;
     arrive(out)
 }

@@ -3,6 +3,7 @@ ghost use Rattle.std.specs.Prelude.{◌≡◌, ◌≢◌, ◌+◌, ◌-◌, ◌^
 ghost use Rattle.std.specs.Io.KnownBytes.{IsAtEnd};
 ghost use Rattle.tally_records.specs.Records.{IsProcs, procs_in, record_count};
 ghost use Rattle.tally_records.specs.declared.process.ProcRecord.{ProcRecord};
+ghost use Rattle.tally_usage.specs.Choice.{chosen};
 ghost use Rattle.tally_usage.specs.Sums.{AreSumsOf, CountsMore};
 ghost use Rattle.tally_usage.specs.declared.usage.TheConstants.{SUMS_LIMIT};
 ghost use Rattle.tally_desk.specs.Blocks.{block_size};
@@ -20,28 +21,29 @@ use crate::feeding::input::Input;
 use std::alloc::Global;
 use std::hash::RandomState;
 use tally_records::{BATCH_LIMIT, Batch, Kind};
-use tally_usage::{Sums, SumsFault};
+use tally_usage::{ProcChoice, Sums, SumsFault};
 
-/// Counts a batch too, for which there is room below the limit.
-fn count_batch(sums: &mut Sums, batch: &Batch) -> Result<(), FeedFault>
+/// Counts the chosen records of a batch too, for which there is room below the limit.
+fn count_batch(sums: &mut Sums, batch: &Batch, choice: &ProcChoice) -> Result<(), FeedFault>
     requires kind { IsProcs batch.now }
     requires room { (rs : List ProcRecord) × AreSumsOf sums.old rs × (length rs + record_count batch.now ≤ SUMS_LIMIT) }
-    ensures counted { OnOk result (CountsMore sums.old sums.new (procs_in batch.now)) }
+    ensures counted { OnOk result (CountsMore sums.old sums.new (chosen choice.now (procs_in batch.now))) }
     ensures memory { IfErr result (λ f. f ≡ fault.Memory) }
 {
-    match sums.add(batch) {
+    match sums.add_chosen(batch, choice) {
         Ok(()) => Ok(()),
         Err(SumsFault::Memory) => Err(FeedFault::Memory),
         Err(SumsFault::Full) => unreachable!(),
     }
 }
 
-/// Counts the input's blocks of 1,024 process records in order, up to its end or to its first block that is refused. More than
+/// Counts the chosen records of the input's blocks of 1,024 in order, up to its end or to its first block that is refused. More than
 /// `most` blocks are too many.
 fn count_blocks<I: Input>(
     alloc: Global,
     input: &mut I,
     sums: &mut Sums,
+    choice: &ProcChoice,
     most: u32,
 ) -> Result<(), FeedFault>
     requires empty { AreSumsOf sums.old [] }
@@ -52,7 +54,7 @@ fn count_blocks<I: Input>(
     ensures nature { I.can_fail input.new ≡ I.can_fail input.old }
     ensures some { OnOk result (AreSumsOfAtMost (most * 1024) sums.new) }
     ensures whole { OnOk result ((bytes : List ℕ) → I.to_come input.old ≡ Some bytes
-        → IsCounted most bytes sums.new) }
+        → IsCounted choice.now most bytes sums.new) }
     ensures stops { IfErr result (λ f. (bytes : List ℕ) → I.to_come input.old ≡ Some bytes
         → IsFirstFault most bytes f) }
     ensures place { IfErr result (IsStoppedAfter most) }
@@ -68,7 +70,7 @@ fn count_blocks<I: Input>(
         let Some(batch) = next_batch(alloc, Kind::Proc, input, &mut block, turn, most)? else {
             return Ok(());
         };
-        count_batch(sums, &batch)?;
+        count_batch(sums, &batch, choice)?;
         let records = batch.len();
         if records < BATCH_LIMIT {
             return Ok(());
@@ -97,9 +99,9 @@ fn fault_of_count(fault: FeedFault, most: u32) -> CountFault
     }
 }
 
-/// The sums of an input's process records. They are read by blocks of 1,024, and none is kept.
+/// The sums of the chosen of an input's process records. They are read by blocks of 1,024, and none is kept.
 ///
-/// At most `most` blocks are counted, up to 262,144 of them. The first fault of the input is named, which is that of `feed` where
+/// At most `most` blocks are read, up to 262,144 of them. The first fault of the input is named, which is that of `feed` where
 /// `most` is 1,024: `Torn` where the input ends inside a record, `Bad` where a record has no meaning, and `TooLong` where a byte
 /// follows `most` full blocks. `Memory` and `Read` come where memory runs out or the input fails before. It takes memory
 /// for one block and its batch, about 100 KiB, and for the groups of the sums, whose tables are hashed by the keys.
@@ -108,6 +110,7 @@ pub fn count_input<I: Input>(
     alloc: Global,
     keys: RandomState,
     input: &mut I,
+    choice: &ProcChoice,
     most: u32,
 ) -> Result<Sums, CountFault>
     requires few { most ≤ 262144 }
@@ -117,7 +120,7 @@ pub fn count_input<I: Input>(
     ensures nature { I.can_fail input.new ≡ I.can_fail input.old }
     ensures some { IfOk result (AreSumsOfAtMost (most * 1024)) }
     ensures whole { IfOk result (λ sums. (bytes : List ℕ) → I.to_come input.old ≡ Some bytes
-        → IsCounted most bytes sums) }
+        → IsCounted choice.now most bytes sums) }
     ensures stops { IfErr result (λ f. (bytes : List ℕ) → I.to_come input.old ≡ Some bytes
         → IsCountFault most bytes f) }
     ensures place { IfErr result (IsStoppedCount most) }
@@ -128,7 +131,7 @@ pub fn count_input<I: Input>(
         → (I.failures input.new ≡ I.failures input.old + 1) × (I.can_fail input.old ≡ true)) }
 {
     let mut sums = Sums::new(alloc, keys);
-    match count_blocks(alloc, input, &mut sums, most) {
+    match count_blocks(alloc, input, &mut sums, choice, most) {
         Ok(()) => Ok(sums),
         Err(fault) => Err(fault_of_count(fault, most)),
     }

@@ -10,6 +10,7 @@ use std::random::RandomSource;
 use std::sync::Wait;
 use tally_desk::{Bytes, CountFault, FeedFault, Input, Reading, count_input};
 use tally_records::{Kind, RecordFault};
+use tally_usage::ProcChoice;
 
 /// Asserts how many records are counted of an input, or why not.
 fn expect_counted<R: Abort + RandomSource, I: Input>(
@@ -22,7 +23,8 @@ fn expect_counted<R: Abort + RandomSource, I: Input>(
     requires few { most ≤ 262144 }
     requires countable { I.failures input < 2 ^ 64 - 1 }
 {
-    let outcome = count_input(alloc, new_keys(rt), &mut input, most);
+    let every = ProcChoice::every();
+    let outcome = count_input(alloc, new_keys(rt), &mut input, &every, most);
     drop(input);
     let count = match outcome {
         Ok(sums) => Ok(sums.total().count),

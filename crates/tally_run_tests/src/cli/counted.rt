@@ -13,7 +13,7 @@ use std::process::Abort;
 use std::random::RandomSource;
 use std::sync::Wait;
 use std::thread::Threads;
-use tally_cli::{Form, Job, Report, Source, UsageFault, is_usage_run, run_usage};
+use tally_cli::{Form, Job, Report, Source, UsageFault, UsageWanted, is_usage_run, run_usage};
 use tally_clock::Clock;
 use tally_desk::{Bytes, Input, OpenGate};
 use tally_print::{Kept, Output};
@@ -176,7 +176,8 @@ pub(crate) fn count<
     }
     let keys = made(rt, RandomState::new(rt));
     let clock = Clock::utc(rt.alloc());
-    run_usage(rt, rt.alloc(), keys, &clock, job, sources, out)
+    let every = UsageWanted::every();
+    run_usage(rt, rt.alloc(), keys, &clock, job, every, sources, out)
 }
 
 // The text of a fault.

@@ -130,6 +130,7 @@ fn is_wanted(answer: &Result<Line, LineFault>, wanted: Wanted<'_>) -> bool {
             Line::Run {
                 job,
                 times,
+                usage: _,
                 zone,
                 files,
             },

@@ -14,6 +14,6 @@ loop-at-preserved g c =
     let near : at < length ts = search rules in
     let is : x ≡ get_or us at x = get_or_default us at c.index-files-at.result x (omega (arith, near, before.counted.length_is)) in
     record {
-      counted = counted_more g.I.Input.to_come g.I.Input.can_fail ts us at x c.count_file.new.file near is before.counted c.count_file.ensures.came;
-      sums = sums_more g.I.Input.to_come g.I.Input.can_fail ts us at x c.count_file.new.file near is before.counted c.count_file.ensures.came before.sums c.if-not-count_file.ensures.done;
+      counted = counted_more c.args.choice.now g.I.Input.to_come g.I.Input.can_fail ts us at x c.count_file.new.file near is before.counted c.count_file.ensures.came;
+      sums = sums_more c.args.choice.now g.I.Input.to_come g.I.Input.can_fail ts us at x c.count_file.new.file near is before.counted c.count_file.ensures.came before.sums c.if-not-count_file.ensures.done;
     }

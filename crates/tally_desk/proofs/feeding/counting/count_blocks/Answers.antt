@@ -5,7 +5,7 @@ use Rattle.tally_records.specs.Records.{record_count}
 use Rattle.tally_records.specs.declared.batch.Kind.TheVariants.{Proc}
 use Rattle.tally_desk.specs.Blocks.{block_size}
 use Rattle.tally_desk.specs.Feeds.{IsFull}
-use Rattle.tally_desk.proofs.CountingLemmas.{count_few, count_last, place_after, place_in, turns_all, turns_within, begins_count, block_counted, has_room, more_counted, nothing_counted, end_is_reading, some_counted, told_block, told_fault, told_last, told_whole}
+use Rattle.tally_desk.proofs.CountingLemmas.{count_few, count_last, place_after, place_in, turns_all, turns_within, begins_count, block_counted, has_room, nothing_counted, end_is_reading, some_counted, told_block, told_fault, told_last, told_whole}
 use Rattle.tally_desk.proofs.ExitLemmas.{ends_at_none, ends_at_short, first_failed, holds_named, memory_is_no_read, still_below, within_named}
 use Rattle.tally_desk.proofs.FeedLemmas.{some_batch, takes_end, takes_some}
 use Rattle.tally_desk.proofs.TakeLemmas.{takes_next, takes_none}
@@ -20,7 +20,7 @@ loop-turn-init g c = record {
   room = holds_named c.block_size.result (block_size Proc) (vec_capacity c.in_ok-block.block) c.block_size.ensures c.in_ok-block.ensures.room;
   ready = within_named c.block_size.result (block_size Proc) (vec_len c.in_ok-block.block) c.block_size.ensures c.in_ok-block.ensures.ready;
   counted = nothing_counted _ c.requires.empty;
-  told = λ bytes told. begins_count c.args.most bytes _ _ c.requires.empty told;
+  told = λ bytes told. begins_count c.args.choice.now c.args.most bytes _ _ c.requires.empty told;
 }
 
 pub next_batch-requires-clause-countable : goal.next_batch-requires-clause-countable
@@ -76,7 +76,7 @@ returns-in_err-batch g c =
       whole = tt;
       stops = λ bytes told.
           let so_far = before.told bytes told in
-          told_fault c.args.most bytes _ c.loop-turn.sums c.loop-turn.turn _ so_far (failed.stops so_far.rest so_far.to_come);
+          told_fault c.args.choice.now c.args.most bytes _ c.loop-turn.sums c.loop-turn.turn _ so_far (failed.stops so_far.rest so_far.to_come);
       place = (c.loop-turn.turn, turns_within c.args.most _ c.loop-turn-test.true, place_in c.args.most c.loop-turn.turn _ failed.place);
       reading = failed.reading;
       failures = tt;
@@ -96,7 +96,7 @@ returns-in_default g c =
       whole = λ bytes told.
           let so_far = before.told bytes told in
           let end = takes_end c.args.most Proc _ c.loop-turn.turn so_far.rest _ c.in_default.is (taken.takes so_far.rest so_far.to_come) in
-          told_whole c.args.most bytes _ c.loop-turn.sums c.loop-turn.turn so_far end;
+          told_whole c.args.choice.now c.args.most bytes _ c.loop-turn.sums c.loop-turn.turn so_far end;
       stops = tt;
       place = tt;
       reading = tt;
@@ -134,11 +134,11 @@ returns-then-records-lt-BATCH_LIMIT g c =
       few = count_few c.args.most c.loop-turn.turn _ _ _ before.taken taken.few c.loop-turn-test.true;
       end = ends_at_short _ _ taken.end c.in-Some.batch c.in-Some.is short;
       nature = taken.nature ∙ before.nature;
-      some = more_counted c.args.most _ _ c.loop-turn.turn c.in-Some.batch before.counted (some_batch Proc _ c.in-Some.batch c.in-Some.is taken.batch) more c.loop-turn-test.true;
+      some = some_counted c.args.most _ _ (block_counted c.args.choice.now _ _ c.loop-turn.turn c.in-Some.batch before.counted (some_batch Proc _ c.in-Some.batch c.in-Some.is taken.batch) more) (omega (arith, c.loop-turn-test.true));
       whole = λ bytes told.
           let so_far = before.told bytes told in
           let takes = takes_some c.args.most Proc _ c.loop-turn.turn so_far.rest _ c.in-Some.batch c.in-Some.is (taken.takes so_far.rest so_far.to_come) in
-          told_last c.args.most bytes _ _ c.loop-turn.sums c.count_batch.new.sums c.loop-turn.turn c.in-Some.batch so_far takes more short;
+          told_last c.args.choice.now c.args.most bytes _ _ c.loop-turn.sums c.count_batch.new.sums c.loop-turn.turn c.in-Some.batch so_far takes more short;
       stops = tt;
       place = tt;
       reading = tt;
@@ -160,11 +160,11 @@ loop-turn-preserved g c =
       nature = next.nature ∙ before.nature;
       room = next.room;
       ready = next.ready;
-      counted = block_counted _ _ c.loop-turn.turn c.in-Some.batch before.counted batch more full;
+      counted = block_counted c.args.choice.now _ _ c.loop-turn.turn c.in-Some.batch before.counted batch more;
       told = λ bytes told.
           let so_far = before.told bytes told in
           let takes = takes_some c.args.most Proc _ c.loop-turn.turn so_far.rest _ c.in-Some.batch c.in-Some.is (next.takes so_far.rest so_far.to_come) in
-          told_block c.args.most bytes _ _ c.loop-turn.sums c.count_batch.new.sums c.loop-turn.turn c.in-Some.batch so_far takes more full;
+          told_block c.args.choice.now c.args.most bytes _ _ c.loop-turn.sums c.count_batch.new.sums c.loop-turn.turn c.in-Some.batch so_far takes more full;
     }
 
 pub returns-in_err-expect_end : goal.returns-in_err-expect_end
@@ -181,7 +181,7 @@ returns-in_err-expect_end g c =
       whole = tt;
       stops = λ bytes told.
           let so_far = before.told bytes told in
-          told_fault c.args.most bytes _ c.loop-turn.sums c.loop-turn.turn _ so_far
+          told_fault c.args.choice.now c.args.most bytes _ c.loop-turn.sums c.loop-turn.turn _ so_far
           (last_turn_stops c.args.most Proc c.loop-turn.turn so_far.rest _ last failed.err (λ long. failed.long long so_far.rest so_far.to_come));
       place = (c.loop-turn.turn, c.loop-turn.auto.turn-end, place_after c.args.most c.loop-turn.turn _ last failed.err);
       reading = end_is_reading _ failed.err;
@@ -201,7 +201,7 @@ returns g c =
       some = some_counted c.args.most _ _ before.counted c.loop-turn.auto.turn-end;
       whole = λ bytes told.
           let so_far = before.told bytes told in
-          told_whole c.args.most bytes _ c.loop-turn.sums c.loop-turn.turn so_far (subst IsAtEnd so_far.to_come ended.ok);
+          told_whole c.args.choice.now c.args.most bytes _ c.loop-turn.sums c.loop-turn.turn so_far (subst IsAtEnd so_far.to_come ended.ok);
       stops = tt;
       place = tt;
       reading = tt;

@@ -14,5 +14,5 @@ invariant-loop-turn g l = record {
   ready : vec_len l.block ≤ block_size Proc;
   counted : HasCounted l.sums l.turn;
   told : (bytes : List ℕ) → g.I.Input.to_come l.initial.input ≡ Some bytes
-      → ToldCount l.initial.most (g.I.Input.to_come l.input) l.sums l.turn bytes;
+      → ToldCount l.initial.choice l.initial.most (g.I.Input.to_come l.input) l.sums l.turn bytes;
 }

@@ -1,0 +1,173 @@
+//! A report by file: each file's part of it.
+ghost use Rattle.std.specs.Prelude.{◌≡◌, ◌++◌, ◌∷◌, [], IfSome, OnOk, codes, get_or};
+ghost use Rattle.std.specs.List.{All, flat_map};
+ghost use Rattle.tally_book.specs.Answers.{HasDays};
+ghost use Rattle.tally_cli.specs.UsageOutput.{file_rows, file_table, names_given, paths_of, usage_text};
+ghost use Rattle.tally_cli.specs.Usages.{IsUsage};
+ghost use Rattle.tally_cli.specs.inside.Parts.{HasPart, IsWithPart, part_text, report_lent};
+ghost use Rattle.tally_print.specs.FileUsage.{path_line};
+ghost use Rattle.tally_print.specs.Output.{IsWritable, Prints, failed_calls};
+ghost use Rattle.tally_print.specs.Tables.{csv_text};
+ghost use Rattle.tally_sessions.specs.Days.{IsOffset};
+
+use crate::running::counting::Count;
+use crate::running::naming::print_usage;
+use crate::running::usage::answer_of_sums;
+use std::alloc::Global;
+use tally_book::Answer;
+use tally_clock::Clock;
+use tally_line::{FileArg, Form, Job, Report};
+use tally_print::{
+    FileTable, Output, PrintFault, print_empty_line, print_file_commands, print_file_named_users,
+    print_file_users, print_path_line,
+};
+use tally_records::Memory;
+use tally_usage::UserNames;
+
+/// A file, counted from 0, and the answer to the report on it alone.
+#[derive(Drop)]
+pub(crate) struct FilePart {
+    pub(crate) file: u32,
+    pub(crate) answer: Answer,
+}
+
+/// Adds the part of a file whose count has sums, where parts are wanted for a report.
+pub(crate) fn add_part(
+    alloc: Global,
+    wanted: Option<&Report>,
+    file: u32,
+    count: &Count,
+    parts: &mut Vec<FilePart>,
+) -> Result<(), Memory>
+    requires usage { IfSome wanted (λ report. IsUsage report.now) }
+    ensures { OnOk result (IsWithPart (report_lent wanted.entry) file count.now parts.old.items parts.new.items) }
+{
+    match (wanted, count) {
+        (Some(report), Count::Sums(sums)) => {
+            let answer = answer_of_sums(alloc, report, sums)?;
+            match parts.push(FilePart { file, answer }) {
+                Ok(()) => Ok(()),
+                Err(_) => Err(Memory),
+            }
+        }
+        (Some(_), Count::Untried) | (Some(_), Count::Fault(_)) | (None, _) => Ok(()),
+    }
+}
+
+/// The table of a report by file.
+pub(crate) fn file_table(report: &Report, names: Option<&UserNames>) -> FileTable
+    ensures { result ≡ file_table report.now (names_given names.entry) }
+{
+    match (report, names) {
+        (Report::Users { .. }, Some(_)) => FileTable::NamedUsers,
+        (Report::Users { .. }, None) => FileTable::Users,
+        (Report::Last { .. }, _)
+        | (Report::Connect { .. }, _)
+        | (Report::Commands { .. }, _)
+        | (Report::All, _) => FileTable::Commands,
+    }
+}
+
+/// The path of a file, counted from 0.
+fn path_of(files: &[FileArg], file: u32) -> &str
+    ensures { result.now ≡ get_or (paths_of files.entry.now) file [] }
+{
+    match files.get(file as usize) {
+        Some(file) => file.path.as_str(),
+        None => "",
+    }
+}
+
+/// Prints the rows of a file with this number.
+fn print_rows<O: Output>(
+    alloc: Global,
+    names: Option<&UserNames>,
+    number: u32,
+    answer: &Answer,
+    out: &mut O,
+) -> Result<(), PrintFault>
+    requires writable { IsWritable (O.state out.old) }
+    ensures writes { Prints (O.state out.old) (O.state out.new) result (failed_calls result)
+        (csv_text (file_rows (names_given names.entry) number (answer.now ∷ []))) }
+{
+    match (names, answer) {
+        (_, Answer::Commands { rows, .. }) => {
+            print_file_commands(alloc, number, rows.as_slice(), out)
+        }
+        (Some(names), Answer::Users { rows, .. }) => {
+            print_file_named_users(alloc, number, names, rows.as_slice(), out)
+        }
+        (None, Answer::Users { rows, .. }) => {
+            print_file_users(alloc, number, rows.as_slice(), out)
+        }
+        (_, Answer::Last { .. }) | (_, Answer::Connect { .. }) => Ok(()),
+    }
+}
+
+/// Prints the report on a file below its path, and an empty line.
+fn print_section<O: Output>(
+    alloc: Global,
+    clock: &Clock,
+    job: &Job,
+    names: Option<&UserNames>,
+    path: &str,
+    answer: &Answer,
+    out: &mut O,
+) -> Result<(), PrintFault>
+    requires writable { IsWritable (O.state out.old) }
+    requires offset { IsOffset job.now.offset }
+    requires days { HasDays answer.now }
+    ensures writes { Prints (O.state out.old) (O.state out.new) result (failed_calls result)
+        (path_line path.now ++ (usage_text clock.now job.now (names_given names.entry) (answer.now ∷ []) ++ codes "\n")) }
+{
+    print_path_line(alloc, path, out)?;
+    print_usage(alloc, clock, job, names, answer, out)?;
+    print_empty_line(out)
+}
+
+/// Prints the part of a file in the job's form.
+fn print_part<O: Output>(
+    alloc: Global,
+    clock: &Clock,
+    job: &Job,
+    names: Option<&UserNames>,
+    files: &[FileArg],
+    part: &FilePart,
+    out: &mut O,
+) -> Result<(), PrintFault>
+    requires writable { IsWritable (O.state out.old) }
+    requires offset { IsOffset job.now.offset }
+    requires part { HasPart part.now }
+    ensures writes { Prints (O.state out.old) (O.state out.new) result (failed_calls result)
+        (part_text clock.now job.now (names_given names.entry) (paths_of files.now) part.now) }
+{
+    match job.form {
+        Form::Text => {
+            let path = path_of(files, part.file);
+            print_section(alloc, clock, job, names, path, &part.answer, out)
+        }
+        Form::Csv => print_rows(alloc, names, part.file + 1, &part.answer, out),
+    }
+}
+
+/// Prints the parts of files in their order.
+pub(crate) fn print_parts<O: Output>(
+    alloc: Global,
+    clock: &Clock,
+    job: &Job,
+    names: Option<&UserNames>,
+    files: &[FileArg],
+    parts: &[FilePart],
+    out: &mut O,
+) -> Result<(), PrintFault>
+    requires writable { IsWritable (O.state out.old) }
+    requires offset { IsOffset job.now.offset }
+    requires parts { All HasPart parts.now }
+    ensures writes { Prints (O.state out.old) (O.state out.new) result (failed_calls result)
+        (flat_map (part_text clock.now job.now (names_given names.entry) (paths_of files.now)) parts.now) }
+{
+    for part in parts {
+        print_part(alloc, clock, job, names, files, part, out)?;
+    }
+    Ok(())
+}
