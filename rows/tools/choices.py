@@ -1,22 +1,31 @@
-"""What a report is over, slowly: some users, some lines and a part of time."""
+"""What a report is over, slowly: some users, some lines and a part of time. Users of processes have numbers."""
 import math
 
 from moments import TRY_HELP, Refused
+from passwd import number_of
 
 MOST, LONGEST = 8, 32             # names of one kind, and the bytes of one
-MANY_USERS, MANY_LINES = ('error: --%s can be used eight times at most' % option + TRY_HELP for option in ('user', 'line'))
+MANY_USERS, MANY_LINES, MANY_UIDS = ('error: --%s can be used eight times at most' % option + TRY_HELP for option in ('user', 'line', 'uid'))
 NO_USER = 'error: --user takes a name of 1 to 32 bytes' + TRY_HELP
 NO_LINE = 'error: --line takes a name of 1 to 32 bytes, as tty1' + TRY_HELP
+NO_UID = 'error: --uid takes a number from 0 to 4294967295' + TRY_HELP
+NAMES_ALONE = 'error: --names cannot be used without -m' + TRY_HELP
 
 
 def look(job):
-    """Refuses the names of a job where they are too many, or one of them is too long or empty."""
+    """Refuses the names and numbers of a job where they are too many, or one of them is none; and names of users where no user is shown."""
     for option, many, other in (('user', MANY_USERS, NO_USER), ('line', MANY_LINES, NO_LINE)):
         names = job.get(option, [])
         if len(names) > MOST:
             raise Refused(many)
         if not all(1 <= len(name) <= LONGEST for name in names):
             raise Refused(other)
+    if len(job.get('uid', [])) > MOST:
+        raise Refused(MANY_UIDS)
+    if not all(number_of(word.encode()) is not None for word in job.get('uid', [])):
+        raise Refused(NO_UID)
+    if 'names' in job and not job.get('m'):
+        raise Refused(NAMES_ALONE)
 
 
 def is_chosen(job, stay):
@@ -44,3 +53,9 @@ def cut(stay, period):
     first, last = bounds(period)
     begin, end_time = max(first, stay['begin']), min(last, stay['end_time'])
     return dict(stay, begin=begin, end_time=end_time, seconds=max(0, end_time - begin))
+
+
+def is_process_chosen(job, process, period):
+    """Whether a process is of a user that is chosen, and began in the period."""
+    first, last = bounds(period)
+    return process['uid'] in map(int, job.get('uid', [process['uid']])) and first <= process['begin'] < last

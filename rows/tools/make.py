@@ -13,11 +13,14 @@ import struct
 import sys
 
 sys.dont_write_bytecode = True
+from by_file_rows import add_rows as add_by_file_rows
 from choice_faults import add_rows as add_choice_faults
 from choice_rows import add_rows as add_choice_rows
 from common import ROOMS, TOP
 from moment_rows import add_rows as add_moment_rows
 from moments import NO_RANGE
+from people_rows import add_example as add_people_example, add_rows as add_people_rows
+from usage_rows import add_example as add_usage_example, add_rows as add_usage_rows
 from zone_rows import BERLIN, add_rows as add_zone_rows
 
 
@@ -547,6 +550,15 @@ add_moment_rows(row, lines, U, ODD_OFFSET)
 add_choice_rows(row, lines, U, session)
 add_choice_faults(row, session)
 
+# --- some users and a period of processes, users by name
+
+add_usage_rows(row, lines, A, A3)
+add_people_rows(row, lines, A, A3)
+
+# --- usage of each file
+
+add_by_file_rows(row, lines, A)
+
 # --- closed standard streams
 
 BESIDE = 'A file and standard input, with '
@@ -645,6 +657,8 @@ row('example-users-of-a-build', 'sa,sa -m', 'The usage of each user of a small b
           '1000              6         0.89re         0.66cp       1433avio       3648k',
           '0                 1         0.10re         0.00cp         10avio        250k',
           '1001              1         0.01re         0.00cp         40avio        300k'), files={'build.acct': example('build.acct')})
+add_usage_example(row, lines, example)
+add_people_example(row, lines, example)
 
 # --- CSV
 
@@ -816,7 +830,8 @@ In a folder:
 Needs: `ac`, `last`, `sa`, `all` are the subcommands, with `ac -d` and the like for flags; `offset` is
 `--east` and `--west`; `clock` that clock changes move sessions; `files` several files; `feeders`, `askers`,
 `until`, `csv` and `zone` these options; `moment` that `--until` takes more than a number of seconds; `choice` reports on some users,
-some lines or a period; `version3` acct records of version 3; `big` an input of 402 MB; `full-device` /dev/full.
+some lines or a period; `uid` and `period` the same of `sa`, users by number; `names` the names of users from a file; `by-file` that `sa`
+reports on each file by itself; `version3` acct records of version 3; `big` an input of 402 MB; `full-device` /dev/full.
 
 What is refused with status 2 has no fixed text where it is that of the command line parser.
 

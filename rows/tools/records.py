@@ -53,13 +53,13 @@ def process(raw, at):
         raise Fault('record %d has version %d' % (at, version))
     if version == 2:
         user, system, real, mem, io = map(comp, struct.unpack_from('<5H', raw, 12))
-        name, (uid,) = raw[36:53], struct.unpack_from('<I', raw, 56)
+        name, (uid,), (begin,) = raw[36:53], struct.unpack_from('<I', raw, 56), struct.unpack_from('<I', raw, 8)
     else:
-        (uid,), (word,) = struct.unpack_from('<I', raw, 8), struct.unpack_from('<I', raw, 28)
+        (uid,), (begin,), (word,) = (struct.unpack_from('<I', raw, offset) for offset in (8, 24, 28))
         user, system, mem, io = map(comp, struct.unpack_from('<4H', raw, 32))
         real, name = elapsed(word), raw[48:64]
     cpu = user + system
-    return dict(name=text_of(name), forked=raw[0] % 2 == 1, uid=uid, real=real, cpu=cpu, io=io, mem_cpu=mem * cpu)
+    return dict(name=text_of(name), forked=raw[0] % 2 == 1, uid=uid, begin=begin, real=real, cpu=cpu, io=io, mem_cpu=mem * cpu)
 
 
 def records_of(kind, raw):

@@ -2,28 +2,31 @@
 
 Each rule looks at the whole list of records, as the definitions do. Nothing here is taken from the
 program's code or its output. Records stand in records.py, what a report is over in choices.py, moments and periods in moments.py,
-local time in clocks.py.
+local time in clocks.py, the names of users in passwd.py.
 """
 import csv
 import datetime
 import io
 
 import moments
-from choices import cut, is_chosen, is_met, look
+from choices import cut, is_chosen, is_met, is_process_chosen, look
 from clocks import fixed, of_zone
-from records import Fault, records_of
+from passwd import fault_of, name_in
+from records import Fault, records_of, text_of
 
 ENDS = {'Login': 'Next', 'Logout': 'Logout', 'Down': 'down', 'Boot': 'crash'}
 
 
 class Asked:
-    """What a job asks for: its clock, if it is no other, the moment up to which open stays are counted, its period, and its words."""
+    """What a job asks for: its clock, if it is no other, the moment up to which open stays are counted, its period, its file of users, and
+    its words."""
 
     def __init__(self, job, clock=None):
         look(job)
         self.job, self.limit, self.clock = job, job.get('limit'), clock or clock_of(job)
         self.until, self.period = moments.settled(job, self.clock)
         self.has_within = any(name in job for name in ('from', 'to', 'in'))
+        self.passwd = job['names'][1] if 'names' in job else None
 
     def has(self, flag):
         return self.job.get(flag, False)
@@ -195,10 +198,28 @@ def user_rows(records, by_calls, reverse):
     return sorted(rows, key=lambda row: (-row[1][order], row[0]), reverse=reverse)
 
 
-def users_text(records, by_calls, reverse):
+def user_word(uid, passwd):
+    """The name of a user in a file of users, or else the number."""
+    name = None if passwd is None else name_in(passwd, uid)
+    return '%d' % uid if name is None else shown(text_of(name))
+
+
+def users_text(records, by_calls, reverse, passwd):
     rows = user_rows(records, by_calls, reverse)
     text = '%-10s %s\n' % ('total', columns(usage(records)))
-    return text + ''.join('%-10d %s\n' % (uid, columns(use)) for uid, use in rows)
+    return text + ''.join('%-10s %s\n' % (user_word(uid, passwd), columns(use)) for uid, use in rows)
+
+
+def usage_text(records, asked):
+    if asked.has('m'):
+        return users_text(records, asked.has('n'), asked.has('r'), asked.passwd)
+    return sa_text(records, asked.has('a'), asked.has('n'), asked.has('r'))
+
+
+def usage_texts(parts, paths, asked):
+    """The text of the records of all files, and by file before it that of each file alone, below its path."""
+    each = ['%s:\n%s' % (shown(path.encode()), usage_text(records, asked)) for path, records in zip(paths, parts)]
+    return each * asked.has('by-file') + [usage_text(sum(parts, []), asked)]
 
 
 # Tables
@@ -240,15 +261,23 @@ def sums(use):
     return tuple(use[key] for key in ('count', 'real', 'cpu', 'io', 'mem_cpu'))
 
 
-def sa_table(records, show_all, by_calls, reverse):
-    rows = sa_rows(records, show_all, by_calls, reverse)
-    return table('command,forked,other,calls,real_ticks,cpu_ticks,io,mem_cpu',
-                 [(shown(row[0]), int(row[1]), int(row[2]), *sums(row[3])) for row in rows])
+def command_fields(records, asked):
+    return [(shown(row[0]), int(row[1]), int(row[2]), *sums(row[3])) for row in sa_rows(records, asked.has('a'), asked.has('n'), asked.has('r'))]
 
 
-def users_table(records, by_calls, reverse):
-    rows = user_rows(records, by_calls, reverse)
-    return table('uid,calls,real_ticks,cpu_ticks,io,mem_cpu', [(uid, *sums(use)) for uid, use in rows])
+def user_fields(records, asked):
+    rows, passwd = user_rows(records, asked.has('n'), asked.has('r')), asked.passwd
+    name = lambda uid: () if passwd is None else (shown(text_of(name_in(passwd, uid) or b'')),)
+    return [(uid, *name(uid), *sums(use)) for uid, use in rows]
+
+
+def usage_table(parts, asked):
+    """The rows of all files together, or by file those of each alone, after the number of the file."""
+    first = 'uid,' + 'name,' * (asked.passwd is not None) if asked.has('m') else 'command,forked,other,'
+    names, fields = first + 'calls,real_ticks,cpu_ticks,io,mem_cpu', user_fields if asked.has('m') else command_fields
+    if not asked.has('by-file'):
+        return table(names, fields(sum(parts, []), asked))
+    return table('file,' + names, [(number, *row) for number, records in enumerate(parts, 1) for row in fields(records, asked)])
 
 
 def clock_of(job):
@@ -256,11 +285,14 @@ def clock_of(job):
 
 
 def output(job, files):
-    """Status, standard output and standard error of a job over files, each a kind, a path and bytes."""
+    """Status, standard output and standard error of a job over files, each a kind, a path and bytes. A file of users is a path and bytes,
+    or None where it is not there."""
     try:
         asked = Asked(job)
     except moments.Refused as refused:
         return 2, '', str(refused)
+    if 'names' in job and fault_of(asked.passwd):
+        return 1, '', 'tally: %s: %s\n' % (job['names'][0], fault_of(asked.passwd))
     read = []
     for kind, path, raw in files:
         try:
@@ -268,21 +300,18 @@ def output(job, files):
         except Fault as fault:
             return 1, '', 'tally: %s: %s\n' % (path, fault)
     hosts = [records for kind, records in read if kind == 'w']
-    processes = [record for kind, records in read if kind == 'p' for record in records]
-    flag = asked.has
-    if flag('csv'):
+    parts = [[record for record in records if is_process_chosen(job, record, asked.period)] for kind, records in read if kind == 'p']
+    if asked.has('csv'):
         return 0, {
             'last': lambda: last_table(hosts, asked),
             'ac': lambda: ac_table(hosts, asked),
-            'sa': lambda: users_table(processes, flag('n'), flag('r')) if flag('m')
-            else sa_table(processes, flag('a'), flag('n'), flag('r')),
+            'sa': lambda: usage_table(parts, asked),
         }[job['command']](), ''
     lasts = [last_text(host, asked) for host in hosts]
     sections = {
         'last': lambda: lasts,
         'ac': lambda: [ac_text(hosts, asked)],
-        'sa': lambda: [users_text(processes, flag('n'), flag('r')) if flag('m')
-                       else sa_text(processes, flag('a'), flag('n'), flag('r'))],
-        'all': lambda: lasts + [ac_text(hosts, asked), sa_text(processes, False, False, False)],
+        'sa': lambda: usage_texts(parts, [path for _, path, _ in files], asked),
+        'all': lambda: lasts + [ac_text(hosts, asked), sa_text(sum(parts, []), False, False, False)],
     }[job['command']]()
     return 0, '\n'.join(sections), ''
