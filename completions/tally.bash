@@ -18,7 +18,7 @@ _tally() {
     case ${COMP_WORDS[1]} in
         last) options='-n --user --line -s --from -t --to --in -p --at --until --csv --feeders --east --west --zone -h --help' ;;
         ac) options='-d -p --user --line --from --to --in --until --csv --feeders --east --west --zone -h --help' ;;
-        sa) options='-a -m -n -r --csv --feeders --east --west --zone -h --help' ;;
+        sa) options='-a -m -n -r --uid --from --to --in --names --by-file --csv --feeders --east --west --zone -h --help' ;;
         all) options='--askers --until --feeders --east --west --zone -h --help' ;;
         help)
             COMPREPLY=($(compgen -W 'last ac sa all help' -- "$word"))
@@ -37,11 +37,15 @@ _tally() {
             COMPREPLY=($(compgen -u -- "$word"))
             return
             ;;
-        last:--until | ac:--until | all:--until | last:--from | ac:--from | last:--to | ac:--to | last:--at | last:-[stp])
+        last:--until | ac:--until | all:--until | last:--from | ac:--from | last:--to | ac:--to | sa:--from | sa:--to | last:--at | last:-[stp])
             COMPREPLY=($(compgen -W now -- "$word"))
             return
             ;;
-        last:--line | ac:--line | last:--in | ac:--in) return ;;
+        sa:--names)
+            COMPREPLY=($(compgen -f -- "$word"))
+            return
+            ;;
+        last:--line | ac:--line | last:--in | ac:--in | sa:--in | sa:--uid) return ;;
         last:-n | *:--feeders | *:--east | *:--west | *:--askers) return ;;
     esac
     case $word in
