@@ -2,9 +2,13 @@
 #![tactic(auto)]
 
 #[cfg(test)]
+mod attempts;
+#[cfg(test)]
 mod book;
 #[cfg(test)]
 mod equal;
+#[cfg(test)]
+mod failed;
 #[cfg(test)]
 mod makers;
 #[cfg(test)]

@@ -4,14 +4,15 @@ use Rattle.std.specs.Ordering.{nat_cmp}
 use Rattle.std.specs.Prelude.{codes}
 use Rattle.tally_records.specs.declared.batch.Kind.TheVariants.{Login, Proc}
 use Rattle.tally_records.specs.declared.fault.BatchFault.TheVariants.{Length, Bad}
-use Rattle.tally_records.specs.declared.fault.RecordFault.TheVariants.{LoginType, ProcVersion}
+use Rattle.tally_records.specs.declared.fault.RecordFault.TheVariants.{LoginType, OtherLogin, ProcVersion}
 use Rattle.tally_records.specs.declared.login.LoginRecord.{LoginRecord}
 use Rattle.tally_records.specs.declared.process.packed.Version.TheVariants.{Two, Three}
 use Rattle.tally_records.specs.Elapsed.{elapsed_of, rounded_down}
+use Rattle.tally_records.specs.FailedLogin.{failed_result}
 use Rattle.tally_records.specs.LoginRecord.{login_of, login_result}
 use Rattle.tally_records.specs.PackedProc.{elapsed_ticks}
 use Rattle.tally_records.specs.ProcRecord.{proc_result}
-use Rattle.tally_records.specs.Records.{Logins, Procs, kind_of, logins_of, procs_of, record_count}
+use Rattle.tally_records.specs.Records.{Logins, Procs, failed_logins_of, kind_of, logins_of, procs_of, record_count}
 use Rattle.tally_records.specs.Sorted.{in_order, insert_in_order}
 use Rattle.tally_records.specs.Text.{i16_at, i32_at, padded, text_of, u16_at, u32_at}
 
@@ -55,6 +56,21 @@ empty_login kind = record { kind = kind; line = replicate 32 0; user = replicate
 least_and_greatest : map login_of (replicate 384 0 ∷ (9 ∷ replicate 383 0) ∷ []) ≡ Some (empty_login 0) ∷ Some (empty_login 9) ∷ []
 unfolding i16_at i32_at u32_at u16_at text_of
 least_and_greatest = refl
+
+abbrev of_type : ℕ → List ℕ
+of_type kind = kind ∷ replicate 383 0
+
+-- a file of failed logins has types 0, 6 and 7 alone, and a type that is none is named as such
+failed_types : map failed_result (map of_type (0 ∷ 6 ∷ 7 ∷ 2 ∷ 8 ∷ 10 ∷ []))
+    ≡ Ok (empty_login 0) ∷ Ok (empty_login 6) ∷ Ok (empty_login 7) ∷ Err (OtherLogin 2) ∷ Err (OtherLogin 8) ∷ Err (LoginType (pos 10)) ∷ []
+unfolding i16_at i32_at u32_at u16_at text_of
+failed_types = refl
+
+-- its records are login records, and the first that is no failed login is named: of a boot after a failed login, the boot
+failed_files : failed_logins_of (of_type 6) ∷ failed_logins_of (of_type 6 ++ of_type 2 ++ of_type 8) ∷ failed_logins_of (replicate 385 6) ∷ failed_logins_of [] ∷ []
+    ≡ Ok (Logins (empty_login 6 ∷ [])) ∷ Err (Bad 1 (OtherLogin 2)) ∷ Err (Length 385) ∷ Ok (Logins []) ∷ []
+unfolding i16_at i32_at u32_at u16_at text_of
+failed_files = refl
 
 -- versions other than 2 and 3 are none, nor is that of a machine with the other order of bytes
 versions : map (λ version. proc_result (0 ∷ version ∷ replicate 62 0)) (0 ∷ 1 ∷ 4 ∷ 130 ∷ 131 ∷ []) ≡ Err (ProcVersion 0) ∷ Err (ProcVersion 1) ∷ Err (ProcVersion 4) ∷ Err (ProcVersion 130) ∷ Err (ProcVersion 131) ∷ []

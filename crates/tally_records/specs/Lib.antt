@@ -3,6 +3,7 @@ pub mod Compressed
 pub mod Decoding
 pub mod Elapsed
 pub mod Event
+pub mod FailedLogin
 pub mod LoginRecord
 pub mod NumberedProc
 pub mod PackedProc

@@ -8,6 +8,7 @@ use Rattle.tally_records.specs.declared.fault.BatchFault.TheVariants.{Memory, Le
 use Rattle.tally_records.specs.declared.batch.Kind.{Kind}
 use Rattle.tally_records.specs.declared.batch.Kind.TheVariants.{Login, Proc}
 use Rattle.tally_records.specs.Decoding.{decoded}
+use Rattle.tally_records.specs.FailedLogin.{failed_result}
 use Rattle.tally_records.specs.LoginRecord.{login_result}
 use Rattle.tally_records.specs.ProcRecord.{proc_result}
 use Rattle.tally_records.specs.declared.fault.RecordFault.{RecordFault}
@@ -72,6 +73,10 @@ batch_of batch read size bytes =
 -- the batch of login records that the bytes stand for, or why there is none
 abbrev pub logins_of : List ℕ → Result Records BatchFault
 logins_of bytes = batch_of Logins login_result 384 bytes
+
+-- the batch of failed logins that the bytes stand for, or why there is none
+abbrev pub failed_logins_of : List ℕ → Result Records BatchFault
+failed_logins_of bytes = batch_of Logins failed_result 384 bytes
 
 -- the batch of process records that the bytes stand for, or why there is none
 abbrev pub procs_of : List ℕ → Result Records BatchFault

@@ -7,6 +7,7 @@ ghost use Rattle.tally_records.specs.Records.{NamesRecordBelow};
 ghost use Rattle.tally_records.specs.inside.Lengths.{IsWrongLength};
 
 use crate::fault::{BatchFault, Memory};
+use crate::login::failed::check_failed;
 use crate::login::logins::Logins;
 use crate::login::{LOGIN_SIZE, LoginRecord};
 use crate::process::packed::{PackedProc, pack};
@@ -18,11 +19,13 @@ use std::sync::Arc;
 /// The most records that a batch holds.
 pub const BATCH_LIMIT: usize = 1024;
 
-/// The kinds of records.
+/// The kinds of files.
 #[derive(Clone, Copy, Debug, PartialEq, Eq)]
 pub enum Kind {
-    /// Login records of utmp(5).
+    /// Login records of utmp(5), as wtmp files have them. A batch of login records is of this kind.
     Login,
+    /// Login records of utmp(5) that are failed logins, as btmp files have them.
+    FailedLogin,
     /// Process records of acct(5).
     Proc,
 }
@@ -91,7 +94,7 @@ fn pack_procs(blocks: &[[u8; PROC_SIZE]], records: &mut Vec<PackedProc>) -> Resu
 
 impl Batch {
     ghost use Rattle.tally_records.specs.declared.batch.Kind.TheVariants.{Login, Proc};
-    ghost use Rattle.tally_records.specs.Records.{Records, Logins as as_logins, Procs as as_procs, IsAnswer, logins_of, procs_of, IsLogins, IsProcs, record_count, procs_in, login_at, proc_at, kind_of};
+    ghost use Rattle.tally_records.specs.Records.{Records, Logins as as_logins, Procs as as_procs, IsAnswer, failed_logins_of, logins_of, procs_of, IsLogins, IsProcs, record_count, procs_in, login_at, proc_at, kind_of};
 
     /// The login records of these bytes, `LOGIN_SIZE` bytes each. An empty slice is an empty batch.
     pub fn logins(alloc: Global, bytes: &[u8]) -> Result<Batch, BatchFault>
@@ -107,6 +110,19 @@ impl Batch {
             }),
             Err(_) => Err(BatchFault::Memory),
         }
+    }
+
+    /// The login records of these bytes, `LOGIN_SIZE` bytes each, where all are of types that failed logins have. An empty slice is an
+    /// empty batch.
+    pub fn failed_logins(alloc: Global, bytes: &[u8]) -> Result<Batch, BatchFault>
+        ensures exact { IsAnswer result (failed_logins_of bytes.now) }
+        ensures kind { IfOk result IsLogins }
+        ensures place { IfErr result (NamesRecordBelow (length bytes.now / LOGIN_SIZE)) }
+    {
+        count_records(bytes, LOGIN_SIZE)?;
+        let (blocks, _) = bytes.as_chunks::<LOGIN_SIZE>();
+        check_failed(blocks)?;
+        Batch::logins(alloc, bytes)
     }
 
     /// The process records of these bytes, `PROC_SIZE` bytes each. An empty slice is an empty batch.

@@ -24,6 +24,9 @@ pub enum RecordFault {
     /// The type of a login record, `ut_type` of utmp(5), is outside 0 to 9.
     #[error("login type {0}")]
     LoginType(i16),
+    /// A login record of this type is of no failed login: only 0, 6 and 7 of utmp(5) are.
+    #[error("login type {0}, which no failed login has")]
+    OtherLogin(u8),
     /// The version of a process record, `ac_version` of acct(5), is neither 2 nor 3.
     #[error("version {0}")]
     ProcVersion(u8),

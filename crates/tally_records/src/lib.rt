@@ -1,7 +1,7 @@
 //! Login records of utmp(5) and process records of acct(5): decoders, events, batches, and lists of plain values.
 //!
 //! `login` has the login record and its events: `logins` keeps many without the zeros after their
-//! texts, as a `head` and its `words` each, `decode` reads them, `events` and `key` look at the words
+//! texts, as a `head` and its `words` each, `decode` reads them, `failed` sees that they are failed logins, `events` and `key` look at the words
 //! alone. `process` has the process record: `packed` reads it, with the `name` of its command, and keeps
 //! its numbers as they are in a file, `numbered` does so with a number for the name, and `compressed` and
 //! `elapsed` work them out. A `batch` is of one kind, a `field` a text, a `list` is shared by its copies,

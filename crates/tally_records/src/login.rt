@@ -4,6 +4,7 @@ ghost use Rattle.tally_records.specs.Text.{i32_at};
 
 mod decode;
 mod events;
+pub(crate) mod failed;
 mod head;
 pub(crate) mod key;
 pub(crate) mod logins;

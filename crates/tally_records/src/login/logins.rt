@@ -94,6 +94,14 @@ impl Logins {
         put_texts(words, head, line, user, remote);
     }
 
+    /// The type of a record, `ut_type` of utmp(5).
+    pub fn kind(&self, index: usize) -> Option<u8>
+        ensures { result ≡ option_map (λ r. r.kind) (slice_get self.now index) }
+    {
+        let head = head_at(self.heads.as_slice(), index)?;
+        Some(head.kind)
+    }
+
     /// When a record was written.
     pub fn time(&self, index: usize) -> Option<i32>
         ensures { result ≡ option_map (λ r. r.time) (slice_get self.now index) }
