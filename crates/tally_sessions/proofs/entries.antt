@@ -1,4 +1,5 @@
 -- Stored entries.
 pub mod BatchLemmas
 pub mod Front
+pub mod HostPlaces
 pub mod Lending

@@ -4,6 +4,7 @@ ghost use Rattle.tally_sessions.specs.inside.Entries.{entry_at, record_in};
 ghost use Rattle.tally_sessions.specs.Lent.{entries_in};
 
 pub(crate) mod batches;
+mod hosts;
 pub(crate) mod iter;
 pub(crate) mod list;
 mod reads;

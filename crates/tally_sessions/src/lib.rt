@@ -1,7 +1,8 @@
 //! Sessions of login records: what ends each, how long it was, and what clock changes move.
 //!
 //! `entries` keeps the records: `list` stores them in batches, `batches` finds the batch of a place, `stored` is one
-//! record where it is kept, `reads` reads it, `iter` goes over all. `track` goes forward over those of one host:
+//! record where it is kept, `reads` reads it, `iter` goes over all, `hosts` finds those of one host. `track` goes forward over
+//! the records of one host:
 //! `rules` says what a record means, `ending` ends stays, `kept_ending` is an end if there is one, `ended` sums those that
 //! have ended, `name_table` finds lines and users, `questions` answers, `parts` has the sessions of a choice, `shown` the stays
 //! that it shows. `connect` has the rows of connect time: `chosen_sums` sums the sessions of a choice, `walk` goes over them, `cut` cuts one

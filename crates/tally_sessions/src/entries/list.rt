@@ -117,6 +117,15 @@ impl EntryList {
         self.batch(at).end()
     }
 
+    /// Where the batch of the entry at a place begins. Its entries are of one host.
+    pub(crate) fn batch_start(&self, at: usize) -> usize
+        requires { at < length self.now }
+        ensures before { result ≤ at }
+        ensures same { AreOf (entry_at self.now at).host self.now result (at + 1) }
+    {
+        self.batch(at).first
+    }
+
     /// Adds records as those of a host, or none.
     fn append(&mut self, host: u32, records: Arc<Logins, Global>) -> Result<(), Memory>
         requires room { length self.old + length (arc_value records) ≤ ENTRY_LIMIT }

@@ -38,6 +38,13 @@ impl StoredBatch {
 }
 
 impl<'a> StoredRecord<'a> {
+    /// Its type.
+    pub(crate) fn kind(self) -> u8
+        ensures { result ≡ (record_in self.entry).kind }
+    {
+        self.records.kind(self.place).unwrap()
+    }
+
     /// When it was written.
     pub(crate) fn time(self) -> i32
         ensures { result ≡ (record_in self.entry).time }
