@@ -1,0 +1,4 @@
+pub mod Attempts
+pub mod Laws
+pub mod Sums
+pub mod inside
