@@ -1,4 +1,5 @@
 pub mod AskLemmas
+pub mod ChosenOwn
 pub mod Growth
 pub mod Own
 pub mod Parts

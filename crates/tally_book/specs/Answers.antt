@@ -5,6 +5,8 @@ use Rattle.tally_book.specs.declared.question.Question.TheVariants as questions
 use Rattle.tally_book.specs.declared.question.Answer.{Answer}
 use Rattle.tally_book.specs.declared.question.Answer.TheVariants as answers
 use Rattle.tally_book.specs.declared.question.ConnectRow.{ConnectRow}
+use Rattle.tally_attempts.specs.Attempts.{latest_attempts}
+use Rattle.tally_attempts.specs.Sums.{attempt_sums}
 use Rattle.tally_clock.specs.Rows.{ClockRows}
 use Rattle.tally_sessions.specs.declared.entry.Entry.{Entry}
 use Rattle.tally_records.specs.declared.choice.LoginChoice.{LoginChoice}
@@ -27,6 +29,8 @@ IsAskable (questions.Last host limit choice until) = Unit {0}
 IsAskable (questions.Connect by_day by_user offset choice until) = IsOffset offset
 IsAskable (questions.Commands order reverse all) = Unit {0}
 IsAskable (questions.Users order reverse) = Unit {0}
+IsAskable (questions.Attempts host limit choice) = Unit {0}
+IsAskable (questions.AttemptSums limit choice) = Unit {0}
 
 -- the host that a question names is one of so many
 abbrev pub NamesHostBelow : ℕ → Question → Type 0
@@ -34,13 +38,17 @@ NamesHostBelow hosts (questions.Last host limit choice until) = host < hosts
 NamesHostBelow hosts (questions.Connect by_day by_user offset choice until) = Unit {0}
 NamesHostBelow hosts (questions.Commands order reverse all) = Unit {0}
 NamesHostBelow hosts (questions.Users order reverse) = Unit {0}
+NamesHostBelow hosts (questions.Attempts host limit choice) = host < hosts
+NamesHostBelow hosts (questions.AttemptSums limit choice) = Unit {0}
 
--- the question is for the stays of this host
+-- the question is for the stays or the failed logins of this host
 abbrev pub NamesHost : Question → ℕ → Type 0
 NamesHost (questions.Last host limit choice until) asked = host ≡ asked
 NamesHost (questions.Connect by_day by_user offset choice until) asked = ⊥
 NamesHost (questions.Commands order reverse all) asked = ⊥
 NamesHost (questions.Users order reverse) asked = ⊥
+NamesHost (questions.Attempts host limit choice) asked = host ≡ asked
+NamesHost (questions.AttemptSums limit choice) asked = ⊥
 
 -- the row of a user's connect time
 abbrev pub row_of_user : UserTime → ConnectRow
@@ -71,6 +79,8 @@ HasDays (answers.Last rows first) = Unit {0}
 HasDays (answers.Connect rows total) = All HasDay rows
 HasDays (answers.Commands rows total) = Unit {0}
 HasDays (answers.Users rows total) = Unit {0}
+HasDays (answers.Attempts rows first) = Unit {0}
+HasDays (answers.AttemptSums rows) = Unit {0}
 
 -- the answer over the stored entries, with days by a clock: each report is over what its question chooses
 unfoldable pub answer_of : ClockRows → Question → List Entry → List ProcEntry → Answer
@@ -82,3 +92,7 @@ answer_of clock (questions.Commands order reverse all) logins procs =
     answers.Commands (command_rows order all reverse (records_of procs)) (usage_of (records_of procs))
 answer_of clock (questions.Users order reverse) logins procs =
     answers.Users (user_rows order reverse (records_of procs)) (usage_of (records_of procs))
+answer_of clock (questions.Attempts host limit choice) logins procs =
+    answers.Attempts (latest_attempts host limit choice logins) (first_time host logins)
+answer_of clock (questions.AttemptSums limit choice) logins procs =
+    answers.AttemptSums (attempt_sums limit choice logins)

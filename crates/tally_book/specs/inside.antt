@@ -2,5 +2,6 @@
 pub mod Kept
 pub mod LoginStates
 pub mod LoginStores
+pub mod Ready
 pub mod Refusals
 pub mod RowSums

@@ -1,6 +1,9 @@
-//! Answers of sessions and a summary to questions.
+//! Answers of stored login entries and a summary to questions.
 ghost use Rattle.std.specs.Prelude.{◌≡◌, ◌≢◌, ◌<◌, ◌^◌, IfOk, IfErr, OnOk, false, true};
+ghost use Rattle.tally_attempts.specs.Attempts.{latest_attempts};
+ghost use Rattle.tally_attempts.specs.Sums.{attempt_sums};
 ghost use Rattle.tally_book.specs.Answers.{answer_of, connect_rows, HasDays, IsAskable, NamesHostBelow};
+ghost use Rattle.tally_book.specs.inside.Ready.{IsReady};
 ghost use Rattle.tally_book.specs.inside.Refusals.{IsNoSuchHost};
 ghost use Rattle.tally_book.specs.inside.RowSums.{AddUpTo, seconds_of};
 ghost use Rattle.tally_sessions.specs.Days.{IsOffset, local};
@@ -13,8 +16,10 @@ ghost use Rattle.tally_usage.specs.User.{user_rows};
 
 use crate::connect::connect_rows;
 use crate::fault::AskFault;
+use crate::logins::LoginStore;
 use crate::question::{Answer, ConnectRow, Question};
 use std::alloc::Global;
+use tally_attempts::{attempt_sums, first_time, latest_attempts};
 use tally_clock::Clock;
 use tally_records::{LoginChoice, Memory};
 use tally_sessions::Sessions;
@@ -26,7 +31,9 @@ pub(crate) fn check_host(hosts: u32, question: &Question) -> Result<(), AskFault
     ensures cause { IfErr result (IsNoSuchHost hosts question.now) }
 {
     match *question {
-        Question::Last { host, .. } if host >= hosts => Err(AskFault::NoSuchHost(host)),
+        Question::Last { host, .. } | Question::Attempts { host, .. } if host >= hosts => {
+            Err(AskFault::NoSuchHost(host))
+        }
         _ => Ok(()),
     }
 }
@@ -122,20 +129,47 @@ fn users_answer(
     Ok(Answer::Users { rows, total })
 }
 
+fn attempts_answer(
+    alloc: Global,
+    logins: &LoginStore,
+    host: u32,
+    limit: Option<u32>,
+    choice: &LoginChoice,
+) -> Result<Answer, Memory>
+    ensures { IfOk result (λ a. a ≡ Answer.Attempts (latest_attempts host limit choice.now logins.now.entries) (first_time host logins.now.entries)) }
+{
+    let rows = latest_attempts(alloc, logins.entries(), host, limit, choice)?;
+    let first = first_time(logins.entries(), host);
+    Ok(Answer::Attempts { rows, first })
+}
+
+fn attempt_sums_answer(
+    alloc: Global,
+    logins: &LoginStore,
+    limit: Option<u32>,
+    choice: &LoginChoice,
+) -> Result<Answer, Memory>
+    ensures { IfOk result (λ a. a ≡ Answer.AttemptSums (attempt_sums limit choice.now logins.now.entries)) }
+{
+    let rows = attempt_sums(alloc, logins.keys(), logins.entries(), limit, choice)?;
+    Ok(Answer::AttemptSums { rows })
+}
+
 /// The answer to a question, where there is memory for it.
 #[tactic(auto, unfolding(crate::specs::Answers::answer_of))]
 fn answer_in(
     alloc: Global,
     clock: &Clock,
-    sessions: &Sessions,
+    logins: &LoginStore,
     hosts: u32,
     summary: &Summary,
     question: &Question,
 ) -> Result<Answer, Memory>
-    requires hosts { hosts ≡ sessions.now.hosts }
+    requires hosts { hosts ≡ logins.now.hosts }
+    requires ready { IsReady question.now logins.now.is_counted }
     requires host { NamesHostBelow hosts question.now }
     requires askable { IsAskable question.now }
-    ensures value { IfOk result (λ a. a ≡ answer_of clock.now question.now sessions.now.entries summary.now.entries) }
+    ensures value { IfOk result (λ a. a ≡ answer_of clock.now question.now logins.now.entries summary.now.entries) }
     ensures days { IfOk result HasDays }
 {
     match question {
@@ -144,7 +178,7 @@ fn answer_in(
             limit,
             choice,
             until,
-        } => last_answer(alloc, sessions, *host, *limit, choice, *until),
+        } => last_answer(alloc, logins.counted(), *host, *limit, choice, *until),
         Question::Connect {
             by_day,
             by_user,
@@ -152,7 +186,14 @@ fn answer_in(
             choice,
             until,
         } => connect_answer(
-            alloc, clock, sessions, *by_day, *by_user, *offset, choice, *until,
+            alloc,
+            clock,
+            logins.counted(),
+            *by_day,
+            *by_user,
+            *offset,
+            choice,
+            *until,
         ),
         Question::Commands {
             order,
@@ -160,6 +201,14 @@ fn answer_in(
             all,
         } => commands_answer(alloc, summary, *order, *reverse, *all),
         Question::Users { order, reverse } => users_answer(alloc, summary, *order, *reverse),
+        Question::Attempts {
+            host,
+            limit,
+            choice,
+        } => attempts_answer(alloc, logins, *host, *limit, choice),
+        Question::AttemptSums { limit, choice } => {
+            attempt_sums_answer(alloc, logins, *limit, choice)
+        }
     }
 }
 
@@ -167,18 +216,19 @@ fn answer_in(
 pub(crate) fn answer(
     alloc: Global,
     clock: &Clock,
-    sessions: &Sessions,
+    logins: &LoginStore,
     hosts: u32,
     summary: &Summary,
     question: &Question,
 ) -> Result<Answer, AskFault>
-    requires hosts { hosts ≡ sessions.now.hosts }
+    requires hosts { hosts ≡ logins.now.hosts }
+    requires ready { IsReady question.now logins.now.is_counted }
     requires host { NamesHostBelow hosts question.now }
     requires askable { IsAskable question.now }
-    ensures value { IfOk result (λ a. a ≡ answer_of clock.now question.now sessions.now.entries summary.now.entries) }
+    ensures value { IfOk result (λ a. a ≡ answer_of clock.now question.now logins.now.entries summary.now.entries) }
     ensures days { IfOk result HasDays }
     ensures cause { IfErr result (λ f. f ≡ AskFault.Memory) }
 {
-    let answer = answer_in(alloc, clock, sessions, hosts, summary, question)?;
+    let answer = answer_in(alloc, clock, logins, hosts, summary, question)?;
     Ok(answer)
 }

@@ -213,15 +213,12 @@ impl Book {
         }
         check_host(self.callers, question)?;
         self.calls.reserve(1)?;
-        self.logins.count(alloc)?;
-        let Some(sessions) = self.logins.sessions() else {
-            unreachable!()
-        };
+        self.logins.count_for(alloc, question)?;
         let at = counts(&self.logins, &self.summary);
         let answer = answer(
             alloc,
             &self.clock,
-            sessions,
+            &self.logins,
             self.callers,
             &self.summary,
             question,

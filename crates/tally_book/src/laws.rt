@@ -20,4 +20,5 @@ pub fn host_order_is_enough()
         → (clock : ClockRows) (question : Question) → answer_of clock question logins procs ≡ answer_of clock question others rest }
 {
     tally_usage::record_order_is_free();
+    tally_attempts::record_order_is_free();
 }

@@ -4,7 +4,9 @@ ghost use Rattle.tally_records.specs.Records.{IsLogins, logins_in, record_count}
 ghost use Rattle.tally_sessions.specs.Hosts.{posted_by};
 ghost use Rattle.tally_sessions.specs.Lent.{entries_in};
 ghost use Rattle.tally_book.specs.inside.LoginStores.{entries_of, hosts_of, is_counted};
+ghost use Rattle.tally_book.specs.inside.Ready.{IsReady};
 
+use crate::question::Question;
 use std::alloc::Global;
 use std::hash::RandomState;
 use std::marker::Model;
@@ -177,7 +179,22 @@ impl LoginStore {
         self.keep(Sessions::of_entries(alloc, self.keys, self.hosts, entries))
     }
 
-    /// The same, by so many threads at most.
+    /// Sees that the sessions are kept where a question is about them.
+    pub(crate) fn count_for(&mut self, alloc: Global, question: &Question) -> Result<(), Memory>
+        ensures ready { OnOk result (IsReady question.now self.new.is_counted) }
+        ensures entries { self.new.entries ≡ self.old.entries }
+        ensures hosts { self.new.hosts ≡ self.old.hosts }
+    {
+        match question {
+            Question::Last { .. } | Question::Connect { .. } => self.count(alloc),
+            Question::Commands { .. }
+            | Question::Users { .. }
+            | Question::Attempts { .. }
+            | Question::AttemptSums { .. } => Ok(()),
+        }
+    }
+
+    /// Sees that the sessions are kept, counted by so many threads at most.
     pub(crate) fn count_by<R: Threads + Sync>(
         &mut self,
         rt: &R,
@@ -194,13 +211,20 @@ impl LoginStore {
         self.keep(Sessions::of_entries_by(rt, alloc, keys, hosts, entries, threads))
     }
 
-    /// The sessions, where they are kept.
-    pub(crate) fn sessions(&self) -> Option<&Sessions>
-        ensures { MatchOption result (self.now.is_counted ≡ false) (λ sessions. (sessions.now.entries ≡ self.now.entries) × (sessions.now.hosts ≡ self.now.hosts)) }
+    /// The sessions that are kept.
+    pub(crate) fn counted(&self) -> &Sessions
+        requires { self.now.is_counted ≡ true }
+        ensures entries { result.now.entries ≡ self.now.entries }
+        ensures hosts { result.now.hosts ≡ self.now.hosts }
     {
         match &self.kept {
-            Kept::Listed(_) => None,
-            Kept::Counted(sessions) => Some(sessions),
+            Kept::Listed(_) => unreachable!(),
+            Kept::Counted(sessions) => sessions,
         }
+    }
+
+    /// The keys that tables are hashed by.
+    pub(crate) fn keys(&self) -> RandomState {
+        self.keys
     }
 }

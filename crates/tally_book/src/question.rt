@@ -1,6 +1,7 @@
 ghost use Rattle.std.specs.Prelude.{◌≡◌, IfOk};
 
 use std::alloc::Global;
+use tally_attempts::{Attempt, AttemptSum};
 use tally_records::{List, LoginChoice, Memory, Name};
 use tally_sessions::Stay;
 use tally_usage::{CommandRow, Order, UidRow, Usage};
@@ -36,6 +37,17 @@ pub enum Question {
         order: Order,
         reverse: bool,
     },
+    /// The chosen failed logins of a host, the latest first, as lastb(8) lists them; the first `limit` of them.
+    Attempts {
+        host: u32,
+        limit: Option<u32>,
+        choice: LoginChoice,
+    },
+    /// How many of the chosen failed logins each user has from each remote host, the most first; the first `limit` rows.
+    AttemptSums {
+        limit: Option<u32>,
+        choice: LoginChoice,
+    },
 }
 
 /// Connect time of a day, of a user, or of both.
@@ -68,6 +80,14 @@ pub enum Answer {
         rows: List<UidRow>,
         total: Usage,
     },
+    /// `first` is the time of the host's first record.
+    Attempts {
+        rows: List<Attempt>,
+        first: Option<i32>,
+    },
+    AttemptSums {
+        rows: List<AttemptSum>,
+    },
 }
 
 impl Answer {
@@ -92,6 +112,15 @@ impl Answer {
                 rows: rows.try_copy(alloc)?,
                 total: *total,
             }),
+            Answer::Attempts { rows, first } => {
+                let rows = rows.try_copy(alloc)?;
+                let first = *first;
+                Ok(Answer::Attempts { rows, first })
+            }
+            Answer::AttemptSums { rows } => {
+                let rows = rows.try_copy(alloc)?;
+                Ok(Answer::AttemptSums { rows })
+            }
         }
     }
 }

@@ -37,7 +37,7 @@ pub(crate) fn check_room(stored: Counts, calls: usize, batch: &Batch) -> Result<
 {
     let count = batch.len() as u64;
     match batch.kind() {
-        Kind::Login if stored.logins + count > LOGIN_LIMIT as u64 => {
+        Kind::Login | Kind::FailedLogin if stored.logins + count > LOGIN_LIMIT as u64 => {
             return Err(PostFault::LoginsFull {
                 stored: stored.logins,
             });
@@ -47,7 +47,7 @@ pub(crate) fn check_room(stored: Counts, calls: usize, batch: &Batch) -> Result<
                 stored: stored.procs,
             });
         }
-        Kind::Login | Kind::Proc => {}
+        Kind::Login | Kind::FailedLogin | Kind::Proc => {}
     }
     if calls >= CALL_LIMIT {
         return Err(PostFault::CallsFull);
@@ -70,7 +70,7 @@ pub(crate) fn store(
     ensures procs { summary.new.entries ≡ (if is_ok result then summary.old.entries ++ entries_of host (procs_in batch.now) else summary.old.entries) }
 {
     match batch.kind() {
-        Kind::Login => logins.store(host, batch)?,
+        Kind::Login | Kind::FailedLogin => logins.store(host, batch)?,
         Kind::Proc => {
             summary.prepare(host, batch)?;
             summary.add(host, batch);

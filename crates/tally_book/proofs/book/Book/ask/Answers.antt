@@ -7,7 +7,6 @@ use Rattle.tally_book.specs.Answers.{answer_of}
 use Rattle.tally_book.specs.Books.{IsLegal, asked, counts_of}
 use Rattle.tally_book.specs.Contents.{Contents}
 use Rattle.tally_book.specs.inside.Kept.{contents_of}
-use Rattle.tally_book.specs.inside.LoginStates.{LoginState}
 use Rattle.tally_book.proofs.AskLemmas.{calls_full, calls_left, memory_refused, no_such_host, same_contents, still_sound}
 use Rattle.tally_book.proofs.Growth.{asked_legal}
 use Rattle.tally_book.proofs.book.Book.ask.Goals as goal
@@ -85,44 +84,47 @@ returns-in_err-reserve-clause-cause c =
 pub returns-in_err-reserve-clause-legal : goal.returns-in_err-reserve-clause-legal
 returns-in_err-reserve-clause-legal c = (invariant_of-self c).legal
 
-pub invariant_of-self-in_err-count : goal.invariant_of-self-in_err-count
-invariant_of-self-in_err-count c =
-    let after : Inside = record { callers = c.self.inside.callers; clock = c.self.inside.clock; logins = c.count.new.self; summary = c.self.inside.summary; calls = c.reserve.new.self } in
-    let same = same_contents c.self.inside after refl refl (ap (λ (s : LoginState). s.entries) c.in_err-count.ensures.refused) refl c.reserve.ensures.items in
-    still_sound c.self.inside after c.self.invariant (ap (λ (s : LoginState). s.hosts) c.in_err-count.ensures.refused) same
+pub invariant_of-self-in_err-count_for : goal.invariant_of-self-in_err-count_for
+invariant_of-self-in_err-count_for c =
+    let after : Inside = record { callers = c.self.inside.callers; clock = c.self.inside.clock; logins = c.count_for.new.self; summary = c.self.inside.summary; calls = c.reserve.new.self } in
+    let same = same_contents c.self.inside after refl refl c.in_err-count_for.ensures.entries refl c.reserve.ensures.items in
+    still_sound c.self.inside after c.self.invariant c.in_err-count_for.ensures.hosts same
 
-pub returns-in_err-count-clause-stored : goal.returns-in_err-count-clause-stored
-returns-in_err-count-clause-stored c =
-    let p = err_from_is_err_and c.from_residual-in_err-count.result c.from_residual-in_err-count.ensures.1 in
+pub returns-in_err-count_for-clause-stored : goal.returns-in_err-count_for-clause-stored
+returns-in_err-count_for-clause-stored c =
+    let p = err_from_is_err_and c.from_residual-in_err-count_for.result c.from_residual-in_err-count_for.ensures.1 in
     rw p.1 tt
 
-pub returns-in_err-count-clause-served : goal.returns-in_err-count-clause-served
-returns-in_err-count-clause-served c =
-    let p = err_from_is_err_and c.from_residual-in_err-count.result c.from_residual-in_err-count.ensures.1 in
+pub returns-in_err-count_for-clause-served : goal.returns-in_err-count_for-clause-served
+returns-in_err-count_for-clause-served c =
+    let p = err_from_is_err_and c.from_residual-in_err-count_for.result c.from_residual-in_err-count_for.ensures.1 in
     rw p.1 tt
 
-pub returns-in_err-count-clause-days : goal.returns-in_err-count-clause-days
-returns-in_err-count-clause-days c =
-    let p = err_from_is_err_and c.from_residual-in_err-count.result c.from_residual-in_err-count.ensures.1 in
+pub returns-in_err-count_for-clause-days : goal.returns-in_err-count_for-clause-days
+returns-in_err-count_for-clause-days c =
+    let p = err_from_is_err_and c.from_residual-in_err-count_for.result c.from_residual-in_err-count_for.ensures.1 in
     rw p.1 tt
 
-pub returns-in_err-count-clause-refused : goal.returns-in_err-count-clause-refused
-returns-in_err-count-clause-refused c =
-    let after : Inside = record { callers = c.self.inside.callers; clock = c.self.inside.clock; logins = c.count.new.self; summary = c.self.inside.summary; calls = c.reserve.new.self } in
-    let same = same_contents c.self.inside after refl refl (ap (λ (s : LoginState). s.entries) c.in_err-count.ensures.refused) refl c.reserve.ensures.items in
-    let p = err_from_is_err_and c.from_residual-in_err-count.result c.from_residual-in_err-count.ensures.1 in
+pub returns-in_err-count_for-clause-refused : goal.returns-in_err-count_for-clause-refused
+returns-in_err-count_for-clause-refused c =
+    let after : Inside = record { callers = c.self.inside.callers; clock = c.self.inside.clock; logins = c.count_for.new.self; summary = c.self.inside.summary; calls = c.reserve.new.self } in
+    let same = same_contents c.self.inside after refl refl c.in_err-count_for.ensures.entries refl c.reserve.ensures.items in
+    let p = err_from_is_err_and c.from_residual-in_err-count_for.result c.from_residual-in_err-count_for.ensures.1 in
     rw p.1 (same ∙ c.self.view_is)
 
-pub returns-in_err-count-clause-cause : goal.returns-in_err-count-clause-cause
-returns-in_err-count-clause-cause c =
-    let p = err_from_is_err_and c.from_residual-in_err-count.result c.from_residual-in_err-count.ensures.1 in
+pub returns-in_err-count_for-clause-cause : goal.returns-in_err-count_for-clause-cause
+returns-in_err-count_for-clause-cause c =
+    let p = err_from_is_err_and c.from_residual-in_err-count_for.result c.from_residual-in_err-count_for.ensures.1 in
     rw (p.1, p.2) (memory_refused c.self.inside c.args.self.now c.self.view_is c.len.result c.len.ensures c.args.question.now c.if-len-ge-CALL_LIMIT.false c.in_ok-check_host.ensures.host)
 
-pub returns-in_err-count-clause-legal : goal.returns-in_err-count-clause-legal
-returns-in_err-count-clause-legal c = (invariant_of-self-in_err-count c).legal
+pub returns-in_err-count_for-clause-legal : goal.returns-in_err-count_for-clause-legal
+returns-in_err-count_for-clause-legal c = (invariant_of-self-in_err-count_for c).legal
 
 pub answer-requires-clause-hosts : goal.answer-requires-clause-hosts
-answer-requires-clause-hosts c = sym (c.in-Some.ensures.1 ∙ ap (λ (s : LoginState). s.hosts) c.in_ok-count.ensures.counted ∙ c.self.invariant.hosts)
+answer-requires-clause-hosts c = sym (c.in_ok-count_for.ensures.hosts ∙ c.self.invariant.hosts)
+
+pub answer-requires-clause-ready : goal.answer-requires-clause-ready
+answer-requires-clause-ready c = c.in_ok-count_for.ensures.ready
 
 pub answer-requires-clause-host : goal.answer-requires-clause-host
 answer-requires-clause-host c = c.in_ok-check_host.ensures.host
@@ -132,9 +134,9 @@ answer-requires-clause-askable c = c.requires.askable
 
 pub invariant_of-self-in_err-answer : goal.invariant_of-self-in_err-answer
 invariant_of-self-in_err-answer c =
-    let after : Inside = record { callers = c.self.inside.callers; clock = c.self.inside.clock; logins = c.count.new.self; summary = c.self.inside.summary; calls = c.reserve.new.self } in
-    let same = same_contents c.self.inside after refl refl (ap (λ (s : LoginState). s.entries) c.in_ok-count.ensures.counted) refl c.reserve.ensures.items in
-    still_sound c.self.inside after c.self.invariant (ap (λ (s : LoginState). s.hosts) c.in_ok-count.ensures.counted) same
+    let after : Inside = record { callers = c.self.inside.callers; clock = c.self.inside.clock; logins = c.count_for.new.self; summary = c.self.inside.summary; calls = c.reserve.new.self } in
+    let same = same_contents c.self.inside after refl refl c.in_ok-count_for.ensures.entries refl c.reserve.ensures.items in
+    still_sound c.self.inside after c.self.invariant c.in_ok-count_for.ensures.hosts same
 
 pub returns-in_err-answer-clause-stored : goal.returns-in_err-answer-clause-stored
 returns-in_err-answer-clause-stored c =
@@ -153,8 +155,8 @@ returns-in_err-answer-clause-days c =
 
 pub returns-in_err-answer-clause-refused : goal.returns-in_err-answer-clause-refused
 returns-in_err-answer-clause-refused c =
-    let after : Inside = record { callers = c.self.inside.callers; clock = c.self.inside.clock; logins = c.count.new.self; summary = c.self.inside.summary; calls = c.reserve.new.self } in
-    let same = same_contents c.self.inside after refl refl (ap (λ (s : LoginState). s.entries) c.in_ok-count.ensures.counted) refl c.reserve.ensures.items in
+    let after : Inside = record { callers = c.self.inside.callers; clock = c.self.inside.clock; logins = c.count_for.new.self; summary = c.self.inside.summary; calls = c.reserve.new.self } in
+    let same = same_contents c.self.inside after refl refl c.in_ok-count_for.ensures.entries refl c.reserve.ensures.items in
     let p = err_from_is_err_and c.from_residual-in_err-answer.result c.from_residual-in_err-answer.ensures.1 in
     rw p.1 (same ∙ c.self.view_is)
 
@@ -168,9 +170,9 @@ returns-in_err-answer-clause-legal c = (invariant_of-self-in_err-answer c).legal
 
 pub invariant_of-self-in_err-asked : goal.invariant_of-self-in_err-asked
 invariant_of-self-in_err-asked c =
-    let after : Inside = record { callers = c.self.inside.callers; clock = c.self.inside.clock; logins = c.count.new.self; summary = c.self.inside.summary; calls = c.reserve.new.self } in
-    let same = same_contents c.self.inside after refl refl (ap (λ (s : LoginState). s.entries) c.in_ok-count.ensures.counted) refl c.reserve.ensures.items in
-    still_sound c.self.inside after c.self.invariant (ap (λ (s : LoginState). s.hosts) c.in_ok-count.ensures.counted) same
+    let after : Inside = record { callers = c.self.inside.callers; clock = c.self.inside.clock; logins = c.count_for.new.self; summary = c.self.inside.summary; calls = c.reserve.new.self } in
+    let same = same_contents c.self.inside after refl refl c.in_ok-count_for.ensures.entries refl c.reserve.ensures.items in
+    still_sound c.self.inside after c.self.invariant c.in_ok-count_for.ensures.hosts same
 
 pub returns-in_err-asked-clause-stored : goal.returns-in_err-asked-clause-stored
 returns-in_err-asked-clause-stored c =
@@ -189,8 +191,8 @@ returns-in_err-asked-clause-days c =
 
 pub returns-in_err-asked-clause-refused : goal.returns-in_err-asked-clause-refused
 returns-in_err-asked-clause-refused c =
-    let after : Inside = record { callers = c.self.inside.callers; clock = c.self.inside.clock; logins = c.count.new.self; summary = c.self.inside.summary; calls = c.reserve.new.self } in
-    let same = same_contents c.self.inside after refl refl (ap (λ (s : LoginState). s.entries) c.in_ok-count.ensures.counted) refl c.reserve.ensures.items in
+    let after : Inside = record { callers = c.self.inside.callers; clock = c.self.inside.clock; logins = c.count_for.new.self; summary = c.self.inside.summary; calls = c.reserve.new.self } in
+    let same = same_contents c.self.inside after refl refl c.in_ok-count_for.ensures.entries refl c.reserve.ensures.items in
     let p = err_from_is_err_and c.from_residual-in_err-asked.result c.from_residual-in_err-asked.ensures.1 in
     rw p.1 (same ∙ c.self.view_is)
 
@@ -206,11 +208,10 @@ pub invariant_of-self-2 : goal.invariant_of-self-2
 invariant_of-self-2 c =
     let b : Contents = contents_of c.self.inside in
     let question = c.args.question.now in
-    let logins : c.count.new.self.entries ≡ b.logins = ap (λ (s : LoginState). s.entries) c.in_ok-count.ensures.counted in
-    let lent : c.in-Some.sessions.now.entries ≡ b.logins = c.in-Some.ensures.0 ∙ logins in
+    let logins : c.count_for.new.self.entries ≡ b.logins = c.in_ok-count_for.ensures.entries in
     let at : c.counts-at.result ≡ counts_of b = λ i. record { logins = (c.counts-at.ensures.logins ∙ ap length logins) i; procs = c.counts-at.ensures.procs i } in
     let answered : c.in_ok-answer.answer ≡ answer_of b.clock question b.logins b.procs =
-    c.in_ok-answer.ensures.value ∙ ap (λ (es : List Entry). answer_of b.clock question es b.procs) lent in
+    c.in_ok-answer.ensures.value ∙ ap (λ (es : List Entry). answer_of b.clock question es b.procs) logins in
     let kept : c.in_ok-asked.asked ≡ Asked c.args.caller (counts_of b) question (answer_of b.clock question b.logins b.procs) =
     c.in_ok-asked.ensures.value ∙ (λ i. Asked c.args.caller (at i) question (answered i)) in
     let calls : c.record-call.new.calls.items ≡ (asked b c.args.caller question).calls =
@@ -219,7 +220,7 @@ invariant_of-self-2 c =
     let room = calls_left c.self.inside b refl c.len.result c.len.ensures c.if-len-ge-CALL_LIMIT.false in
     let legal : IsLegal (asked b c.args.caller question) = asked_legal b c.args.caller question c.self.invariant.legal near room c.in_ok-check_host.ensures.host in
     record {
-      hosts = ap (λ (s : LoginState). s.hosts) c.in_ok-count.ensures.counted ∙ c.self.invariant.hosts;
+      hosts = c.in_ok-count_for.ensures.hosts ∙ c.self.invariant.hosts;
       legal = subst IsLegal (λ i. record { callers = b.callers; clock = b.clock; logins = sym logins i; procs = b.procs; calls = sym calls i }) legal;
     }
 
