@@ -5,7 +5,7 @@ use Rattle.std.specs.List.{enumerate_from, filter_map, take_while}
 use Rattle.std.proofs.lemmas.List.Sums.{take_while-cons}
 use Rattle.tally_desk.specs.Batches.{record_size}
 use Rattle.tally_records.specs.declared.batch.Kind.{Kind}
-use Rattle.tally_records.specs.declared.batch.Kind.TheVariants.{Login, Proc}
+use Rattle.tally_records.specs.declared.batch.Kind.TheVariants.{Login, FailedLogin, Proc}
 use Rattle.tally_desk.proofs.Pieces.{pieces-more, pieces-nil}
 use Rattle.tally_desk.specs.Blocks.{block_fault, block_size, blocks, limited_fault}
 use Rattle.tally_desk.specs.declared.fault.FeedFault.{FeedFault}
@@ -25,10 +25,12 @@ good_from kind total index rest = good_of kind total (enumerate_from index (bloc
 
 pub block_size_some : (kind : Kind) → 0 < block_size kind
 block_size_some Login = omega arith
+block_size_some FailedLogin = omega arith
 block_size_some Proc = omega arith
 
 pub block_size_whole : (kind : Kind) → block_size kind % record_size kind ≡ 0
 block_size_whole Login = refl
+block_size_whole FailedLogin = refl
 block_size_whole Proc = refl
 
 more : (kind : Kind) (rest : List ℕ) → 0 < length rest → blocks kind rest ≡ take (block_size kind) rest ∷ blocks kind (drop (block_size kind) rest)

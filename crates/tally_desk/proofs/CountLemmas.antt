@@ -10,6 +10,7 @@ use Rattle.tally_records.specs.Records.{Records, kind_of, record_count}
 use Rattle.tally_book.specs.declared.fault.PostFault.{PostFault}
 use Rattle.tally_book.specs.declared.fault.PostFault.TheVariants as post
 use Rattle.tally_records.specs.declared.batch.Kind.{Kind}
+use Rattle.tally_desk.specs.Batches.{stored_kind}
 use Rattle.tally_desk.specs.Feeds.{AreOf, Counts, IsAfter, IsFull, IsStopped, Posts, refusal_of}
 use Rattle.tally_desk.specs.inside.Turns.{IsBatch, IsInBlock}
 use Rattle.tally_desk.specs.declared.fault.FeedFault.{FeedFault}
@@ -56,7 +57,7 @@ counts_full kind posts turn fed full batches records = (
 
 module _ (kind : Kind) (old mid new : PassState) (turn : ℕ) (full : FullPosts kind (Posts old mid) turn) (batch : Records) (is : IsBatch kind batch) (posted : Posts mid new (batch ∷ [])) where
   all_of_kind : AreOf kind (full.batches ++ batch ∷ [])
-  all_of_kind = All-push (λ b. kind_of b ≡ kind) full.batches batch full.of_kind is.of_kind
+  all_of_kind = All-push (λ b. kind_of b ≡ stored_kind kind) full.batches batch full.of_kind is.of_kind
 
   posted_all : Posts old new (full.batches ++ batch ∷ [])
   posted_all = posts_more old mid new full.batches (batch ∷ []) full.posted posted
@@ -107,7 +108,7 @@ full_cut kind old mid new turn fault full few same place = record {
 }
 
 pub full_none : (kind : Kind) (p : PassState) → FullPosts kind (Posts p p) 0
-full_none kind p = record { batches = []; posted = posts_none p p refl; count = refl; of_kind = All-nil (λ b. kind_of b ≡ kind); full = All-nil IsFull }
+full_none kind p = record { batches = []; posted = posts_none p p refl; count = refl; of_kind = All-nil (λ b. kind_of b ≡ stored_kind kind); full = All-nil IsFull }
 
 -- a refused post names no place
 pub unplaced : (kind : Kind) (count : ℕ) (refusal : PostFault) → IsAfter kind count (refusal_of refusal)

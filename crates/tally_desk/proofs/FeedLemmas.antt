@@ -5,7 +5,7 @@ use Rattle.std.specs.List.{All}
 use Rattle.std.specs.Prelude.{IfSome}
 use Rattle.tally_records.specs.Records.{Records, record_count}
 use Rattle.tally_records.specs.declared.batch.Kind.{Kind}
-use Rattle.tally_records.specs.declared.batch.Kind.TheVariants.{Login, Proc}
+use Rattle.tally_records.specs.declared.batch.Kind.TheVariants.{Login, FailedLogin, Proc}
 use Rattle.tally_desk.specs.Blocks.{block_fault, block_size, feed_fault, good_blocks}
 use Rattle.tally_desk.specs.Batches.{AreJoined, record_size, records_in}
 use Rattle.tally_book.specs.Contents.{Contents}
@@ -145,10 +145,12 @@ begins kind bytes now p tells = record { rest = bytes; to_come = tells; total = 
 
 count_full : (kind : Kind) (n : ℕ) → n / record_size kind ≡ 1024 → n ≤ block_size kind → n ≡ block_size kind
 count_full Login n is few = omega arith
+count_full FailedLogin n is few = omega arith
 count_full Proc n is few = omega arith
 
 count_short : (kind : Kind) (n : ℕ) → n / record_size kind < 1024 → n < block_size kind
 count_short Login n short = omega arith
+count_short FailedLogin n short = omega arith
 count_short Proc n short = omega arith
 
 module _ (kind : Kind) (bytes : List ℕ) (now : Option (List ℕ)) (old : PassState) where

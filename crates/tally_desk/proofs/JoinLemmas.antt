@@ -7,11 +7,12 @@ use Rattle.std.proofs.lemmas.Bool.{cases_lt}
 use Rattle.std.proofs.lemmas.Grind.{flat_map-append}
 use Rattle.std.proofs.lemmas.List.{drop_all, drop-drop, drop-take, length-drop, map-append, take_all, take-take}
 use Rattle.std.proofs.lemmas.List.Elements.{filter_map-append}
+use Rattle.tally_records.specs.FailedLogin.{failed_of}
 use Rattle.tally_records.specs.LoginRecord.{login_of}
 use Rattle.tally_records.specs.ProcRecord.{proc_of}
 use Rattle.tally_records.specs.Records.{Records, logins_in, procs_in}
 use Rattle.tally_records.specs.declared.batch.Kind.{Kind}
-use Rattle.tally_records.specs.declared.batch.Kind.TheVariants.{Login, Proc}
+use Rattle.tally_records.specs.declared.batch.Kind.TheVariants.{Login, FailedLogin, Proc}
 use Rattle.tally_desk.specs.Batches.{AreJoined, records_in, whole_pieces}
 use Rattle.tally_desk.specs.Blocks.{block_size}
 
@@ -73,22 +74,26 @@ logins_split : (kind : Kind) (rest : List ℕ) → logins_in (records_in kind re
     ≡ logins_in (records_in kind (take (block_size kind) rest)) ++ logins_in (records_in kind (drop (block_size kind) rest))
 unfolding records_in
 logins_split Login rest = ap (filter_map login_of) (login_pieces rest) ∙ filter_map-append login_of (whole_pieces 384 (take 393216 rest)) (whole_pieces 384 (drop 393216 rest))
+logins_split FailedLogin rest = ap (filter_map failed_of) (login_pieces rest) ∙ filter_map-append failed_of (whole_pieces 384 (take 393216 rest)) (whole_pieces 384 (drop 393216 rest))
 logins_split Proc rest = refl
 
 procs_split : (kind : Kind) (rest : List ℕ) → procs_in (records_in kind rest)
     ≡ procs_in (records_in kind (take (block_size kind) rest)) ++ procs_in (records_in kind (drop (block_size kind) rest))
 unfolding records_in
 procs_split Login rest = refl
+procs_split FailedLogin rest = refl
 procs_split Proc rest = ap (filter_map proc_of) (proc_pieces rest) ∙ filter_map-append proc_of (whole_pieces 64 (take 65536 rest)) (whole_pieces 64 (drop 65536 rest))
 
 no_logins : (kind : Kind) → logins_in (records_in kind []) ≡ []
 unfolding records_in
 no_logins Login = refl
+no_logins FailedLogin = refl
 no_logins Proc = refl
 
 no_procs : (kind : Kind) → procs_in (records_in kind []) ≡ []
 unfolding records_in
 no_procs Login = refl
+no_procs FailedLogin = refl
 no_procs Proc = refl
 
 -- the records of some blocks and of the rest are all

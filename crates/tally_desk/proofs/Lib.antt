@@ -21,6 +21,7 @@ pub mod RefusalLemmas
 pub mod Seats
 pub mod TakeLemmas
 pub mod Tickets
+pub mod TornLemmas
 pub mod Totals
 pub mod TurnLemmas
 pub mod WorkedRows

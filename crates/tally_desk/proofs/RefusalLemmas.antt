@@ -6,7 +6,8 @@ use Rattle.tally_book.specs.declared.fault.PostFault.{PostFault}
 use Rattle.tally_book.specs.declared.fault.PostFault.TheVariants as post
 use Rattle.tally_records.specs.Records.{Records, Logins, Procs, kind_of, logins_in, procs_in}
 use Rattle.tally_records.specs.declared.batch.Kind.{Kind}
-use Rattle.tally_records.specs.declared.batch.Kind.TheVariants.{Login, Proc}
+use Rattle.tally_records.specs.declared.batch.Kind.TheVariants.{Login, FailedLogin, Proc}
+use Rattle.tally_desk.specs.Batches.{stored_kind}
 use Rattle.tally_desk.specs.Feeds.{IsFeedRefusal, IsFullFor, Refuses, refusal_of}
 use Rattle.tally_desk.specs.inside.Turns.{IsBatch, IsReadFault}
 use Rattle.tally_desk.specs.declared.fault.FeedFault.{FeedFault}
@@ -22,6 +23,12 @@ no_refusal kind seen (Bad at fault) reading = tt
 no_refusal kind seen (LoginsFull stored) reading = absurd reading
 no_refusal kind seen (ProcsFull stored) reading = absurd reading
 no_refusal kind seen CallsFull reading = absurd reading
+
+-- process records alone are stored as process records
+stored_procs : (kind : Kind) → stored_kind kind ≡ Proc → kind ≡ Proc
+stored_procs Login e = cc
+stored_procs FailedLogin e = cc
+stored_procs Proc e = refl
 
 module _ (seen : Contents) (legal : IsLegal seen) where
   -- only a batch of login records finds their list full
@@ -39,5 +46,5 @@ module _ (seen : Contents) (legal : IsLegal seen) where
   pub post_refusal : (kind : Kind) (batch : Records) (refusal : PostFault) → IsBatch kind batch → Refuses seen batch refusal → IsFeedRefusal kind seen (refusal_of refusal)
   post_refusal kind batch post.Memory is cause = tt
   post_refusal kind batch (post.LoginsFull stored) is cause = (sym is.of_kind ∙ logins_full batch (omega (arith, cause.0, cause.1)), full_for kind batch (post.LoginsFull stored) is cause)
-  post_refusal kind batch (post.ProcsFull stored) is cause = (sym is.of_kind ∙ procs_full batch (omega (arith, cause.0, cause.1)), full_for kind batch (post.ProcsFull stored) is cause)
+  post_refusal kind batch (post.ProcsFull stored) is cause = (stored_procs kind (sym is.of_kind ∙ procs_full batch (omega (arith, cause.0, cause.1))), full_for kind batch (post.ProcsFull stored) is cause)
   post_refusal kind batch post.CallsFull is cause = full_for kind batch post.CallsFull is cause

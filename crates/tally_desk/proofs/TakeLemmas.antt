@@ -2,7 +2,7 @@
 use Rattle.std.proofs.Common.{◌≡◌, ◌≤◌, ◌<◌, ◌+◌, ◌*◌, ◌++◌, [], ℕ, List, Option, subst, arith, length-append}
 use Rattle.std.proofs.KnownBytes.{Consumes-nil, Consumes-trans}
 use Rattle.tally_records.specs.declared.batch.Kind.{Kind}
-use Rattle.tally_records.specs.declared.batch.Kind.TheVariants.{Login, Proc}
+use Rattle.tally_records.specs.declared.batch.Kind.TheVariants.{Login, FailedLogin, Proc}
 use Rattle.tally_desk.specs.Blocks.{block_size}
 use Rattle.tally_desk.specs.Takings.{TakesAtMost}
 
@@ -19,14 +19,17 @@ takes_named size named a b same taken = subst (λ (n : ℕ). TakesAtMost n a b) 
 
 few_blocks : (kind : Kind) (turn : ℕ) → turn < 1024 → turn * block_size kind + block_size kind ≤ 1024 * block_size kind + 1
 few_blocks Login turn early = omega arith
+few_blocks FailedLogin turn early = omega arith
 few_blocks Proc turn early = omega arith
 
 next_block : (kind : Kind) (turn : ℕ) → turn * block_size kind + block_size kind ≤ (turn + 1) * block_size kind
 next_block Login turn = omega arith
+next_block FailedLogin turn = omega arith
 next_block Proc turn = omega arith
 
 all_blocks : (kind : Kind) (turn more : ℕ) → turn ≤ 1024 → more ≤ 1 → turn * block_size kind + more ≤ 1024 * block_size kind + 1
 all_blocks Login turn more early few = omega arith
+all_blocks FailedLogin turn more early few = omega arith
 all_blocks Proc turn more early few = omega arith
 
 -- a feed took so many blocks

@@ -5,11 +5,11 @@ use Rattle.std.proofs.lemmas.List.{drop_all, take_all}
 use Rattle.std.specs.Io.KnownBytes.{Consumes, IsAtEnd}
 use lib.Seq.{take-append-le}
 use Rattle.tally_records.specs.Records.{Records, kind_of, record_count}
-use Rattle.tally_desk.specs.Batches.{record_size, records_in}
+use Rattle.tally_desk.specs.Batches.{record_size, records_in, stored_kind}
 use Rattle.tally_records.specs.declared.batch.Kind.{Kind}
-use Rattle.tally_records.specs.declared.batch.Kind.TheVariants.{Login, Proc}
+use Rattle.tally_records.specs.declared.batch.Kind.TheVariants.{Login, FailedLogin, Proc}
 use Rattle.tally_desk.specs.Blocks.{block_size, limited_fault}
-use Rattle.tally_desk.specs.inside.Turns.{Gives, IsBatch, IsReadFault, TakesBlock, TurnStops}
+use Rattle.tally_desk.specs.inside.Turns.{Gives, IsBatch, IsBlockRefusal, IsReadFault, TakesBlock, TurnStops}
 use Rattle.tally_desk.specs.declared.fault.FeedFault.{FeedFault}
 use Rattle.tally_desk.specs.declared.fault.FeedFault.TheVariants.{Memory, Read, Torn, TooLong, Bad, LoginsFull, ProcsFull, CallsFull}
 use Rattle.tally_desk.proofs.BlockLemmas.{any_total, block_size_whole}
@@ -40,17 +40,20 @@ module _ (block : List ℕ) (n size : ℕ) (within : n ≤ length block) (few : 
         ap (drop size) parts ∙ drop_at (take n block) ys size (filled_length ∙ omega arith)
   ]
 
-kind_of_records : (kind : Kind) (bytes : List ℕ) → kind_of (records_in kind bytes) ≡ kind
+kind_of_records : (kind : Kind) (bytes : List ℕ) → kind_of (records_in kind bytes) ≡ stored_kind kind
 unfolding records_in
 kind_of_records Login bytes = refl
+kind_of_records FailedLogin bytes = refl
 kind_of_records Proc bytes = refl
 
 some_records : (kind : Kind) (n : ℕ) → n % record_size kind ≡ 0 → 0 < n → 0 < n / record_size kind
 some_records Login n whole some = omega arith
+some_records FailedLogin n whole some = omega arith
 some_records Proc n whole some = omega arith
 
 few_records : (kind : Kind) (n : ℕ) → n ≤ block_size kind → n / record_size kind ≤ 1024
 few_records Login n few = omega arith
+few_records FailedLogin n few = omega arith
 few_records Proc n few = omega arith
 
 pub read_fault : (expected : Option FeedFault) (f : FeedFault) → Gives expected f → IsReadFault f
@@ -101,6 +104,33 @@ module _ (most : ℕ) (kind : Kind) (turn : ℕ) (block : List ℕ) (n : ℕ) (w
         count = count ∙ ap (λ (b : List ℕ). length b / record_size kind) (sym front);
         left_is = ap Some (sym (back_is block n (block_size kind) within few rest ys taken end));
       }
+
+  -- its fault stops a turn that has the bytes to come
+  stops_before : (rest ys : List ℕ) → rest ≡ take n block ++ ys → (n < block_size kind → ys ≡ []) → 0 < n → (f : FeedFault)
+      → IsBlockRefusal most kind turn (take n block) f → TurnStops most kind turn rest f
+  stops_before rest ys parts end any f refusal = by f refusal
+    where
+      some : 0 < length rest
+      some = some_left rest ys parts (let long : length (take n block) ≡ n = filled_length block n (block_size kind) within few in omega arith)
+
+      same : (g : FeedFault) → IsBlockRefusal most kind turn (take n block) g
+          → Gives (limited_fault most kind (turn * block_size kind + length rest) (turn, take (block_size kind) rest)) g
+      same g = subst (λ (e : Option FeedFault). Gives e g) (sym (same_fault rest ys parts end))
+
+      by : (g : FeedFault) → IsBlockRefusal most kind turn (take n block) g → TurnStops most kind turn rest g
+      by Memory is = tt
+      by Read is = tt
+      by (Torn records torn) is = (some, same (Torn records torn) is)
+      by TooLong is = (some, same TooLong is)
+      by (Bad at fault) is = (some, same (Bad at fault) is)
+      by (LoginsFull stored) is = absurd is
+      by (ProcsFull stored) is = absurd is
+      by CallsFull is = absurd is
+
+  pub stops_here : (rest : List ℕ) (left : Option (List ℕ)) → 0 < n → Consumes (Some rest) left (take n block) → (n < block_size kind → IsAtEnd left) → (f : FeedFault)
+      → IsBlockRefusal most kind turn (take n block) f → TurnStops most kind turn rest f
+  stops_here rest None any taken end f refusal = absurd taken
+  stops_here rest (Some ys) any taken end f refusal = stops_before rest ys taken end any f refusal
 
   -- what a block of whole records has
   pub is_batch : (batch : Records) → 0 < n → length (take n block) % record_size kind ≡ 0 → batch ≡ records_in kind (take n block)

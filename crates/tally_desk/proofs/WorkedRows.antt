@@ -1,8 +1,12 @@
 -- Worked examples, computed by the definitions.
-use Rattle.std.proofs.Common.{◌≡◌, [], ◌∷◌, replicate, Some, None, Err, refl}
-use Rattle.tally_records.specs.declared.batch.Kind.TheVariants.{Login, Proc}
+use Rattle.std.proofs.Common.{◌≡◌, ℕ, List, [], ◌∷◌, ◌++◌, map, replicate, Some, None, Err, refl}
+use Rattle.tally_records.specs.declared.batch.Kind.TheVariants.{Login, FailedLogin, Proc}
 use Rattle.tally_records.specs.declared.fault.BatchFault.TheVariants as batch
 use Rattle.tally_records.specs.declared.fault.RecordFault.TheVariants as record_fault
+use Rattle.tally_records.specs.Records.{logins_in}
+use Rattle.tally_records.specs.Text.{i16_at, i32_at, text_of, u16_at, u32_at}
+use Rattle.tally_records.specs.declared.login.LoginRecord.{LoginRecord}
+use Rattle.tally_desk.specs.Batches.{records_in, stored_kind}
 use Rattle.tally_desk.specs.Blocks.{bad_record, block_fault, limited_fault, pieces}
 use Rattle.tally_desk.specs.declared.fault.FeedFault.TheVariants.{Torn, TooLong, Bad}
 
@@ -26,3 +30,25 @@ too_long = refl
 -- of an input of at most one block the second is too long, and of at most two it is torn
 limited : limited_fault 1 Proc 65537 (1, 2 ∷ []) ∷ limited_fault 2 Proc 65537 (1, 2 ∷ []) ∷ [] ≡ Some TooLong ∷ Some (Torn 1024 1) ∷ []
 limited = refl
+
+-- failed logins are stored as login records: one of type 6, and of a boot and of a logout none
+abbrev of_type : ℕ → List ℕ
+of_type kind = kind ∷ replicate 383 0
+
+kinds : map stored_kind (Login ∷ FailedLogin ∷ Proc ∷ []) ≡ Login ∷ Login ∷ Proc ∷ []
+kinds = refl
+
+failed : map (λ (r : LoginRecord). r.kind) (logins_in (records_in FailedLogin (of_type 2 ++ of_type 6 ++ of_type 8))) ≡ 6 ∷ []
+unfolding records_in i16_at i32_at u32_at u16_at text_of
+failed = refl
+
+-- a block of failed logins with a boot is bad, where it is one of logins it is good
+boots : block_fault FailedLogin 768 (0, of_type 6 ++ of_type 2) ∷ block_fault Login 768 (0, of_type 6 ++ of_type 2) ∷ [] ≡ Some (Bad 1 (record_fault.OtherLogin 2)) ∷ None ∷ []
+unfolding i16_at i32_at u32_at u16_at text_of
+boots = refl
+
+-- and so it is before a torn end, where logins with a type that is none are torn; failed logins alone are torn too
+before_end : block_fault FailedLogin 769 (0, of_type 6 ++ of_type 2 ++ 7 ∷ []) ∷ block_fault Login 769 (0, of_type 6 ++ of_type 10 ++ 7 ∷ []) ∷ block_fault FailedLogin 769 (0, of_type 6 ++ of_type 7 ++ 7 ∷ []) ∷ []
+    ≡ Some (Bad 1 (record_fault.OtherLogin 2)) ∷ Some (Torn 2 1) ∷ Some (Torn 2 1) ∷ []
+unfolding i16_at i32_at u32_at u16_at text_of
+before_end = refl

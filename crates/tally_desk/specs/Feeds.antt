@@ -10,7 +10,7 @@ use Rattle.tally_book.specs.Deeds.{Deed, Post}
 use Rattle.tally_book.specs.Refusals.{IsPostRefusal}
 use Rattle.tally_book.specs.declared.fault.PostFault.{PostFault}
 use Rattle.tally_book.specs.declared.fault.PostFault.TheVariants as post
-use Rattle.tally_desk.specs.Batches.{AreJoined, record_size, records_in}
+use Rattle.tally_desk.specs.Batches.{AreJoined, record_size, records_in, stored_kind}
 use Rattle.tally_desk.specs.Blocks.{feed_fault, good_blocks}
 use Rattle.tally_desk.specs.Passes.{PassState, deeds}
 use Rattle.tally_desk.specs.declared.fault.FeedFault.{FeedFault}
@@ -29,9 +29,9 @@ Posts old new batches = deeds new ≡ deeds old ++ map post_of batches
 abbrev pub IsFull : Records → Type 0
 IsFull batch = record_count batch ≡ 1024
 
--- the batches are of one kind
+-- the batches are of the kind in which files of a kind are stored
 abbrev pub AreOf : Kind → List Records → Type 0
-AreOf kind batches = All (λ batch. kind_of batch ≡ kind) batches
+AreOf kind batches = All (λ batch. kind_of batch ≡ stored_kind kind) batches
 
 -- batches of a kind, as many as counted, none empty, and each but the last full
 pub record Counts (kind : Kind) (posts : List Records) (fed : Fed) : Type 0 where
@@ -99,16 +99,16 @@ pub record IsStopped (kind : Kind) (posts : List Records → Type 0) (fault : Fe
   pub few : length batches ≤ 1024
   pub place : IsAfter kind (length batches) fault
 
--- what was seen refuses the post of some batch of this kind
+-- what was seen refuses the post of some batch of the kind in which files of a kind are stored
 pub record IsFullFor (kind : Kind) (seen : Contents) (refusal : PostFault) : Type 0 where
   pub batch : Records
-  pub of_kind : kind_of batch ≡ kind
+  pub of_kind : kind_of batch ≡ stored_kind kind
   pub few : record_count batch ≤ 1024
   pub cause : Refuses seen batch refusal
 
--- a full list is that of the kind, and a full book is one that was seen
+-- a full list is that in which files of the kind are stored, and a full book is one that was seen
 abbrev pub IsFeedRefusal : Kind → Contents → FeedFault → Type 0
-IsFeedRefusal kind seen (LoginsFull stored) = (kind ≡ Login) × IsFullFor kind seen (post.LoginsFull stored)
+IsFeedRefusal kind seen (LoginsFull stored) = (stored_kind kind ≡ Login) × IsFullFor kind seen (post.LoginsFull stored)
 IsFeedRefusal kind seen (ProcsFull stored) = (kind ≡ Proc) × IsFullFor kind seen (post.ProcsFull stored)
 IsFeedRefusal kind seen CallsFull = IsFullFor kind seen post.CallsFull
 IsFeedRefusal kind seen fault = ⊤

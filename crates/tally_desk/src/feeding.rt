@@ -71,8 +71,8 @@ fn expect_end<I: Input>(input: &mut I) -> Result<(), FeedFault>
 }
 
 /// Posts the input's blocks of 1,024 records in order, up to its end or to its first block that is
-/// refused. The gate comes before each post, with the number of those before. It waits
-/// for the caller's turns.
+/// refused. Failed logins are stored as login records. The gate comes before each post, with the
+/// number of those before. It waits for the caller's turns.
 pub fn feed<R: Wait, I: Input, G: Gate>(
     rt: &R,
     alloc: Global,

@@ -2,6 +2,7 @@
 
 mod calls;
 mod counting;
+mod failed;
 mod feeding;
 mod makers;
 mod readers;

@@ -2,7 +2,7 @@
 use Rattle.std.specs.Prelude.{◌≡◌, ◌+◌, ◌*◌, ◌/◌, ◌<◌, ◌≤◌, ℕ, List, [], Option, Some, None, ⊤, drop, length, take}
 use Rattle.tally_records.specs.Records.{Records, kind_of, record_count}
 use Rattle.tally_records.specs.declared.batch.Kind.{Kind}
-use Rattle.tally_desk.specs.Batches.{batch_of, record_size, records_in}
+use Rattle.tally_desk.specs.Batches.{batch_of, record_size, records_in, stored_kind}
 use Rattle.tally_desk.specs.Blocks.{bad_record, block_size, limited_fault}
 use Rattle.tally_desk.specs.declared.fault.FeedFault.{FeedFault}
 use Rattle.tally_desk.specs.declared.fault.FeedFault.TheVariants.{Memory, Read, Torn, TooLong, Bad, LoginsFull, ProcsFull, CallsFull}
@@ -48,9 +48,9 @@ IsReadFault (ProcsFull stored) = ⊥
 IsReadFault CallsFull = ⊥
 IsReadFault fault = ⊤
 
--- a batch of some records of a kind, and not too many
+-- a batch of some records of the kind in which files of a kind are stored, and not too many
 pub record IsBatch (kind : Kind) (batch : Records) : Type 0 where
-  pub of_kind : kind_of batch ≡ kind
+  pub of_kind : kind_of batch ≡ stored_kind kind
   pub some : 0 < record_count batch
   pub few : record_count batch ≤ 1024
 

@@ -1,10 +1,10 @@
 //! One block of an input.
-ghost use Rattle.std.specs.Prelude.{◌≡◌, ◌≢◌, ◌+◌, ◌-◌, ◌*◌, ◌^◌, ◌<◌, ◌≤◌, ◌/◌, ◌%◌, IfErr, IfOk, IfSome, OnErr, OnOk, Ok, None, Some, List, ℕ, length, slice_range, take, true, vec_capacity, vec_len};
+ghost use Rattle.std.specs.Prelude.{◌≡◌, ◌≢◌, ◌+◌, ◌-◌, ◌*◌, ◌^◌, ◌<◌, ◌≤◌, ◌/◌, ◌%◌, IfErr, IfNone, IfOk, IfSome, OnErr, OnOk, Ok, None, Some, List, ℕ, length, slice_range, take, true, vec_capacity, vec_len};
 ghost use Rattle.std.specs.Io.KnownBytes.{Consumes, IsAtEnd};
 ghost use Rattle.tally_desk.specs.Batches.{batch_of, record_size, records_in};
-ghost use Rattle.tally_desk.specs.Blocks.{limited_fault, block_size};
+ghost use Rattle.tally_desk.specs.Blocks.{block_size, fault_before_end, limited_fault, torn_fault};
 ghost use Rattle.tally_desk.specs.Takings.{TakesAtMost};
-ghost use Rattle.tally_desk.specs.inside.Turns.{IsLast, IsBatch, IsBatchRefusal, IsBlockRefusal, IsInBlock, IsReadFault, Takes, TurnStops};
+ghost use Rattle.tally_desk.specs.inside.Turns.{Gives, IsLast, IsBatch, IsBatchRefusal, IsBlockRefusal, IsInBlock, IsReadFault, Takes, TurnStops};
 ghost use Rattle.tally_desk.specs.declared.fault.FeedFault.TheVariants as fault;
 ghost use Rattle.tally_records.specs.Records.{IsAnswer, NamesRecordBelow, record_count};
 
@@ -21,7 +21,7 @@ pub(crate) fn record_size(kind: Kind) -> usize
     ensures { result ≡ record_size kind }
 {
     match kind {
-        Kind::Login => LOGIN_SIZE,
+        Kind::Login | Kind::FailedLogin => LOGIN_SIZE,
         Kind::Proc => PROC_SIZE,
     }
 }
@@ -137,6 +137,7 @@ fn read_batch(alloc: Global, kind: Kind, bytes: &[u8]) -> Result<Batch, BatchFau
 {
     match kind {
         Kind::Login => Batch::logins(alloc, bytes),
+        Kind::FailedLogin => Batch::failed_logins(alloc, bytes),
         Kind::Proc => Batch::procs(alloc, bytes),
     }
 }
@@ -164,7 +165,43 @@ fn block_batch(alloc: Global, kind: Kind, bytes: &[u8], turn: u32) -> Result<Bat
     }
 }
 
+/// The bad record of a block that is named in the place of its torn end: of failed logins the first one before it, since of them
+/// the fault that stands first is named.
+#[tactic(auto, using(crate::proofs::TornLemmas::whole_length))]
+fn fault_before_end(alloc: Global, kind: Kind, bytes: &[u8], turn: u32) -> Option<FeedFault>
+    requires room { length bytes.now ≤ block_size kind }
+    ensures some { IfSome result (Gives (fault_before_end kind (turn, bytes.now))) }
+    ensures place { IfSome result (IsInBlock kind turn) }
+    ensures none { IfNone result (fault_before_end kind (turn, bytes.now) ≡ None) }
+{
+    let size = record_size(kind);
+    let whole = &bytes[..bytes.len() / size * size];
+    match kind {
+        Kind::FailedLogin => block_batch(alloc, kind, whole, turn).err(),
+        Kind::Login | Kind::Proc => None,
+    }
+}
+
+/// Why a block that ends inside a record is refused.
+#[tactic(auto, using(crate::proofs::TornLemmas::before_gives, crate::proofs::TornLemmas::torn_here))]
+fn torn_fault(alloc: Global, kind: Kind, bytes: &[u8], turn: u32) -> FeedFault
+    requires room { length bytes.now ≤ block_size kind }
+    requires torn { length bytes.now % record_size kind ≢ 0 }
+    ensures fault { Gives (Some (torn_fault kind (turn * block_size kind + length bytes.now) (turn, bytes.now))) result }
+    ensures place { IsInBlock kind turn result }
+{
+    if let Some(fault) = fault_before_end(alloc, kind, bytes, turn) {
+        return fault;
+    }
+    let size = record_size(kind);
+    FeedFault::Torn {
+        records: u64::from(turn) * 1024 + (bytes.len() / size) as u64,
+        rest: (bytes.len() % size) as u64,
+    }
+}
+
 /// The batch of the bytes of a block.
+#[tactic(auto, using(crate::proofs::TornLemmas::torn_refusal))]
 fn whole_batch(
     alloc: Global,
     kind: Kind,
@@ -183,17 +220,14 @@ fn whole_batch(
     ensures err { IfErr result (IsBlockRefusal most kind turn bytes.now) }
     ensures place { IfErr result (IsInBlock kind turn) }
 {
-    let size = record_size(kind);
-    if bytes.len() % size != 0 {
-        return Err(FeedFault::Torn {
-            records: u64::from(turn) * 1024 + (bytes.len() / size) as u64,
-            rest: (bytes.len() % size) as u64,
-        });
+    if bytes.len() % record_size(kind) != 0 {
+        return Err(torn_fault(alloc, kind, bytes, turn));
     }
     block_batch(alloc, kind, bytes, turn)
 }
 
 /// The batch of the input's next block, or none at the end of the input.
+#[tactic(auto, using(crate::proofs::TurnLemmas::stops_here))]
 pub(crate) fn next_batch<I: Input>(
     alloc: Global,
     kind: Kind,
