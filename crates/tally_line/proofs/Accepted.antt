@@ -95,7 +95,7 @@ abbrev wants_files : Shape → Bool
 wants_files s = not s.subcommand_negates_reqs && (list_all fills s.rules && list_any (λ a. a.required && bytes_eq a.id (codes "file")) s.rules)
 
 abbrev names_report : Text → Bool
-names_report name = bytes_eq name (codes "last") || (bytes_eq name (codes "ac") || (bytes_eq name (codes "sa") || bytes_eq name (codes "all")))
+names_report name = bytes_eq name (codes "last") || (bytes_eq name (codes "lastb") || (bytes_eq name (codes "ac") || (bytes_eq name (codes "sa") || bytes_eq name (codes "all"))))
 
 -- a subcommand without other names: that for help, or a report's
 abbrev is_known : Shape → Bool
@@ -104,11 +104,14 @@ is_known s = is_empty s.aliases && (bytes_eq s.name (codes "help") || (wants_fil
 named_report : (name : Text) → names_report name ≡ true → (r : Report) × (name ≡ name_of r)
 named_report name e = elim (either (bytes_eq name (codes "last")) _ e) [
   | inl is ↦ (report.Last None every_login false, same_text name (codes "last") is)
-  | inr others ↦ elim (either (bytes_eq name (codes "ac")) _ others) [
-    | inl is ↦ (report.Connect false false every_login, same_text name (codes "ac") is)
-    | inr rest ↦ elim (either (bytes_eq name (codes "sa")) _ rest) [
-      | inl is ↦ (report.Users Cpu false, same_text name (codes "sa") is)
-      | inr is ↦ (report.All, same_text name (codes "all") is)
+  | inr later ↦ elim (either (bytes_eq name (codes "lastb")) _ later) [
+    | inl is ↦ (report.Attempts None every_login, same_text name (codes "lastb") is)
+    | inr others ↦ elim (either (bytes_eq name (codes "ac")) _ others) [
+      | inl is ↦ (report.Connect false false every_login, same_text name (codes "ac") is)
+      | inr rest ↦ elim (either (bytes_eq name (codes "sa")) _ rest) [
+        | inl is ↦ (report.Users Cpu false, same_text name (codes "sa") is)
+        | inr is ↦ (report.All, same_text name (codes "all") is)
+      ]
     ]
   ]
 ]

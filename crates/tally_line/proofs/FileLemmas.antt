@@ -1,13 +1,14 @@
 -- Words and the files that they name.
 use Rattle.std.proofs.Common.{◌≡◌, ◌∙◌, ◌<◌, ◌+◌, ℕ, List, [], ◌∷◌, ◌++◌, map, take, length, ap, ap₂, sym, subst, refl, arith}
-use Rattle.std.specs.Prelude.{slice_index_or, string_bytes}
+use Rattle.std.specs.Prelude.{Option, None, Some, slice_index_or, string_bytes, unwrap_or}
 use Rattle.std.specs.Borrow.{Bor}
 use Rattle.std.specs.List.{All}
 use Rattle.std.proofs.lemmas.List.{get_or-map, length-map, map-append, take-map, take_more}
-use Rattle.std.proofs.lemmas.List.Elements.{All-nil, All-cons, All-push}
+use Rattle.std.proofs.lemmas.List.Elements.{All-cons, All-head, All-nil, All-push, All-tail}
 use Rattle.clap.specs.Walk.{texts}
 use Rattle.clap.specs.Words.{Text}
-use Rattle.tally_line.specs.FileWords.{HasPrefix, IsFirstBare, NamesFiles, Reads, word_of}
+use Rattle.tally_records.specs.declared.batch.Kind.{Kind}
+use Rattle.tally_line.specs.FileWords.{HasPrefix, IsFirstBare, NamesFiles, Reads, prefix_of, word_of}
 use Rattle.tally_line.specs.declared.line.FileArg.{FileArg}
 use Rattle.tally_line.specs.declared.job.Report.{Report}
 use Rattle.tally_line.specs.declared.job.Report.TheVariants as report
@@ -16,10 +17,18 @@ use Rattle.tally_line.specs.declared.job.Report.TheVariants as report
 abbrev pub words_of : Report → List FileArg → List Text
 words_of r = map (λ file. word_of r file.kind (string_bytes file.path))
 
+-- a path after the prefix of its kind
+prefixed : (kind : Kind) (path : Text) → Reads report.All kind → HasPrefix (word_of report.All kind path)
+prefixed kind path reads = go (prefix_of kind) refl
+  where
+    go : (prefix : Option Text) → prefix_of kind ≡ prefix → HasPrefix (word_of report.All kind path)
+    go None is = absurd (reads is)
+    go (Some prefix) is = (kind, prefix, path, is, ap (λ p. unwrap_or p [] ++ path) is)
+
 -- words that name files to all reports have prefixes
-pub prefixes : (files : List FileArg) → All HasPrefix (words_of report.All files)
-prefixes [] = All-nil HasPrefix
-prefixes (file ∷ files) = All-cons HasPrefix _ _ (file.kind, string_bytes file.path, refl) (prefixes files)
+pub prefixes : (files : List FileArg) → All (λ file. Reads report.All file.kind) files → All HasPrefix (words_of report.All files)
+prefixes [] kinds = All-nil HasPrefix
+prefixes (file ∷ files) kinds = All-cons HasPrefix _ _ (prefixed file.kind (string_bytes file.path) (All-head (λ f. Reads report.All f.kind) file files kinds)) (prefixes files (All-tail (λ f. Reads report.All f.kind) file files kinds))
 
 -- one more word and its file
 pub names_more : (r : Report) (words : List (Bor Text)) (i : ℕ) (d : Bor Text) (files : List FileArg) (file : FileArg)
@@ -44,5 +53,5 @@ first_bare r words i d files lt all bare names =
     record {
       in_range = omega (arith, length-map words (λ s. s.now));
       bare = λ has. bare (subst HasPrefix at has);
-      earlier = subst (All HasPrefix) (sym front) (prefixes files);
+      earlier = subst (All HasPrefix) (sym front) (prefixes files (subst (λ x. All (λ file. Reads x file.kind) files) all names.each_kind));
     }

@@ -25,12 +25,16 @@ no_second clock now (Some moment) second none is = cc
 until_taken : (clock : ℤ → ℤ) (now : ℤ) (period : Period) (r : Report) (moment : Option Moment) (second : Option ℤ) → TakesUntil r moment → IsSecondIn clock now moment second → TakesUntil (over period r) second
 until_taken clock now period (report.Last limit choice within) moment second takes is = tt
 until_taken clock now period (report.Connect by_day by_user choice) moment second takes is = tt
+until_taken clock now period (report.Attempts limit choice) moment second takes is = no_second clock now moment second takes is
+until_taken clock now period (report.AttemptSums limit choice) moment second takes is = no_second clock now moment second takes is
 until_taken clock now period (report.Commands order reverse all) moment second takes is = no_second clock now moment second takes is
 until_taken clock now period (report.Users order reverse) moment second takes is = no_second clock now moment second takes is
 until_taken clock now period report.All moment second takes is = tt
 
 form_taken : (period : Period) (r : Report) (form : Form) → TakesForm r form → TakesForm (over period r) form
 form_taken period (report.Last limit choice within) form takes = tt
+form_taken period (report.Attempts limit choice) form takes = tt
+form_taken period (report.AttemptSums limit choice) form takes = tt
 form_taken period (report.Connect by_day by_user choice) form takes = tt
 form_taken period (report.Commands order reverse all) form takes = tt
 form_taken period (report.Users order reverse) form takes = tt

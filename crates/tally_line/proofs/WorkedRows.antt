@@ -1,16 +1,17 @@
 -- Worked examples, computed by the definitions.
 use Rattle.std.proofs.Common.{◌≡◌, [], ◌∷◌, None, Some, Err, true, false, map, pos, neg_ℤ, refl}
-use Rattle.std.specs.Prelude.{codes}
+use Rattle.std.specs.Prelude.{List, codes}
+use Rattle.clap.specs.Words.{Row}
 use Rattle.tally_moments.specs.declared.moment.Moment.{Moment}
 use Rattle.tally_moments.specs.declared.moment.Moment.TheVariants.{Day, Now, Second, Time}
 use Rattle.tally_records.specs.Choice.{every_login}
-use Rattle.tally_records.specs.declared.batch.Kind.TheVariants.{Login, Proc}
+use Rattle.tally_records.specs.declared.batch.Kind.TheVariants.{FailedLogin, Login, Proc}
 use Rattle.tally_records.specs.declared.period.Period.{Period}
 use Rattle.tally_usage.specs.declared.order.Order.TheVariants.{Cpu}
 use Rattle.tally_line.specs.FileWords.{word_of}
 use Rattle.tally_line.specs.Named.{names_of}
 use Rattle.tally_line.specs.Settled.{is_moment, is_until, known_fault, over, period_by, settled}
-use Rattle.tally_line.specs.Times.{ask_now}
+use Rattle.tally_line.specs.Times.{ask_now, until_in}
 use Rattle.tally_line.specs.declared.job.Form.TheVariants.{Text}
 use Rattle.tally_line.specs.declared.job.Job.{Job}
 use Rattle.tally_line.specs.declared.job.Report.TheVariants as report
@@ -18,7 +19,7 @@ use Rattle.tally_line.specs.declared.settling.TimesFault.TheVariants as fault
 use Rattle.tally_line.specs.declared.times.Times.{Times}
 
 -- a file of `all` has the prefix of its kind, and no other file has one
-words : word_of report.All Login (codes "f") ∷ word_of report.All Proc (codes "f") ∷ word_of (report.Last None every_login false) Login (codes "f") ∷ [] ≡ codes "w:f" ∷ codes "p:f" ∷ codes "f" ∷ []
+words : word_of report.All Login (codes "f") ∷ word_of report.All Proc (codes "f") ∷ word_of (report.Last None every_login false) Login (codes "f") ∷ word_of (report.Attempts None every_login) FailedLogin (codes "f") ∷ [] ≡ codes "w:f" ∷ codes "p:f" ∷ codes "f" ∷ codes "f" ∷ []
 words = refl
 
 -- ---- seconds
@@ -41,6 +42,10 @@ from_to from to = record { until = None; from = Some from; to = Some to; at = No
 
 abbrev at_one : Moment → Times
 at_one moment = record { until = None; from = None; to = None; at = Some moment }
+
+-- failed logins have no open sessions, so that no moment says up to when these count
+untils : (rows : List Row) → until_in (report.Attempts None every_login) rows ∷ until_in (report.AttemptSums None every_login) rows ∷ [] ≡ None ∷ None ∷ []
+untils rows = refl
 
 -- a second out of range is refused without a clock, and a day or a time waits for one
 faults : map (λ moment. known_fault (until_at moment)) (Second (pos 5) ∷ Second (pos 2147483648) ∷ Second (neg_ℤ (pos 1)) ∷ Day (neg_ℤ (pos 1)) ∷ Time (pos 30000) 0 ∷ Now ∷ [])
@@ -74,9 +79,9 @@ periods = refl
 abbrev decade : Period
 decade = record { from = Some (pos 10); to = Some (pos 20) }
 
--- reports without sessions have no period
-over_a_period : over decade (report.Last (Some 3) every_login true) ∷ over decade (report.Connect true false every_login) ∷ over decade (report.Users Cpu true) ∷ over decade report.All ∷ []
-    ≡ report.Last (Some 3) (record every_login { period = decade }) true ∷ report.Connect true false (record every_login { period = decade }) ∷ report.Users Cpu true ∷ report.All ∷ []
+-- reports without sessions or failed logins have no period
+over_a_period : over decade (report.Last (Some 3) every_login true) ∷ over decade (report.Attempts (Some 3) every_login) ∷ over decade (report.AttemptSums None every_login) ∷ over decade (report.Connect true false every_login) ∷ over decade (report.Users Cpu true) ∷ over decade report.All ∷ []
+    ≡ report.Last (Some 3) (record every_login { period = decade }) true ∷ report.Attempts (Some 3) (record every_login { period = decade }) ∷ report.AttemptSums None (record every_login { period = decade }) ∷ report.Connect true false (record every_login { period = decade }) ∷ report.Users Cpu true ∷ report.All ∷ []
 over_a_period = refl
 
 -- no words name nothing

@@ -24,7 +24,7 @@ number_rule name parser default = record (new_rule name) {
 abbrev pub between : ℕ → ℕ → ValueParser
 between least most = Signed (pos least) (pos most)
 
--- `-n N` of `last`
+-- `-n N` of `last` and `lastb`
 abbrev pub limit_rule : Rule
 limit_rule = record (new_rule (codes "limit")) {
   short = Some 110;
@@ -35,6 +35,10 @@ limit_rule = record (new_rule (codes "limit")) {
 -- `--csv`
 abbrev pub csv_rule : Rule
 csv_rule = record (new_rule (codes "csv")) { long = Some (codes "csv"); action = Some SetTrue }
+
+-- `--sum` of `lastb`
+abbrev pub sum_rule : Rule
+sum_rule = record (new_rule (codes "sum")) { long = Some (codes "sum"); action = Some SetTrue }
 
 -- `--by-file`
 abbrev pub by_file_rule : Rule
@@ -106,7 +110,7 @@ abbrev pub with_period : App → App
 with_period app =
     with_rule (with_rule (with_rule app (word_rule (codes "from"))) (word_rule (codes "to"))) (word_rule (codes "in"))
 
--- the period that `last` is over
+-- the period that `last` or `lastb` is over
 abbrev pub with_lettered_period : App → App
 with_lettered_period app =
     with_rule (with_rule (with_rule app
@@ -120,6 +124,12 @@ last_app = with_common (with_rule (with_rule (with_rule (with_lettered_period (w
     (with_rule (new_app (codes "last")) limit_rule)))
     (lettered_rule (codes "at") 112))
     until_rule)
+    csv_rule)
+
+-- `lastb`
+abbrev pub attempts_app : App
+attempts_app = with_common (with_rule (with_lettered_period (with_names
+    (with_rule (with_rule (new_app (codes "lastb")) limit_rule) sum_rule)))
     csv_rule)
 
 -- `ac`
@@ -157,5 +167,5 @@ top_app = on_top (λ s. record s { no_binary_name = true; subcommand_required = 
 
 -- the whole command line
 unfoldable pub tally_app : App
-tally_app = with_subcommand (with_subcommand (with_subcommand (with_subcommand top_app
-    last_app.top) connect_app.top) usage_app.top) all_app.top
+tally_app = with_subcommand (with_subcommand (with_subcommand (with_subcommand (with_subcommand top_app
+    last_app.top) attempts_app.top) connect_app.top) usage_app.top) all_app.top

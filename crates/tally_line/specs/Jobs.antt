@@ -10,6 +10,8 @@ use Rattle.tally_line.specs.declared.job.Report.TheVariants as report
 
 -- no moment is given to a report that has no stays
 abbrev pub TakesUntil : {X : Type 0} → Report → Option X → Type 0
+TakesUntil (report.Attempts limit choice) until = until ≡ None
+TakesUntil (report.AttemptSums limit choice) until = until ≡ None
 TakesUntil (report.Commands order reverse all) until = until ≡ None
 TakesUntil (report.Users order reverse) until = until ≡ None
 TakesUntil r until = ⊤

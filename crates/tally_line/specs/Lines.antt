@@ -63,6 +63,8 @@ AsksForm r rows f = IsFormOf rows f
 -- the subcommand of a report
 abbrev pub name_of : Report → Text
 name_of (report.Last limit choice within) = codes "last"
+name_of (report.Attempts limit choice) = codes "lastb"
+name_of (report.AttemptSums limit choice) = codes "lastb"
 name_of (report.Connect by_day by_user choice) = codes "ac"
 name_of (report.Commands order reverse all) = codes "sa"
 name_of (report.Users order reverse) = codes "sa"

@@ -45,6 +45,10 @@ is_by_calls Cpu = false
 abbrev pub IsReportOf : Report → List Row → Type 0
 IsReportOf (report.Last limit choice within) rows =
     IsOptional (codes "limit") 1 1048576 rows limit × (choice ≡ login_choice rows) × (within ≡ has_period rows)
+IsReportOf (report.Attempts limit choice) rows =
+    IsFlag (codes "sum") rows false × IsOptional (codes "limit") 1 1048576 rows limit × (choice ≡ login_choice rows)
+IsReportOf (report.AttemptSums limit choice) rows =
+    IsFlag (codes "sum") rows true × IsOptional (codes "limit") 1 1048576 rows limit × (choice ≡ login_choice rows)
 IsReportOf (report.Connect by_day by_user choice) rows =
     IsFlag (codes "by_day") rows by_day × IsFlag (codes "by_user") rows by_user × (choice ≡ login_choice rows)
 IsReportOf (report.Commands order reverse all) rows =

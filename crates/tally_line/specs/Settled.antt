@@ -85,6 +85,8 @@ period_of seconds = period_by seconds.at seconds.from seconds.to
 -- a report over a period
 abbrev pub over : Period → Report → Report
 over period (report.Last limit choice within) = report.Last limit (record choice { period = period }) within
+over period (report.Attempts limit choice) = report.Attempts limit (record choice { period = period })
+over period (report.AttemptSums limit choice) = report.AttemptSums limit (record choice { period = period })
 over period (report.Connect by_day by_user choice) = report.Connect by_day by_user (record choice { period = period })
 over period r = r
 

@@ -37,6 +37,8 @@ period_in rows = option_and_then period_of (first_of (codes "in") rows)
 
 -- the moment of `--until`: a report without stays has none
 abbrev pub until_in : Report → List Row → Option Moment
+until_in (report.Attempts limit choice) rows = None
+until_in (report.AttemptSums limit choice) rows = None
 until_in (report.Commands order reverse all) rows = None
 until_in (report.Users order reverse) rows = None
 until_in r rows = said moment_of (codes "until") rows

@@ -1,20 +1,20 @@
 //! The arguments of the command line.
 ghost use Rattle.std.specs.Prelude.{◌≡◌, false};
 ghost use Rattle.clap.specs.Words.{rule_of};
-ghost use Rattle.tally_line.specs.CommandLine.{askers_rule, by_file_rule, csv_rule, feeders_rule, file_rule, flag_rule, lettered_rule, limit_rule, minutes_rule, number_rule, repeated_rule, until_rule, word_rule, zone_rule};
+ghost use Rattle.tally_line.specs.CommandLine.{askers_rule, by_file_rule, csv_rule, feeders_rule, file_rule, flag_rule, lettered_rule, limit_rule, minutes_rule, number_rule, repeated_rule, sum_rule, until_rule, word_rule, zone_rule};
 
 use clap::builder::ValueParser;
 use clap::{Arg, ArgAction, value_parser};
 use std::alloc::Global;
 
-pub(crate) fn limit<'a>(alloc: Global) -> Arg<'a>
+pub(crate) fn limit<'a>(alloc: Global, help: &'a str) -> Arg<'a>
     ensures rule { rule_of result ≡ limit_rule }
     ensures local { result.global ≡ false }
 {
     Arg::new(alloc, "limit")
         .short('n')
         .value_name("N")
-        .help("Show the latest N stays of each file, as in -n 5, 1 to 1048576 [default: all]")
+        .help(help)
         .value_parser(value_parser!(u32).range(1..=1_048_576))
 }
 
@@ -45,6 +45,16 @@ pub(crate) fn by_file<'a>(alloc: Global) -> Arg<'a>
     Arg::new(alloc, "by-file")
         .long("by-file")
         .help("Report on each file by itself, and then on all; with --csv on each alone")
+        .action(ArgAction::SetTrue)
+}
+
+pub(crate) fn sum<'a>(alloc: Global) -> Arg<'a>
+    ensures rule { rule_of result ≡ sum_rule }
+    ensures local { result.global ≡ false }
+{
+    Arg::new(alloc, "sum")
+        .long("sum")
+        .help("Count attempts by user and remote host over all files, the most first")
         .action(ArgAction::SetTrue)
 }
 

@@ -1,12 +1,12 @@
 //! The command line as `clap` reads it.
 ghost use Rattle.std.specs.Prelude.{◌≡◌, IfOk, false};
 ghost use Rattle.clap.specs.Words.{App, Rule, new_app, rule_of, with_rule, with_subcommand};
-ghost use Rattle.tally_line.specs.CommandLine.{all_app, connect_app, last_app, tally_app, top_app, usage_app, with_common, with_lettered_period, with_names, with_period, with_usage_flags};
+ghost use Rattle.tally_line.specs.CommandLine.{all_app, attempts_app, connect_app, last_app, tally_app, top_app, usage_app, with_common, with_lettered_period, with_names, with_period, with_usage_flags};
 ghost use Rattle.tally_line.specs.inside.Commands.{IsCommand};
 
 use crate::args::{
-    askers, by_file, csv, feeders, file, flag, lettered, limit, minutes, repeated, until, word,
-    zone,
+    askers, by_file, csv, feeders, file, flag, lettered, limit, minutes, repeated, sum, until,
+    word, zone,
 };
 use clap::{Arg, Command};
 use std::alloc::{AllocError, Global};
@@ -30,6 +30,7 @@ pub(crate) fn tally<'a>(alloc: Global) -> Made<'a>
     ensures { IfOk result (IsCommand tally_app) }
 {
     let command = with_under(top(alloc), last(alloc));
+    let command = with_under(command, attempts(alloc));
     let command = with_under(command, connect(alloc));
     let command = with_under(command, usage(alloc));
     with_under(command, all(alloc))
@@ -76,7 +77,8 @@ fn last<'a>(alloc: Global) -> Made<'a>
     ensures { IfOk result (IsCommand last_app) }
 {
     let about = "List login sessions and running times, as last(1) does";
-    let command = with(Ok(named(alloc, "last", about)), limit(alloc));
+    let help = "Show the latest N stays of each file, as in -n 5, 1 to 1048576 [default: all]";
+    let command = with(Ok(named(alloc, "last", about)), limit(alloc, help));
     let command = with_names(
         alloc,
         command,
@@ -89,6 +91,26 @@ fn last<'a>(alloc: Global) -> Made<'a>
     let command = with(command, until(alloc));
     let command = with(command, csv(alloc));
     with_options(alloc, command, "Read the login records of FILE")
+}
+
+#[inline(never)]
+fn attempts<'a>(alloc: Global) -> Made<'a>
+    ensures { IfOk result (IsCommand attempts_app) }
+{
+    let about = "List failed logins, as lastb(8) does";
+    let help =
+        "Show the latest N attempts of each file, or the first N sums, as in -n 5, 1 to 1048576 [default: all]";
+    let command = with(Ok(named(alloc, "lastb", about)), limit(alloc, help));
+    let command = with(command, sum(alloc));
+    let command = with_names(
+        alloc,
+        command,
+        "Show attempts of the user NAME, up to eight times",
+        "Show attempts on the line NAME, as ssh:notty, up to eight times",
+    );
+    let command = with_lettered_period(alloc, command);
+    let command = with(command, csv(alloc));
+    with_options(alloc, command, "Read the failed logins of FILE")
 }
 
 #[inline(never)]
@@ -173,7 +195,7 @@ fn with_usage_flags<'a>(alloc: Global, command: Made<'a>) -> Made<'a>
     with(command, flag(alloc, "reverse", 'r', "Reverse the order"))
 }
 
-/// The users and lines that sessions are chosen by.
+/// The users and lines that sessions or failed logins are chosen by.
 #[inline(never)]
 fn with_names<'a>(alloc: Global, command: Made<'a>, user: &'a str, line: &'a str) -> Made<'a>
     ensures { (app : App) → IfOk command.entry (IsCommand app) → IfOk result (IsCommand (with_names app)) }

@@ -1,5 +1,5 @@
 //! The files that a command line names.
-ghost use Rattle.std.specs.Prelude.{◌≡◌, ◌++◌, IfErr, IfNone, IfOk, IfSome, string_bytes};
+ghost use Rattle.std.specs.Prelude.{◌≡◌, ◌≢◌, ◌++◌, [], None, IfErr, IfNone, IfOk, IfSome, string_bytes, unwrap_or};
 ghost use Rattle.clap.specs.Walk.{texts};
 ghost use Rattle.tally_line.specs.FileWords.{HasPrefix, NamesFiles, Reads, prefix_of, word_of};
 ghost use Rattle.tally_line.specs.inside.LineSteps.{IsFileFault};
@@ -37,6 +37,7 @@ fn named_file<'a>(report: Report, word: &'a str) -> Option<(Kind, &'a str)>
 {
     match report {
         Report::Last { .. } | Report::Connect { .. } => Some((Kind::Login, word)),
+        Report::Attempts { .. } | Report::AttemptSums { .. } => Some((Kind::FailedLogin, word)),
         Report::Commands { .. } | Report::Users { .. } => Some((Kind::Proc, word)),
         Report::All => prefixed_file(word),
     }
@@ -44,7 +45,8 @@ fn named_file<'a>(report: Report, word: &'a str) -> Option<(Kind, &'a str)>
 
 /// The kind that a word's prefix names, and the path after it.
 fn prefixed_file<'a>(word: &'a str) -> Option<(Kind, &'a str)>
-    ensures some { IfSome result (λ f. word.entry.now ≡ prefix_of f.0 ++ f.1.now) }
+    ensures some { IfSome result (λ f. word.entry.now ≡ unwrap_or (prefix_of f.0) [] ++ f.1.now) }
+    ensures kind { IfSome result (λ f. prefix_of f.0 ≢ None) }
     ensures none { IfNone result (¬ HasPrefix word.entry.now) }
 {
     if let Some(path) = word.strip_prefix("w:") {

@@ -12,6 +12,16 @@ pub enum Report {
         choice: LoginChoice,
         within: bool,
     },
+    /// The failed logins of each file, the latest first, as lastb(8) lists them.
+    Attempts {
+        limit: Option<u32>,
+        choice: LoginChoice,
+    },
+    /// How many failed logins each user and remote host have over all files, the most first.
+    AttemptSums {
+        limit: Option<u32>,
+        choice: LoginChoice,
+    },
     /// Connect time over all files, as ac(1) sums it.
     Connect {
         by_day: bool,
@@ -36,7 +46,7 @@ pub enum Report {
 /// How a report is written.
 #[derive(Clone, Copy, Debug, PartialEq, Eq)]
 pub enum Form {
-    /// Lines for the eye, as last(1), ac(1) and sa(8) have them.
+    /// Lines for the eye, as last(1), lastb(8), ac(1) and sa(8) have them.
     Text,
     /// One table in CSV, which a report of all has not.
     Csv,

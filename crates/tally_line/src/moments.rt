@@ -61,6 +61,7 @@ fn until_in(report: Report, matches: &ArgMatches<'_>) -> Option<Moment>
     ensures takes { TakesUntil report result }
 {
     match report {
+        Report::Attempts { .. } | Report::AttemptSums { .. } => None,
         Report::Commands { .. } | Report::Users { .. } => None,
         Report::Last { .. } | Report::Connect { .. } | Report::All => until_said(matches),
     }

@@ -26,6 +26,7 @@ pub(crate) fn report_of(name: &str, matches: &ArgMatches<'_>) -> Option<Report>
             choice: login_choice(matches),
             within: has_period(matches),
         }),
+        "lastb" => Some(attempts_report(matches)),
         "ac" => Some(Report::Connect {
             by_day: flag(matches, "by_day"),
             by_user: flag(matches, "by_user"),
@@ -34,6 +35,20 @@ pub(crate) fn report_of(name: &str, matches: &ArgMatches<'_>) -> Option<Report>
         "sa" => Some(usage_report(matches)),
         "all" => Some(Report::All),
         _ => None,
+    }
+}
+
+fn attempts_report(matches: &ArgMatches<'_>) -> Report
+    requires { AreNamed (rows_of (found_of matches.now)) }
+    ensures named { name_of result ≡ codes "lastb" }
+    ensures options { IsReportOf result (rows_of (found_of matches.now)) }
+{
+    let limit = optional(matches, "limit", 1, 1_048_576);
+    let choice = login_choice(matches);
+    if flag(matches, "sum") {
+        Report::AttemptSums { limit, choice }
+    } else {
+        Report::Attempts { limit, choice }
     }
 }
 

@@ -239,6 +239,14 @@ fn over(period: Period, report: Report) -> Report
             choice: LoginChoice { period, ..choice },
             within,
         },
+        Report::Attempts { limit, choice } => Report::Attempts {
+            limit,
+            choice: LoginChoice { period, ..choice },
+        },
+        Report::AttemptSums { limit, choice } => Report::AttemptSums {
+            limit,
+            choice: LoginChoice { period, ..choice },
+        },
         Report::Connect {
             by_day,
             by_user,
