@@ -11,6 +11,9 @@ use Rattle.tally_book.specs.declared.question.ConnectRow.{ConnectRow}
 use Rattle.tally_sessions.specs.declared.entry.Stay.{Stay}
 use Rattle.tally_usage.specs.declared.command.CommandRow.{CommandRow}
 use Rattle.tally_usage.specs.declared.user.UidRow.{UidRow}
+use Rattle.tally_attempts.specs.declared.attempt.Attempt.{Attempt}
+use Rattle.tally_attempts.specs.declared.attempt.AttemptSum.{AttemptSum}
+use Rattle.tally_print.specs.AttemptTable.{attempt_fields, attempt_header, attempt_sum_fields, attempt_sum_header}
 use Rattle.tally_print.specs.ConnectTable.{connect_fields, connect_header}
 use Rattle.tally_print.specs.ReportTable.{answer_rows, connect_rows, header, report_rows, table_text}
 use Rattle.tally_print.specs.StayTable.{part_fields, part_header, stay_fields, stay_header, who_fields}
@@ -18,7 +21,7 @@ use Rattle.tally_records.specs.declared.period.Period.{Period}
 use Rattle.tally_print.specs.UsageTable.{command_fields, command_header, name_fields, user_fields, user_header}
 use Rattle.tally_print.specs.Tables.{Row, csv_rows, csv_text, last_number}
 use Rattle.tally_print.specs.declared.report_table.Table.{Table}
-use Rattle.tally_print.specs.declared.report_table.Table.TheVariants.{Stays, Connect, Commands, Users}
+use Rattle.tally_print.specs.declared.report_table.Table.TheVariants.{Stays, Attempts, AttemptSums, Connect, Commands, Users}
 use Rattle.tally_print.proofs.TableLemmas.{reads_back}
 
 -- rows with a field come back as they are
@@ -41,6 +44,14 @@ part_fields-some : (clock : ℤ → ℤ) (period : Period) (stay : Stay) → rea
 unfolding part_fields stay_fields who_fields
 part_fields-some clock period stay = refl
 
+attempt_fields-some : (clock : ℤ → ℤ) (attempt : Attempt) → read_back (attempt_fields clock attempt) ≡ attempt_fields clock attempt
+unfolding attempt_fields
+attempt_fields-some clock attempt = refl
+
+attempt_sum_fields-some : (sum : AttemptSum) → read_back (attempt_sum_fields sum) ≡ attempt_sum_fields sum
+unfolding attempt_sum_fields
+attempt_sum_fields-some sum = refl
+
 command_fields-some : (row : CommandRow) → read_back (command_fields row) ≡ command_fields row
 unfolding command_fields name_fields
 command_fields-some row = refl
@@ -52,23 +63,45 @@ user_fields-some row = refl
 -- the rows of an answer come back as they are
 same_answer : (table : Table) (clock : ℤ → ℤ) (answer : Answer) → map read_back (answer_rows table clock answer) ≡ answer_rows table clock answer
 same_answer (Stays None) clock (answers.Last rows first) = same_rows (stay_fields clock) (stay_fields-some clock) rows
+same_answer (Stays None) clock (answers.Attempts rows first) = refl
+same_answer (Stays None) clock (answers.AttemptSums rows) = refl
 same_answer (Stays None) clock (answers.Connect rows total) = refl
 same_answer (Stays None) clock (answers.Commands rows total) = refl
 same_answer (Stays None) clock (answers.Users rows total) = refl
 same_answer (Stays (Some period)) clock (answers.Last rows first) = same_rows (part_fields clock period) (part_fields-some clock period) rows
+same_answer (Stays (Some period)) clock (answers.Attempts rows first) = refl
+same_answer (Stays (Some period)) clock (answers.AttemptSums rows) = refl
 same_answer (Stays (Some period)) clock (answers.Connect rows total) = refl
 same_answer (Stays (Some period)) clock (answers.Commands rows total) = refl
 same_answer (Stays (Some period)) clock (answers.Users rows total) = refl
+same_answer Attempts clock (answers.Last rows first) = refl
+same_answer Attempts clock (answers.Attempts rows first) = same_rows (attempt_fields clock) (attempt_fields-some clock) rows
+same_answer Attempts clock (answers.AttemptSums rows) = refl
+same_answer Attempts clock (answers.Connect rows total) = refl
+same_answer Attempts clock (answers.Commands rows total) = refl
+same_answer Attempts clock (answers.Users rows total) = refl
+same_answer AttemptSums clock (answers.Last rows first) = refl
+same_answer AttemptSums clock (answers.Attempts rows first) = refl
+same_answer AttemptSums clock (answers.AttemptSums rows) = same_rows attempt_sum_fields attempt_sum_fields-some rows
+same_answer AttemptSums clock (answers.Connect rows total) = refl
+same_answer AttemptSums clock (answers.Commands rows total) = refl
+same_answer AttemptSums clock (answers.Users rows total) = refl
 same_answer (Connect by_day by_user) clock (answers.Last rows first) = refl
+same_answer (Connect by_day by_user) clock (answers.Attempts rows first) = refl
+same_answer (Connect by_day by_user) clock (answers.AttemptSums rows) = refl
 same_answer (Connect by_day by_user) clock (answers.Connect rows total) =
     same_rows (connect_fields by_day by_user) (connect_fields-some by_day by_user) (connect_rows by_day by_user rows total)
 same_answer (Connect by_day by_user) clock (answers.Commands rows total) = refl
 same_answer (Connect by_day by_user) clock (answers.Users rows total) = refl
 same_answer Commands clock (answers.Last rows first) = refl
+same_answer Commands clock (answers.Attempts rows first) = refl
+same_answer Commands clock (answers.AttemptSums rows) = refl
 same_answer Commands clock (answers.Connect rows total) = refl
 same_answer Commands clock (answers.Commands rows total) = same_rows command_fields command_fields-some rows
 same_answer Commands clock (answers.Users rows total) = refl
 same_answer Users clock (answers.Last rows first) = refl
+same_answer Users clock (answers.Attempts rows first) = refl
+same_answer Users clock (answers.AttemptSums rows) = refl
 same_answer Users clock (answers.Connect rows total) = refl
 same_answer Users clock (answers.Commands rows total) = refl
 same_answer Users clock (answers.Users rows total) = same_rows user_fields user_fields-some rows
@@ -81,9 +114,11 @@ same_answers table clock (answer ∷ all) =
 
 -- a header has a field, and begins with no byte order mark
 header-some : (table : Table) → read_back (header table) ≡ header table
-unfolding part_header stay_header connect_header command_header user_header
+unfolding part_header stay_header attempt_header attempt_sum_header connect_header command_header user_header
 header-some (Stays None) = refl
 header-some (Stays (Some period)) = refl
+header-some Attempts = refl
+header-some AttemptSums = refl
 header-some (Connect true true) = refl
 header-some (Connect true false) = refl
 header-some (Connect false true) = refl
@@ -92,9 +127,11 @@ header-some Commands = refl
 header-some Users = refl
 
 header-plain : (table : Table) (rest : List ℕ) → strip_bom (row_text default_writer (header table) ++ rest) ≡ row_text default_writer (header table) ++ rest
-unfolding part_header stay_header connect_header command_header user_header fields_text is_blank strip_bom
+unfolding part_header stay_header attempt_header attempt_sum_header connect_header command_header user_header fields_text is_blank strip_bom
 header-plain (Stays None) rest = refl
 header-plain (Stays (Some period)) rest = refl
+header-plain Attempts rest = refl
+header-plain AttemptSums rest = refl
 header-plain (Connect true true) rest = refl
 header-plain (Connect true false) rest = refl
 header-plain (Connect false true) rest = refl

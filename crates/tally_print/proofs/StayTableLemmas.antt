@@ -39,7 +39,7 @@ plain_iso time clock =
     let whole = plain_date_before (day_of clock time) _ tail in
     simp append_assoc whole
 
-iso_as_field : (time : ℤ) (clock : ℤ → ℤ) → field_text default_writer (iso_moment time clock) ≡ iso_moment time clock
+pub iso_as_field : (time : ℤ) (clock : ℤ → ℤ) → field_text default_writer (iso_moment time clock) ≡ iso_moment time clock
 iso_as_field time clock = plain_field (iso_moment time clock) (plain_iso time clock)
 
 who_text : (stay : Stay) → before_last (who_fields stay) ≡ (decimal (stay.host + 1) ++ 44 ∷ [] ++ field_text default_writer (user_field stay) ++ 44 ∷ [] ++ (field_text default_writer (line_field stay) ++ 44 ∷ [] ++ (field_text default_writer (shown stay.remote) ++ 44 ∷ [])))

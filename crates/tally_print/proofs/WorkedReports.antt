@@ -10,10 +10,10 @@ use Rattle.tally_sessions.specs.declared.entry.Stay.{Stay}
 use Rattle.tally_usage.specs.declared.command.CommandRow.{CommandRow}
 use Rattle.tally_usage.specs.declared.usage.Usage.{Usage}
 use Rattle.tally_print.specs.ConnectTable.{connect_fields, connect_header}
-use Rattle.tally_print.specs.LastText.{beginning, ending, line_column, user_column}
+use Rattle.tally_print.specs.LastText.{ending, line_column, user_column}
 use Rattle.tally_print.specs.ReportTable.{connect_rows, header}
 use Rattle.tally_print.specs.StayTable.{end_fields, end_word, part_fields, part_header, start_fields, stay_fields, stay_header, who_fields}
-use Rattle.tally_print.specs.Text.{span}
+use Rattle.tally_print.specs.Text.{beginning, span}
 use Rattle.tally_print.specs.UsageTable.{command_fields, command_header, name_fields, sum_fields, user_fields, user_header}
 use Rattle.tally_print.specs.UsageText.{average, columns, command_line, named_total_line, total_line, user_line}
 use Rattle.tally_print.specs.declared.report_table.Table.TheVariants.{Stays, Connect, Commands, Users}
@@ -67,7 +67,7 @@ unfolding who_fields digits
 who = refl
 
 -- a host without records says so
-no_records : beginning None utc ≡ codes "wtmp has no records\n"
+no_records : beginning (codes "wtmp") None utc ≡ codes "wtmp has no records\n"
 unfolding beginning
 no_records = refl
 

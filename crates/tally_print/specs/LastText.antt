@@ -3,7 +3,7 @@ use Rattle.std.specs.Prelude.{ℕ, if◌then◌else◌, List, ◌++◌, flat_map
 use Rattle.tally_sessions.specs.declared.entry.End.{End}
 use Rattle.tally_sessions.specs.declared.entry.End.TheVariants.{Logout, Next, Down, Crash, Still}
 use Rattle.tally_sessions.specs.declared.entry.Stay.{Stay}
-use Rattle.tally_print.specs.Text.{shown, left, moment, span}
+use Rattle.tally_print.specs.Text.{beginning, shown, left, moment, span}
 
 -- who was logged in, or the word for a boot
 abbrev pub user_column : Stay → List ℕ
@@ -37,11 +37,6 @@ stay_line clock until stay =
     ++ left (shown stay.remote) 16 ++ codes " " ++ moment stay.start clock
     ++ ending stay.end stay clock until ++ codes "\n"
 
--- from when on the host has records
-unfoldable pub beginning : Option ℤ → (ℤ → ℤ) → List ℕ
-beginning None clock = codes "wtmp has no records\n"
-beginning (Some first) clock = codes "\nwtmp begins " ++ moment first clock ++ codes "\n"
-
 -- a line for each stay, and from when on the host has records, with moments by a clock
 abbrev pub last_text : List Stay → Option ℤ → (ℤ → ℤ) → Option ℤ → List ℕ
-last_text rows first clock until = flat_map (stay_line clock until) rows ++ beginning first clock
+last_text rows first clock until = flat_map (stay_line clock until) rows ++ beginning (codes "wtmp") first clock

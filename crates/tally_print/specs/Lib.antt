@@ -1,4 +1,7 @@
 pub mod AnswerText
+pub mod AttemptSections
+pub mod AttemptTable
+pub mod AttemptText
 pub mod Civil
 pub mod ConnectTable
 pub mod ConnectText

@@ -3,17 +3,20 @@ use Rattle.std.specs.Prelude.{ℕ, ℤ, Bool, false, List, [], ◌∷◌, flat_m
 use Rattle.tally_book.specs.declared.question.Answer.{Answer}
 use Rattle.tally_book.specs.declared.question.Answer.TheVariants as answers
 use Rattle.tally_book.specs.declared.question.ConnectRow.{ConnectRow}
+use Rattle.tally_print.specs.AttemptTable.{attempt_fields, attempt_header, attempt_sum_fields, attempt_sum_header}
 use Rattle.tally_print.specs.ConnectTable.{connect_fields, connect_header}
 use Rattle.tally_print.specs.StayTable.{part_fields, part_header, stay_fields, stay_header}
 use Rattle.tally_print.specs.Tables.{Row, csv_text}
 use Rattle.tally_print.specs.UsageTable.{command_fields, command_header, user_fields, user_header}
 use Rattle.tally_print.specs.declared.report_table.Table.{Table}
-use Rattle.tally_print.specs.declared.report_table.Table.TheVariants.{Stays, Connect, Commands, Users}
+use Rattle.tally_print.specs.declared.report_table.Table.TheVariants.{Stays, Attempts, AttemptSums, Connect, Commands, Users}
 
 -- the names of a table's columns
 abbrev pub header : Table → Row
 header (Stays None) = stay_header
 header (Stays (Some period)) = part_header
+header Attempts = attempt_header
+header AttemptSums = attempt_sum_header
 header (Connect by_day by_user) = connect_header by_day by_user
 header Commands = command_header
 header Users = user_header
@@ -27,6 +30,8 @@ connect_rows by_day by_user rows total = rows
 abbrev pub answer_rows : Table → (ℤ → ℤ) → Answer → List Row
 answer_rows (Stays None) clock (answers.Last rows first) = map (stay_fields clock) rows
 answer_rows (Stays (Some period)) clock (answers.Last rows first) = map (part_fields clock period) rows
+answer_rows Attempts clock (answers.Attempts rows first) = map (attempt_fields clock) rows
+answer_rows AttemptSums clock (answers.AttemptSums rows) = map attempt_sum_fields rows
 answer_rows (Connect by_day by_user) clock (answers.Connect rows total) =
     map (connect_fields by_day by_user) (connect_rows by_day by_user rows total)
 answer_rows Commands clock (answers.Commands rows total) = map command_fields rows

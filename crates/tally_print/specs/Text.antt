@@ -1,5 +1,5 @@
 -- The pieces of printed lines.
-use Rattle.std.specs.Prelude.{ℕ, ◌+◌, ◌-◌, ◌/◌, ◌%◌, not, ◌&&◌, ◌==◌, nat_le, nat_lt, if◌then◌else◌, List, [], ◌∷◌, ◌++◌, map, length, replicate, take_while, ℤ, pos, ◌+ℤ◌, unsigned_abs, codes, decimal}
+use Rattle.std.specs.Prelude.{ℕ, ◌+◌, ◌-◌, ◌/◌, ◌%◌, not, ◌&&◌, ◌==◌, nat_le, nat_lt, if◌then◌else◌, List, [], ◌∷◌, ◌++◌, map, length, replicate, take_while, ℤ, pos, ◌+ℤ◌, unsigned_abs, codes, decimal, Option, Some, None}
 use Rattle.std.specs.Int.{int_rem_euclid}
 use Rattle.tally_clock.specs.Days.{day_of}
 use Rattle.tally_print.specs.Civil.{year_of, month_of, day_of_month}
@@ -67,3 +67,8 @@ unfoldable pub span : ℕ → List ℕ
 span s =
     codes "(" ++ (if nat_lt s 86_400 then [] else decimal (s / 86_400) ++ codes "+")
     ++ two (s / 3600 % 24) ++ codes ":" ++ two (s / 60 % 60) ++ codes ")"
+
+-- from when on a host has records, whose file is so named
+unfoldable pub beginning : List ℕ → Option ℤ → (ℤ → ℤ) → List ℕ
+beginning file None clock = file ++ codes " has no records\n"
+beginning file (Some first) clock = codes "\n" ++ file ++ codes " begins " ++ moment first clock ++ codes "\n"

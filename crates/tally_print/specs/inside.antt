@@ -1,4 +1,5 @@
 -- What no public contract cites.
+pub mod Attempts
 pub mod LocalTime
 pub mod Moments
 pub mod Pages

@@ -3,7 +3,10 @@ ghost use Rattle.tally_print.specs.AnswerText.{answer_text};
 ghost use Rattle.tally_sessions.specs.Days.{IsOffset, local};
 ghost use Rattle.tally_print.specs.Output.{IsWritable, Prints, failed_calls};
 
-use crate::{Output, PrintFault, print_commands, print_connect, print_last, print_users};
+use crate::{
+    Output, PrintFault, print_attempt_sums, print_attempts, print_commands, print_connect,
+    print_last, print_users,
+};
 use std::alloc::Global;
 use tally_book::Answer;
 use tally_clock::Clock;
@@ -29,6 +32,10 @@ pub fn print_answer<O: Output>(
         Answer::Last { rows, first } => {
             print_last(alloc, clock, rows.as_slice(), *first, offset, out, until)
         }
+        Answer::Attempts { rows, first } => {
+            print_attempts(alloc, clock, rows.as_slice(), *first, offset, out)
+        }
+        Answer::AttemptSums { rows } => print_attempt_sums(alloc, rows.as_slice(), out),
         Answer::Connect { rows, total } => print_connect(alloc, rows.as_slice(), *total, out),
         Answer::Commands { rows, total } => print_commands(alloc, rows.as_slice(), total, out),
         Answer::Users { rows, total } => print_users(alloc, rows.as_slice(), total, out),

@@ -4,8 +4,9 @@ ghost use Rattle.tally_sessions.specs.Totals.{first_time, latest_stays};
 ghost use Rattle.tally_print.specs.Output.{IsWritable, Prints, failed_calls};
 ghost use Rattle.tally_print.specs.Text.{left, moment, shown, span};
 ghost use Rattle.tally_print.specs.inside.LocalTime.{clock_of};
-ghost use Rattle.tally_print.specs.LastText.{ending, still_ending, still_words, beginning, stay_line, last_text};
+ghost use Rattle.tally_print.specs.LastText.{ending, still_ending, still_words, stay_line, last_text};
 
+use crate::beginning::push_beginning;
 use crate::date::push_moment;
 use crate::lines::{Line, put_lines};
 use crate::local::Local;
@@ -64,30 +65,6 @@ fn push_still(line: &mut Vec<u8>, stay: &Stay) -> Result<(), AllocError>
 {
     line.extend_from_slice(b"   ")?;
     line.extend_from_slice(still_words(stay))
-}
-
-fn push_first(line: &mut Vec<u8>, first: i32, local: &Local<'_>) -> Result<(), AllocError>
-    ensures { OnOk result (line.new.items
-        ≡ line.old.items ++ (codes "\nwtmp begins " ++ moment first (clock_of local.now) ++ codes "\n")) }
-{
-    line.extend_from_slice(b"\nwtmp begins ")?;
-    push_moment(line, &mut PrintedDay::first(), first, local)?;
-    line.push(b'\n')?;
-    Ok(())
-}
-
-#[tactic(auto, unfolding(crate::specs::LastText::beginning))]
-fn push_beginning(
-    line: &mut Vec<u8>,
-    first: Option<i32>,
-    local: &Local<'_>,
-) -> Result<(), AllocError>
-    ensures { OnOk result (line.new.items ≡ line.old.items ++ beginning first (clock_of local.now)) }
-{
-    match first {
-        None => line.extend_from_slice(b"wtmp has no records\n"),
-        Some(first) => push_first(line, first, local),
-    }
 }
 
 /// The line of a stay.
@@ -202,7 +179,7 @@ pub fn print_last<O: Output>(
         until,
     };
     put_lines(&mut page, &line, rows, out)?;
-    push_beginning(&mut page, first, &line.local)?;
+    push_beginning(&mut page, b"wtmp", first, &line.local)?;
     put_all(page.as_slice(), out)
 }
 
@@ -234,6 +211,6 @@ pub(crate) fn print_stays<O: Output>(
     put_stays(
         &mut page, &line, sessions, host, limit, choice, counted, out,
     )?;
-    push_beginning(&mut page, sessions.first(host), &line.local)?;
+    push_beginning(&mut page, b"wtmp", sessions.first(host), &line.local)?;
     put_all(page.as_slice(), out)
 }

@@ -1,7 +1,11 @@
 //! The exact lines of reports, and the outputs that they are written to.
 #![tactic(auto)]
 
+mod all_attempts;
 mod answer;
+mod attempt_table;
+mod attempts;
+mod beginning;
 mod connect;
 mod connect_table;
 mod date;
@@ -29,7 +33,9 @@ mod usage;
 mod usage_table;
 mod writing;
 
+pub use all_attempts::{print_all_attempts, print_attempt_table};
 pub use answer::print_answer;
+pub use attempts::{print_attempt_sums, print_attempts};
 pub use connect::print_connect;
 pub use date::day_text_is_that_of_jiff;
 pub use file_usage::{

@@ -7,6 +7,7 @@ ghost use Rattle.tally_print.specs.Output.{IsWritable, Prints, failed_calls};
 ghost use Rattle.tally_print.specs.ReportTable.{answer_rows, header, table_text};
 ghost use Rattle.tally_print.specs.Tables.{csv_text};
 
+use crate::attempt_table::{AttemptFields, AttemptSumFields, attempt_header, attempt_sum_header};
 use crate::connect::total_row;
 use crate::connect_table::{ConnectFields, connect_header};
 use crate::lines::print_fields;
@@ -26,6 +27,10 @@ use tally_records::Period;
 pub enum Table {
     /// A row for each stay, of all answers, and in it the seconds that a period has of the stay, if one is given.
     Stays { within: Option<Period> },
+    /// A row for each failed login, of all answers.
+    Attempts,
+    /// A row for each user and remote host of failed logins.
+    AttemptSums,
     /// Connect times by day, by user, by both, or the total alone.
     Connect { by_day: bool, by_user: bool },
     /// A row for each command.
@@ -40,6 +45,8 @@ pub(crate) fn header(table: Table) -> &'static [u8]
     match table {
         Table::Stays { within: None } => stay_header(),
         Table::Stays { within: Some(_) } => part_header(),
+        Table::Attempts => attempt_header(),
+        Table::AttemptSums => attempt_sum_header(),
         Table::Connect { by_day, by_user } => connect_header(by_day, by_user),
         Table::Commands => command_header(),
         Table::Users => user_header(),
@@ -70,6 +77,13 @@ pub(crate) fn print_answer_rows<O: Output>(
                     print_fields(alloc, &PartFields { local, period }, rows.as_slice(), out)
                 }
             }
+        }
+        (Table::Attempts, Answer::Attempts { rows, .. }) => {
+            let local = Local { clock, offset };
+            print_fields(alloc, &AttemptFields { local }, rows.as_slice(), out)
+        }
+        (Table::AttemptSums, Answer::AttemptSums { rows }) => {
+            print_fields(alloc, &AttemptSumFields, rows.as_slice(), out)
         }
         (Table::Connect { by_day, by_user }, Answer::Connect { rows, total }) => {
             let fields = ConnectFields { by_day, by_user };

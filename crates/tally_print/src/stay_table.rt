@@ -39,7 +39,7 @@ fn push_zone(line: &mut Vec<u8>, offset: i32) -> Result<(), AllocError>
 }
 
 #[tactic(auto, unfolding(crate::specs::StayTable::iso_moment))]
-fn push_iso(
+pub(crate) fn push_iso(
     line: &mut Vec<u8>,
     last: &mut PrintedDay,
     time: i32,
@@ -53,7 +53,7 @@ fn push_iso(
 }
 
 /// Appends a time in seconds since 1970, and the mark after it.
-fn push_time(line: &mut Vec<u8>, time: i32) -> Result<(), AllocError>
+pub(crate) fn push_time(line: &mut Vec<u8>, time: i32) -> Result<(), AllocError>
     ensures { OnOk result (line.new.items ≡ line.old.items ++ (signed_decimal time ++ 44 ∷ [])) }
 {
     if time < LEAST_OF_TEN {
@@ -66,7 +66,7 @@ fn push_time(line: &mut Vec<u8>, time: i32) -> Result<(), AllocError>
 }
 
 /// Appends the number of a file, counted from 1.
-fn push_file(line: &mut Vec<u8>, host: u32) -> Result<(), AllocError>
+pub(crate) fn push_file(line: &mut Vec<u8>, host: u32) -> Result<(), AllocError>
     ensures { OnOk result (line.new.items ≡ line.old.items ++ decimal (host + 1)) }
 {
     push_number(line, u64::from(host) + 1)

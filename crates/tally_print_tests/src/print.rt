@@ -9,6 +9,8 @@ use tally_records::{Comm, Name};
 use tally_sessions::{End, Stay};
 use tally_usage::{CommandRow, Usage};
 
+mod all_attempts;
+mod attempts;
 mod connect;
 mod last;
 mod outputs;

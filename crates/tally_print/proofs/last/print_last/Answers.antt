@@ -1,7 +1,8 @@
-use Rattle.std.proofs.Common.{◌++◌, ◌∙◌, ap, flat_map, rules, subst, w32, ℤ}
+use Rattle.std.proofs.Common.{◌++◌, ◌∙◌, ap, codes, flat_map, rules, subst, w32, ℤ}
 use Rattle.std.proofs.lemmas.Int.{to_z-of_z}
 use Rattle.tally_sessions.specs.Days.{local}
-use Rattle.tally_print.specs.LastText.{beginning, stay_line}
+use Rattle.tally_print.specs.LastText.{stay_line}
+use Rattle.tally_print.specs.Text.{beginning}
 use Rattle.tally_print.specs.declared.output.PrintFault.TheVariants.{Memory}
 use Rattle.tally_print.specs.inside.Pages.{Fills}
 use Rattle.tally_print.proofs.PageLemmas.{fills_push, fills_then, page_stop}
@@ -21,5 +22,5 @@ pub returns : goal.returns
 returns g c =
     let same = ap (λ (x : ℤ). flat_map (stay_line (local c.args.clock.now x) c.args.until) c.args.rows.now) (to_z-of_z w32 c.args.offset c.ranges.offset) in
     let lines = subst (Fills _ _ _ _ _) same (rw c.in_ok-page.ensures at c.in_ok-put_lines.ensures.fills) in
-    let ending = c.in_ok-push_beginning.ensures ∙ ap (λ (x : ℤ). c.put_lines.new.page.items ++ beginning c.args.first (local c.args.clock.now x)) (to_z-of_z w32 c.args.offset c.ranges.offset) in
+    let ending = c.in_ok-push_beginning.ensures ∙ ap (λ (x : ℤ). c.put_lines.new.page.items ++ beginning (codes "wtmp") c.args.first (local c.args.clock.now x)) (to_z-of_z w32 c.args.offset c.ranges.offset) in
     record { writes = fills_then (fills_push _ lines ending) (rw c.as_slice.ensures.value at c.put_all.ensures.writes) }

@@ -3,8 +3,8 @@ use Rattle.std.proofs.lemmas.List.{length-reverse}
 use Rattle.tally_sessions.specs.Totals.{limited, stays_of}
 use Rattle.tally_print.specs.declared.output.PrintFault.TheVariants.{Memory}
 use Rattle.tally_print.specs.inside.Pages.{Fills}
+use Rattle.tally_print.proofs.LimitLemmas.{limited_at, limited_in}
 use Rattle.tally_print.proofs.PageLemmas.{fills_push, fills_stop, fills_turn, flat_next, flat_rest}
-use Rattle.tally_print.proofs.StayLemmas.{limited_at, limited_in}
 use Rattle.tally_print.proofs.stays.put_all_stays.Goals as goal
 
 pub put_latest_stay-requires-clause-place : goal.put_latest_stay-requires-clause-place

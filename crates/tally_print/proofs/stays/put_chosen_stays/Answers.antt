@@ -4,8 +4,9 @@ use Rattle.tally_sessions.specs.Choice.{is_shown}
 use Rattle.tally_sessions.specs.Totals.{limited, stays_of}
 use Rattle.tally_print.specs.declared.output.PrintFault.TheVariants.{Memory}
 use Rattle.tally_print.specs.inside.Pages.{Fills}
+use Rattle.tally_print.proofs.LimitLemmas.{limited_at, limited_fewer, limited_more, limited_of_few, next_at, next_rest, next_within, no_more}
 use Rattle.tally_print.proofs.PageLemmas.{fills_push, fills_stop, fills_turn, flat_next, flat_rest}
-use Rattle.tally_print.proofs.StayLemmas.{chosen_fewer, chosen_latest, limited_at, limited_fewer, limited_more, limited_of_few, next_at, next_rest, next_within, no_more}
+use Rattle.tally_print.proofs.StayLemmas.{chosen_fewer, chosen_latest}
 use Rattle.tally_print.proofs.stays.put_chosen_stays.Goals as goal
 
 pub loop-shown-preserved : goal.loop-shown-preserved

@@ -1,0 +1,26 @@
+use Rattle.std.proofs.Common.{◌++◌, ◌∙◌, ap, codes, flat_map, rules, subst, w32, ℤ}
+use Rattle.std.proofs.lemmas.Int.{to_z-of_z}
+use Rattle.tally_sessions.specs.Days.{local}
+use Rattle.tally_print.specs.AttemptText.{attempt_line}
+use Rattle.tally_print.specs.Text.{beginning}
+use Rattle.tally_print.specs.declared.output.PrintFault.TheVariants.{Memory}
+use Rattle.tally_print.specs.inside.Pages.{Fills}
+use Rattle.tally_print.proofs.PageLemmas.{fills_push, fills_then, page_stop}
+use Rattle.tally_print.proofs.attempts.print_attempts.Goals as goal
+
+pub returns-in_err-put_lines : goal.returns-in_err-put_lines
+returns-in_err-put_lines g c =
+    let same = ap (λ (x : ℤ). flat_map (attempt_line (local c.args.clock.now x)) c.args.rows.now) (to_z-of_z w32 c.args.offset c.ranges.offset) in
+    record { writes = page_stop _ (search rules) _ (subst (Fills _ _ _ _ _) same (rw c.in_ok-page.ensures at c.in_err-put_lines.ensures.fills)) }
+
+pub returns-in_err-push_beginning : goal.returns-in_err-push_beginning
+returns-in_err-push_beginning g c =
+    let same = ap (λ (x : ℤ). flat_map (attempt_line (local c.args.clock.now x)) c.args.rows.now) (to_z-of_z w32 c.args.offset c.ranges.offset) in
+    record { writes = page_stop Memory (search rules) _ (subst (Fills _ _ _ _ _) same (rw c.in_ok-page.ensures at c.in_ok-put_lines.ensures.fills)) }
+
+pub returns : goal.returns
+returns g c =
+    let same = ap (λ (x : ℤ). flat_map (attempt_line (local c.args.clock.now x)) c.args.rows.now) (to_z-of_z w32 c.args.offset c.ranges.offset) in
+    let lines = subst (Fills _ _ _ _ _) same (rw c.in_ok-page.ensures at c.in_ok-put_lines.ensures.fills) in
+    let ending = c.in_ok-push_beginning.ensures ∙ ap (λ (x : ℤ). c.put_lines.new.page.items ++ beginning (codes "btmp") c.args.first (local c.args.clock.now x)) (to_z-of_z w32 c.args.offset c.ranges.offset) in
+    record { writes = fills_then (fills_push _ lines ending) (rw c.as_slice.ensures.value at c.put_all.ensures.writes) }
