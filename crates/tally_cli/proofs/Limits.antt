@@ -12,6 +12,7 @@ use Rattle.tally_book.specs.Answers.{NamesHost}
 use Rattle.tally_book.specs.Books.{IsLegal, caller_of, calls_of}
 use Rattle.tally_book.specs.Contents.{Contents}
 use Rattle.tally_book.specs.Deeds.{EntriesArePosts, deed, deeds_of}
+use Rattle.tally_desk.specs.Batches.{stored_kind}
 use Rattle.tally_desk.specs.Feeds.{IsFeedRefusal}
 use Rattle.tally_desk.specs.Passes.{PassState, Stands}
 use Rattle.tally_desk.specs.Rounds.{AskStops, in_rounds}
@@ -83,7 +84,7 @@ few_procs : (batch : Records) → record_count batch ≤ 1024 → length (procs_
 few_procs (Logins records) few = omega arith
 few_procs (Procs records) few = few
 
--- a full list is that of the source's kind
+-- a full list is that in which the source's records are stored
 pub feed_full : {I : Type 0} (sources : List (Source I)) (host : ℕ) (source : Source I) → ((s : Source I) → get_or sources host s ≡ source) → (seen : Contents) (fault : FeedFault)
     → IsFeedRefusal source.kind seen fault → length seen.logins ≤ 1048576 → length seen.procs ≤ 1048576 → IsFullList sources (run.File host fault)
 feed_full sources host source is seen feed.Memory h logins procs = tt
@@ -92,7 +93,7 @@ feed_full sources host source is seen (feed.Torn records rest) h logins procs = 
 feed_full sources host source is seen feed.TooLong h logins procs = tt
 feed_full sources host source is seen (feed.Bad at fault) h logins procs = tt
 feed_full sources host source is seen (feed.LoginsFull stored) h logins procs =
-    let full = h.1 in ((omega (arith, full.cause.0, logins), omega (arith, full.cause.0, full.cause.1, few_logins full.batch full.few)), λ s. ap (λ (x : Source _). x.kind) (is s) ∙ h.0)
+    let full = h.1 in ((omega (arith, full.cause.0, logins), omega (arith, full.cause.0, full.cause.1, few_logins full.batch full.few)), λ s. ap (λ (x : Source _). stored_kind x.kind) (is s) ∙ h.0)
 feed_full sources host source is seen (feed.ProcsFull stored) h logins procs =
     let full = h.1 in ((omega (arith, full.cause.0, procs), omega (arith, full.cause.0, full.cause.1, few_procs full.batch full.few)), λ s. ap (λ (x : Source _). x.kind) (is s) ∙ h.0)
 feed_full sources host source is seen feed.CallsFull h logins procs = tt

@@ -6,7 +6,7 @@ use Rattle.tally_book.specs.declared.question.Question.TheVariants as questions
 use Rattle.tally_records.specs.Choice.{every_login}
 use Rattle.tally_records.specs.declared.choice.LoginChoice.{LoginChoice}
 use Rattle.tally_records.specs.declared.period.Period.{Period}
-use Rattle.tally_records.specs.declared.batch.Kind.TheVariants.{Login, Proc}
+use Rattle.tally_records.specs.declared.batch.Kind.TheVariants.{FailedLogin, Login, Proc}
 use Rattle.tally_usage.specs.declared.order.Order.TheVariants as order
 use Rattle.tally_print.specs.declared.output.PrintFault.TheVariants as print
 use Rattle.tally_print.specs.declared.report_table.Table.TheVariants as tables
@@ -31,6 +31,11 @@ all_asked = refl
 last_asked : questions_of (report.Last (Some 3) logins true) (pos 0) (Login ∷ Login ∷ []) None ≡ questions.Last 0 (Some 3) logins None ∷ questions.Last 1 (Some 3) logins None ∷ []
 last_asked = refl
 
+-- `lastb` asks for each file what is chosen, up to its limit; its sums are one question over all files
+attempts_asked : questions_of (report.Attempts (Some 3) logins) (pos 60) (FailedLogin ∷ FailedLogin ∷ []) None ++ questions_of (report.AttemptSums None logins) (pos 60) (FailedLogin ∷ FailedLogin ∷ []) None
+    ≡ questions.Attempts 0 (Some 3) logins ∷ questions.Attempts 1 (Some 3) logins ∷ questions.AttemptSums None logins ∷ []
+attempts_asked = refl
+
 -- a number of callers is named as far as 32 bits hold it
 numbers : map callers_fault (0 ∷ 129 ∷ 5000000000 ∷ []) ≡ Callers 0 ∷ Callers 129 ∷ Callers 4294967295 ∷ []
 numbers = refl
@@ -43,7 +48,7 @@ asked : asker_questions (record { choice = logins; until = Some (pos 7000) }) �
 asked = refl
 
 -- what it asks is over the sessions that the report is over
-asked_over : map choice_of (report.Last None logins false ∷ report.Connect true false logins ∷ report.Commands order.Cpu false false ∷ report.Users order.Cpu false ∷ report.All ∷ []) ≡ logins ∷ logins ∷ every_login ∷ every_login ∷ every_login ∷ []
+asked_over : map choice_of (report.Last None logins false ∷ report.Connect true false logins ∷ report.Commands order.Cpu false false ∷ report.Users order.Cpu false ∷ report.All ∷ report.Attempts None logins ∷ report.AttemptSums None logins ∷ []) ≡ logins ∷ logins ∷ every_login ∷ every_login ∷ every_login ∷ every_login ∷ every_login ∷ []
 asked_over = refl
 
 -- connect time, commands and users are one question each over all files, with each option in its place
@@ -62,9 +67,15 @@ one_question = refl
 wanted : is_wanted None Login ∷ is_wanted None Proc ∷ is_wanted (Some Login) Login ∷ is_wanted (Some Login) Proc ∷ is_wanted (Some Proc) Login ∷ is_wanted (Some Proc) Proc ∷ [] ≡ true ∷ true ∷ true ∷ false ∷ false ∷ true ∷ []
 wanted = refl
 
+failed_wanted : is_wanted None FailedLogin ∷ is_wanted (Some FailedLogin) FailedLogin ∷ is_wanted (Some FailedLogin) Login ∷ is_wanted (Some Login) FailedLogin ∷ is_wanted (Some Proc) FailedLogin ∷ [] ≡ true ∷ true ∷ false ∷ false ∷ false ∷ []
+failed_wanted = refl
+
 -- each report but that of all is a table, and one of stays may have the seconds in its period
 tables_of : map table_of (report.Last (Some 3) logins false ∷ report.Last None logins true ∷ report.Connect true false logins ∷ report.Commands order.Calls true true ∷ report.Users order.Cpu false ∷ report.All ∷ []) ≡ Some (tables.Stays None) ∷ Some (tables.Stays (Some part)) ∷ Some (tables.Connect true false) ∷ Some tables.Commands ∷ Some tables.Users ∷ None ∷ []
 tables_of = refl
+
+attempt_tables : map table_of (report.Attempts (Some 3) logins ∷ report.AttemptSums None logins ∷ []) ≡ Some tables.Attempts ∷ Some tables.AttemptSums ∷ []
+attempt_tables = refl
 
 -- the fault of a printer is the run's own, and a failed write alone is counted
 print_faults : map fault_from (print.Memory ∷ print.Write ∷ []) ≡ Memory ∷ Write ∷ []

@@ -1,6 +1,6 @@
 -- The output of a job, as a function of the job and the files alone.
-use Rattle.std.specs.Prelude.{◌++◌, ◌∷◌, [], ℕ, ℤ, Bool, List, Option, Some, None, false, true, if◌then◌else◌, map, filter}
-use Rattle.std.specs.List.{enumerate_from, flat_map}
+use Rattle.std.specs.Prelude.{◌++◌, ◌∷◌, [], ℕ, ℤ, Bool, List, Option, Some, None, false, true, if◌then◌else◌, length, map, filter}
+use Rattle.std.specs.List.{enumerate_from, flat_map, range_with_len}
 use Rattle.tally_clock.specs.Rows.{ClockRows}
 use Rattle.tally_book.specs.declared.question.Question.{Question}
 use Rattle.tally_book.specs.declared.question.Question.TheVariants as questions
@@ -14,7 +14,7 @@ use Rattle.tally_records.specs.Choice.{every_login}
 use Rattle.tally_records.specs.Records.{Records, logins_in, procs_in}
 use Rattle.tally_records.specs.declared.choice.LoginChoice.{LoginChoice}
 use Rattle.tally_records.specs.declared.batch.Kind.{Kind}
-use Rattle.tally_records.specs.declared.batch.Kind.TheVariants.{Login, Proc}
+use Rattle.tally_records.specs.declared.batch.Kind.TheVariants.{FailedLogin, Login, Proc}
 use Rattle.tally_sessions.specs.Days.{local}
 use Rattle.tally_sessions.specs.Hosts.{posted_by}
 use Rattle.tally_sessions.specs.declared.entry.Entry.{Entry}
@@ -25,22 +25,30 @@ use Rattle.tally_line.specs.declared.job.Form.{Form}
 use Rattle.tally_line.specs.declared.job.Form.TheVariants.{Text, Csv}
 use Rattle.tally_line.specs.declared.job.Job.{Job}
 use Rattle.tally_line.specs.declared.job.Report.{Report}
-use Rattle.tally_line.specs.declared.job.Report.TheVariants.{Last, Connect, Commands, Users, All}
+use Rattle.tally_line.specs.declared.job.Report.TheVariants.{Last, Attempts, AttemptSums, Connect, Commands, Users, All}
 
 -- a file is of the wanted kind, if one is wanted
 abbrev pub is_wanted : Option Kind → Kind → Bool
-is_wanted (Some Login) Proc = false
-is_wanted (Some Proc) Login = false
-is_wanted wanted kind = true
+is_wanted None kind = true
+is_wanted (Some Login) Login = true
+is_wanted (Some FailedLogin) FailedLogin = true
+is_wanted (Some Proc) Proc = true
+is_wanted wanted kind = false
 
 -- the questions for the chosen stays of each file of the wanted kind, whose number is its host, up to a moment if one is given
 abbrev pub stays_asked : Option Kind → Option ℕ → LoginChoice → List Kind → Option ℤ → List Question
 stays_asked wanted limit choice kinds until = map (λ numbered. questions.Last numbered.0 limit choice until)
     (filter (λ numbered. is_wanted wanted numbered.1) (enumerate_from 0 kinds))
 
+-- the questions for the chosen failed logins of each file
+abbrev pub attempts_asked : Option ℕ → LoginChoice → List Kind → List Question
+attempts_asked limit choice kinds = map (λ host. questions.Attempts host limit choice) (range_with_len 0 (length kinds))
+
 -- the questions of a report on files of these kinds, in the order of their sections
 abbrev pub questions_of : Report → ℤ → List Kind → Option ℤ → List Question
 questions_of (Last limit choice within) offset kinds until = stays_asked None limit choice kinds until
+questions_of (Attempts limit choice) offset kinds until = attempts_asked limit choice kinds
+questions_of (AttemptSums limit choice) offset kinds until = questions.AttemptSums limit choice ∷ []
 questions_of (Connect by_day by_user choice) offset kinds until = questions.Connect by_day by_user offset choice until ∷ []
 questions_of (Commands by reverse all) offset kinds until = questions.Commands by reverse all ∷ []
 questions_of (Users by reverse) offset kinds until = questions.Users by reverse ∷ []
@@ -58,6 +66,8 @@ proc_entries files = flat_map (λ numbered. entries_of numbered.0 (procs_in numb
 -- the table that a report is as CSV, with the seconds in the period where they are asked for; a report of all is none
 abbrev pub table_of : Report → Option Table
 table_of (Last limit choice within) = Some (tables.Stays (if within then Some choice.period else None))
+table_of (Attempts limit choice) = Some tables.Attempts
+table_of (AttemptSums limit choice) = Some tables.AttemptSums
 table_of (Connect by_day by_user choice) = Some (tables.Connect by_day by_user)
 table_of (Commands by reverse all) = Some tables.Commands
 table_of (Users by reverse) = Some tables.Users

@@ -2,7 +2,7 @@
 use Rattle.std.specs.Prelude.{◌≡◌, ◌⊎◌, ◌+◌, ◌++◌, ◌<◌, ◌≤◌, ℕ, Bool, true, IsTrue, List, Option, None, Some, Result, Ok, Err, ⊤, length, map, min, slice_index_or, sum_by, ◌-◌, ◌^◌}
 use Rattle.std.specs.List.{All}
 use Rattle.tally_clock.specs.Rows.{ClockRows}
-use Rattle.tally_desk.specs.Batches.{records_in}
+use Rattle.tally_desk.specs.Batches.{records_in, stored_kind}
 use Rattle.tally_desk.specs.Blocks.{feed_fault}
 use Rattle.tally_desk.specs.Feeds.{good_batches}
 use Rattle.tally_desk.specs.declared.fault.FeedFault.{FeedFault}
@@ -113,9 +113,9 @@ callers_fault callers = Callers (min callers 4294967295)
 abbrev pub HasNoRoom : ℕ → ℕ → Type 0
 HasNoRoom limit stored = (stored ≤ limit) × (limit < stored + BATCH_LIMIT)
 
--- a full list is that of the file's kind, and names how many records it has
+-- a full list is that in which the file's records are stored, and names how many it has
 abbrev pub IsFullList : {I : Type 0} → List (Source I) → RunFault → Type 0
-IsFullList sources (File host (feed.LoginsFull stored)) = HasNoRoom sessions.ENTRY_LIMIT stored × ((s : Source _) → (slice_index_or sources host s).kind ≡ Login)
+IsFullList sources (File host (feed.LoginsFull stored)) = HasNoRoom sessions.ENTRY_LIMIT stored × ((s : Source _) → stored_kind (slice_index_or sources host s).kind ≡ Login)
 IsFullList sources (File host (feed.ProcsFull stored)) = HasNoRoom usage.ENTRY_LIMIT stored × ((s : Source _) → (slice_index_or sources host s).kind ≡ Proc)
 IsFullList sources fault = ⊤
 

@@ -1,5 +1,6 @@
 //! Command lines, and whole runs over files in memory.
 
+mod attempts;
 mod chosen;
 mod counted;
 mod ended;

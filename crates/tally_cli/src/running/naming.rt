@@ -54,6 +54,8 @@ pub(crate) fn print_usage<O: Output>(
             print_named(alloc, job.form, names, rows.as_slice(), total, out)
         }
         (Some(_), Answer::Last { .. })
+        | (Some(_), Answer::Attempts { .. })
+        | (Some(_), Answer::AttemptSums { .. })
         | (Some(_), Answer::Connect { .. })
         | (Some(_), Answer::Commands { .. })
         | (None, _) => print_answers(alloc, clock, job, slice::from_ref(answer), out),

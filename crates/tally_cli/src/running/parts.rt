@@ -62,6 +62,8 @@ pub(crate) fn file_table(report: &Report, names: Option<&UserNames>) -> FileTabl
         (Report::Users { .. }, Some(_)) => FileTable::NamedUsers,
         (Report::Users { .. }, None) => FileTable::Users,
         (Report::Last { .. }, _)
+        | (Report::Attempts { .. }, _)
+        | (Report::AttemptSums { .. }, _)
         | (Report::Connect { .. }, _)
         | (Report::Commands { .. }, _)
         | (Report::All, _) => FileTable::Commands,
@@ -100,7 +102,10 @@ fn print_rows<O: Output>(
         (None, Answer::Users { rows, .. }) => {
             print_file_users(alloc, number, rows.as_slice(), out)
         }
-        (_, Answer::Last { .. }) | (_, Answer::Connect { .. }) => Ok(()),
+        (_, Answer::Last { .. })
+        | (_, Answer::Attempts { .. })
+        | (_, Answer::AttemptSums { .. })
+        | (_, Answer::Connect { .. }) => Ok(()),
     }
 }
 

@@ -6,12 +6,13 @@ ghost use Rattle.tally_cli.specs.Output.{form_text, questions_of, report_text};
 ghost use Rattle.tally_cli.specs.Runs.{failed_writes};
 ghost use Rattle.tally_cli.specs.inside.RunSteps.{IsPrintFault};
 ghost use Rattle.tally_line.specs.Jobs.{IsRunnable};
+ghost use Rattle.tally_line.specs.declared.job.Report.TheVariants as reports;
 ghost use Rattle.tally_print.specs.Output.{IsWritable, Prints, failed_calls};
 ghost use Rattle.tally_sessions.specs.Days.{IsOffset, local};
 ghost use Rattle.tally_print.specs.Section.{NamesHostBelow, answer_in};
 
 use crate::fault::RunFault;
-use crate::running::forms::{print_answers, print_report};
+use crate::running::forms::{print_answers, print_attempts, print_report};
 use crate::running::sections::{answers_to, questions_of, sections_for};
 use std::alloc::Global;
 use std::thread::Threads;
@@ -19,15 +20,34 @@ use tally_book::{Answer, Book};
 use tally_clock::Clock;
 use tally_line::{Job, Report};
 use tally_print::{Output, PrintFault, Section};
-use tally_records::{Kind, Memory};
+use tally_records::{Kind, LoginChoice, Memory};
 use tally_sessions::{HOST_LIMIT, Sessions};
+
+/// Counts the sessions of a book where a report is about them, so that no question has to wait for that.
+fn count_for<R: Threads + Sync>(
+    rt: &R,
+    alloc: Global,
+    job: &Job,
+    book: &mut Book,
+) -> Result<(), Memory>
+    ensures same { book.new ≡ book.old }
+{
+    match job.report {
+        Report::Attempts { .. } | Report::AttemptSums { .. } => Ok(()),
+        _ => book.count_sessions(rt, alloc, job.feeders),
+    }
+}
 
 /// Whether a report of files of these kinds has stays.
 fn has_stays(report: &Report, kinds: &[Kind]) -> bool {
     match report {
         Report::Last { .. } => true,
         Report::All => kinds.contains(&Kind::Login),
-        Report::Connect { .. } | Report::Commands { .. } | Report::Users { .. } => false,
+        Report::Attempts { .. }
+        | Report::AttemptSums { .. }
+        | Report::Connect { .. }
+        | Report::Commands { .. }
+        | Report::Users { .. } => false,
     }
 }
 
@@ -48,7 +68,7 @@ fn answers_in<R: Threads + Sync>(
         (questions_of job.now.report job.now.offset kinds.now job.now.until)) }
     ensures days { IfOk result (λ answers. All HasDays answers.items) }
 {
-    book.count_sessions(rt, alloc, job.feeders)?;
+    count_for(rt, alloc, job, book)?;
     let questions = questions_of(alloc, job, kinds)?;
     answers_to(alloc, book, questions.as_slice())
 }
@@ -140,9 +160,32 @@ fn print_and_drop<O: Output>(
     print_report(alloc, clock, job, &sessions, sections.as_slice(), out)
 }
 
-/// Prints the job's report of the book, of which each file is a host, in the time of the book's clock. Where it has no stays,
-/// the book has been let go before anything is printed.
-pub(crate) fn report<R: Threads + Sync, O: Output>(
+/// Prints the latest chosen failed logins of each host of the book up to a limit, and lets the book go.
+fn print_attempts_of<O: Output>(
+    alloc: Global,
+    clock: &Clock,
+    job: &Job,
+    kinds: &[Kind],
+    limit: Option<u32>,
+    choice: &LoginChoice,
+    book: Book,
+    out: &mut O,
+) -> Result<(), PrintFault>
+    requires runnable { IsRunnable job.now }
+    requires report { job.now.report ≡ reports.Attempts limit choice.now }
+    requires few { length kinds.now ≤ HOST_LIMIT }
+    requires clock { book.clock ≡ clock.now }
+    requires writable { IsWritable (O.state out.old) }
+    ensures writes { Prints (O.state out.old) (O.state out.new) result (failed_calls result)
+        (report_text clock.now job.now kinds.now book.logins book.procs) }
+{
+    let hosts = kinds.len() as u32;
+    print_attempts(alloc, clock, job, book.logins(), hosts, limit, choice, out)
+}
+
+/// Prints the answers to the job's report of the book, of which each file is a host, in the time of the book's clock. Where it has no
+/// stays, the book has been let go before anything is printed.
+fn print_answers_of<R: Threads + Sync, O: Output>(
     rt: &R,
     alloc: Global,
     clock: &Clock,
@@ -170,6 +213,37 @@ pub(crate) fn report<R: Threads + Sync, O: Output>(
         print_answers(alloc, clock, job, answers.as_slice(), out)?;
     }
     Ok(())
+}
+
+/// Prints the job's report of the book, of which each file is a host, in the time of the book's clock. Failed logins are printed from
+/// the book, with no answer that lists them.
+pub(crate) fn report<R: Threads + Sync, O: Output>(
+    rt: &R,
+    alloc: Global,
+    clock: &Clock,
+    job: &Job,
+    kinds: &[Kind],
+    book: Book,
+    out: &mut O,
+) -> Result<(), RunFault>
+    requires runnable { IsRunnable job.now }
+    requires hosts { length kinds.now ≤ book.callers }
+    requires few { book.callers ≤ HOST_LIMIT }
+    requires some { 0 < book.callers }
+    requires calls { length book.calls ≤ 4224 }
+    requires clock { book.clock ≡ clock.now }
+    requires writable { IsWritable (O.state out.old) }
+    ensures writes { Prints (O.state out.old) (O.state out.new) result (failed_writes result)
+        (report_text clock.now job.now kinds.now book.logins book.procs) }
+    ensures cause { IfErr result IsPrintFault }
+{
+    match &job.report {
+        Report::Attempts { limit, choice } => {
+            print_attempts_of(alloc, clock, job, kinds, *limit, choice, book, out)?;
+            Ok(())
+        }
+        _ => print_answers_of(rt, alloc, clock, job, kinds, book, out),
+    }
 }
 
 /// Sees that what was written arrives.

@@ -3,7 +3,7 @@ ghost use Rattle.std.specs.Prelude.{◌≡◌, ◌+◌, ◌<◌, ◌≤◌, ◌�
 ghost use Rattle.std.specs.List.{All};
 ghost use Rattle.tally_book.specs.Answers.{HasDays, IsAskable, NamesHostBelow, answer_of};
 ghost use Rattle.tally_book.specs.Books.{asked};
-ghost use Rattle.tally_cli.specs.Output.{is_wanted, questions_of, stays_asked};
+ghost use Rattle.tally_cli.specs.Output.{attempts_asked, is_wanted, questions_of, stays_asked};
 ghost use Rattle.tally_cli.specs.inside.Asked.{IsAskedOnce};
 ghost use Rattle.tally_print.specs.Section.{NamesHostBelow as HasHostBelow, answer_in};
 
@@ -19,9 +19,9 @@ use tally_usage::Order;
 fn is_wanted(wanted: Option<Kind>, kind: Kind) -> bool
     ensures { result ≡ is_wanted wanted kind }
 {
-    match (wanted, kind) {
-        (Some(Kind::Login), Kind::Proc) | (Some(Kind::Proc), Kind::Login) => false,
-        _ => true,
+    match wanted {
+        Some(wanted) => wanted == kind,
+        None => true,
     }
 }
 
@@ -48,6 +48,28 @@ fn stays_asked(
             limit,
             choice: *choice,
             until,
+        })?;
+    }
+    Ok(questions)
+}
+
+/// Questions for the chosen failed logins of each file.
+fn attempts_asked(
+    alloc: Global,
+    kinds: &[Kind],
+    limit: Option<u32>,
+    choice: &LoginChoice,
+) -> Result<Vec<Question>, AllocError>
+    requires { length kinds.now ≤ HOST_LIMIT }
+    ensures { IfOk result (λ v. v.items ≡ attempts_asked limit choice.now kinds.now) }
+{
+    let mut questions = Vec::new(alloc);
+    for host in 0..kinds.len() {
+        let host = host as u32;
+        questions.push(Question::Attempts {
+            host,
+            limit,
+            choice: *choice,
         })?;
     }
     Ok(questions)
@@ -101,6 +123,10 @@ pub(crate) fn questions_of(
     match job.report {
         Report::Last { limit, choice, .. } => {
             stays_asked(alloc, kinds, None, limit, &choice, job.until)
+        }
+        Report::Attempts { limit, choice } => attempts_asked(alloc, kinds, limit, &choice),
+        Report::AttemptSums { limit, choice } => {
+            only(alloc, Question::AttemptSums { limit, choice })
         }
         Report::Connect {
             by_day,

@@ -27,7 +27,11 @@ fn choice_of(report: &Report) -> LoginChoice
 {
     match report {
         Report::Last { choice, .. } | Report::Connect { choice, .. } => *choice,
-        Report::Commands { .. } | Report::Users { .. } | Report::All => LoginChoice::every(),
+        Report::Attempts { .. }
+        | Report::AttemptSums { .. }
+        | Report::Commands { .. }
+        | Report::Users { .. }
+        | Report::All => LoginChoice::every(),
     }
 }
 

@@ -1,6 +1,7 @@
 //! What the words of a command line ask for.
 
 mod answers;
+mod attempts;
 mod files;
 mod moments;
 mod zones;
@@ -109,8 +110,10 @@ fn help_is_an_answer(rt: HostRuntime) {
 -h
 ac -h
 all --help f
+lastb -h
 help
 help ac
+help lastb
 --version
 -V";
     expect_all(&rt, lines, Wanted::Help);

@@ -12,6 +12,10 @@ use tally_usage::Order;
 pub(crate) enum Wanted<'a> {
     /// The latest stays, up to a limit.
     Last(Option<u32>),
+    /// The latest failed logins, up to a limit.
+    Attempts(Option<u32>),
+    /// The first sums of failed logins, up to a limit.
+    AttemptSums(Option<u32>),
     /// Connect time, by day or not, and by user or not.
     Connect(bool, bool),
     /// Commands in an order, reversed or not, and all of them or not.
@@ -65,6 +69,18 @@ fn job_wanted(wanted: Wanted<'_>) -> Option<Job> {
                 limit,
                 choice: LoginChoice::every(),
                 within: false,
+            }
+        }
+        Wanted::Attempts(limit) => {
+            job.report = Report::Attempts {
+                limit,
+                choice: LoginChoice::every(),
+            }
+        }
+        Wanted::AttemptSums(limit) => {
+            job.report = Report::AttemptSums {
+                limit,
+                choice: LoginChoice::every(),
             }
         }
         Wanted::Connect(by_day, by_user) => {

@@ -13,7 +13,7 @@ sections_for-requires-clause-askable g c =
     let job = c.args.job.now in
     let offset = c.requires.runnable.offset in
     subst (All IsAskable) (sym (c.as_slice.ensures.value ∙ c.in_ok-questions.ensures))
-    (all_questions IsAskable job.report job.offset job.until c.args.kinds.now (λ limit choice n l. tt) (λ by_day by_user choice. offset) (λ by reverse all. tt) (λ by reverse. tt))
+    (all_questions IsAskable job.report job.offset job.until c.args.kinds.now (λ limit choice n l. tt) (λ limit choice n l. tt) (λ limit choice. tt) (λ by_day by_user choice. offset) (λ by reverse all. tt) (λ by reverse. tt))
 
 pub sections_for-requires-clause-hosts : goal.sections_for-requires-clause-hosts
 sections_for-requires-clause-hosts g c =
@@ -21,7 +21,7 @@ sections_for-requires-clause-hosts g c =
     let callers = c.count_sessions.new.self.callers in
     let same = ap (λ (b : Contents). b.callers) c.in_ok-count_sessions.ensures.same in
     subst (All (NamesHostBelow callers)) (sym (c.as_slice.ensures.value ∙ c.in_ok-questions.ensures))
-    (all_questions (NamesHostBelow callers) job.report job.offset job.until c.args.kinds.now (λ limit choice n l. omega (arith, l, same, c.requires.hosts)) (λ by_day by_user choice. tt) (λ by reverse all. tt) (λ by reverse. tt))
+    (all_questions (NamesHostBelow callers) job.report job.offset job.until c.args.kinds.now (λ limit choice n l. omega (arith, l, same, c.requires.hosts)) (λ limit choice n l. omega (arith, l, same, c.requires.hosts)) (λ limit choice. tt) (λ by_day by_user choice. tt) (λ by reverse all. tt) (λ by reverse. tt))
 
 pub sections_for-requires-clause-room : goal.sections_for-requires-clause-room
 sections_for-requires-clause-room g c =

@@ -5,7 +5,7 @@ use Rattle.tally_print.specs.declared.output.PrintFault.TheVariants as print
 use Rattle.tally_cli.proofs.Asked.{report_is}
 use Rattle.tally_cli.proofs.Reported.{prints_as, prints_from, prints_nothing}
 use Rattle.tally_cli.specs.Output.{questions_of}
-use Rattle.tally_cli.proofs.running.reporting.report.Goals as goal
+use Rattle.tally_cli.proofs.running.reporting.print_answers_of.Goals as goal
 
 pub returns-in_err-sections-clause-writes : goal.returns-in_err-sections-clause-writes
 returns-in_err-sections-clause-writes g c = prints_from print.Memory _ (search rules) (prints_nothing _ _)
