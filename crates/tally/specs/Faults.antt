@@ -1,7 +1,10 @@
--- Which file a fault of opening names.
-use Rattle.std.specs.Prelude.{◌≡◌, List, ⊤, string_bytes}
+-- Which file a fault of opening names, and which faults are of a file of other records.
+use Rattle.std.specs.Prelude.{◌≡◌, Bool, true, false, List, ⊤, string_bytes}
 use Rattle.std.specs.List.{Contains}
+use Rattle.tally_desk.specs.declared.fault.FeedFault.{FeedFault}
+use Rattle.tally_desk.specs.declared.fault.FeedFault.TheVariants.{Bad}
 use Rattle.tally_line.specs.declared.line.FileArg.{FileArg}
+use Rattle.tally_records.specs.declared.fault.RecordFault.TheVariants.{OtherLogin}
 use Rattle.tally.specs.declared.opened.OpenFault.{OpenFault}
 use Rattle.tally.specs.declared.opened.OpenFault.TheVariants.{Memory, NotOpened}
 
@@ -14,3 +17,8 @@ Names file (NotOpened path) = string_bytes file.path ≡ path.now
 abbrev pub NamesOneOf : List FileArg → OpenFault → Type 0
 NamesOneOf files Memory = ⊤
 NamesOneOf files (NotOpened path) = (file : FileArg) × Contains files file × (string_bytes file.path ≡ path.now)
+
+-- a record is of a type that no failed login has
+abbrev pub is_other_login : FeedFault → Bool
+is_other_login (Bad at (OtherLogin kind)) = true
+is_other_login fault = false

@@ -1,6 +1,7 @@
 //! Fault lines on standard error, and the statuses. Where standard error fails, the status
 //! still shows it.
-ghost use Rattle.std.specs.Prelude.{ℕ, length};
+ghost use Rattle.std.specs.Prelude.{◌≡◌, ℕ, length};
+ghost use Rattle.tally.specs.Faults.{is_other_login};
 ghost use Rattle.tally_cli.specs.Runs.{IsNamed};
 ghost use Rattle.tally_cli.specs.Usages.{IsNamedFile};
 
@@ -9,8 +10,9 @@ use crate::users::UsersFault;
 use std::fmt::Display;
 use std::process::ExitCode;
 use tally_cli::{FileArg, RunFault, UsageFault};
+use tally_desk::FeedFault;
 use tally_line::TimesFault;
-use tally_records::Memory;
+use tally_records::{Memory, RecordFault};
 use tally_zones::{ZoneFault, hint_on};
 
 /// The status of a fault.
@@ -78,6 +80,27 @@ pub(crate) fn usage<R: Eprint>(rt: &R, text: &str) -> ExitCode {
     ExitCode::from(REFUSED)
 }
 
+/// Whether a file has a record of a type that no failed login has.
+fn is_other_login(found: &FeedFault) -> bool
+    ensures { result ≡ is_other_login found.now }
+{
+    match found {
+        FeedFault::Bad {
+            fault: RecordFault::OtherLogin(_),
+            ..
+        } => true,
+        _ => false,
+    }
+}
+
+/// Prints why a file was not read to its end.
+fn read_fault<R: Eprint>(rt: &R, path: Shown<'_>, found: FeedFault) -> ExitCode {
+    if is_other_login(&found) {
+        return file_fault(rt, FAULT, path, "no file of failed logins");
+    }
+    file_fault(rt, FAULT, path, found)
+}
+
 /// Prints why a run over these files gave no whole output. A file is named by its path. Where
 /// whoever read the output has gone, nothing is said of it.
 pub(crate) fn run_fault<R: Eprint>(
@@ -92,7 +115,7 @@ pub(crate) fn run_fault<R: Eprint>(
     match found {
         RunFault::File { host, fault } => {
             let path = Shown::new(files[host as usize].path.as_str(), to);
-            file_fault(rt, FAULT, path, fault)
+            read_fault(rt, path, fault)
         }
         RunFault::Write if is_reader_gone => ExitCode::from(FAULT),
         found => fault(rt, FAULT, found),

@@ -126,7 +126,11 @@ impl Made {
             None
         };
         match self.kind {
-            Kind::Login => turn_logins(self.part.as_mut_slice(), self.span, names),
+            Kind::Login | Kind::FailedLogin => turn_logins(
+                self.part.as_mut_slice(),
+                self.span,
+                names,
+            ),
             Kind::Proc => turn_processes(self.part.as_mut_slice(), self.span, names),
         }
     }
