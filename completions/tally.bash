@@ -12,16 +12,17 @@ _tally() {
     local word=${COMP_WORDS[COMP_CWORD]} before=${COMP_WORDS[COMP_CWORD - 1]} options=
     COMPREPLY=()
     if [ "$COMP_CWORD" -eq 1 ]; then
-        COMPREPLY=($(compgen -W 'last ac sa all help -h --help -V --version' -- "$word"))
+        COMPREPLY=($(compgen -W 'last lastb ac sa all help -h --help -V --version' -- "$word"))
         return
     fi
     case ${COMP_WORDS[1]} in
         last) options='-n --user --line -s --from -t --to --in -p --at --until --csv --feeders --east --west --zone -h --help' ;;
+        lastb) options='-n --sum --user --line -s --from -t --to --in --csv --feeders --east --west --zone -h --help' ;;
         ac) options='-d -p --user --line --from --to --in --until --csv --feeders --east --west --zone -h --help' ;;
         sa) options='-a -m -n -r --uid --from --to --in --names --by-file --csv --feeders --east --west --zone -h --help' ;;
         all) options='--askers --until --feeders --east --west --zone -h --help' ;;
         help)
-            COMPREPLY=($(compgen -W 'last ac sa all help' -- "$word"))
+            COMPREPLY=($(compgen -W 'last lastb ac sa all help' -- "$word"))
             return
             ;;
     esac
@@ -33,11 +34,11 @@ _tally() {
         return
     fi
     case ${COMP_WORDS[1]}:$before in
-        last:--user | ac:--user)
+        last:--user | lastb:--user | ac:--user)
             COMPREPLY=($(compgen -u -- "$word"))
             return
             ;;
-        last:--until | ac:--until | all:--until | last:--from | ac:--from | last:--to | ac:--to | sa:--from | sa:--to | last:--at | last:-[stp])
+        last:--until | ac:--until | all:--until | last:--from | lastb:--from | ac:--from | last:--to | lastb:--to | ac:--to | sa:--from | sa:--to | last:--at | last:-[stp] | lastb:-[st])
             COMPREPLY=($(compgen -W now -- "$word"))
             return
             ;;
@@ -45,8 +46,8 @@ _tally() {
             COMPREPLY=($(compgen -f -- "$word"))
             return
             ;;
-        last:--line | ac:--line | last:--in | ac:--in | sa:--in | sa:--uid) return ;;
-        last:-n | *:--feeders | *:--east | *:--west | *:--askers) return ;;
+        last:--line | lastb:--line | ac:--line | *:--in | sa:--uid) return ;;
+        last:-n | lastb:-n | *:--feeders | *:--east | *:--west | *:--askers) return ;;
     esac
     case $word in
         -*) COMPREPLY=($(compgen -W "$options" -- "$word")) ;;

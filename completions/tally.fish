@@ -9,6 +9,7 @@ function __tally_zones
 end
 
 complete -c tally -n __fish_use_subcommand -f -a last -d 'List login sessions and running times'
+complete -c tally -n __fish_use_subcommand -f -a lastb -d 'List failed logins'
 complete -c tally -n __fish_use_subcommand -f -a ac -d 'Sum connect time'
 complete -c tally -n __fish_use_subcommand -f -a sa -d 'Sum the usage of commands or users'
 complete -c tally -n __fish_use_subcommand -f -a all -d 'Print all reports'
@@ -30,6 +31,20 @@ complete -c tally -n '__fish_seen_subcommand_from last' -l east -x -d 'Minutes e
 complete -c tally -n '__fish_seen_subcommand_from last' -l west -x -d 'Minutes west of UTC'
 complete -c tally -n '__fish_seen_subcommand_from last' -l zone -r -a '(__tally_zones)' -d 'Local time of a zone'
 complete -c tally -n '__fish_seen_subcommand_from last' -s h -l help -d 'Print help'
+
+complete -c tally -n '__fish_seen_subcommand_from lastb' -s n -x -d 'Show the latest N attempts of each file, or the first N sums'
+complete -c tally -n '__fish_seen_subcommand_from lastb' -l sum -d 'Count attempts by user and remote host'
+complete -c tally -n '__fish_seen_subcommand_from lastb' -l user -x -a '(__fish_complete_users)' -d 'Show attempts of this user'
+complete -c tally -n '__fish_seen_subcommand_from lastb' -l line -x -d 'Show attempts on this line'
+complete -c tally -n '__fish_seen_subcommand_from lastb' -s s -l from -x -a now -d 'Show attempts from this moment on'
+complete -c tally -n '__fish_seen_subcommand_from lastb' -s t -l to -x -a now -d 'Show attempts before this moment'
+complete -c tally -n '__fish_seen_subcommand_from lastb' -l in -x -d 'Show attempts in this year, month or day'
+complete -c tally -n '__fish_seen_subcommand_from lastb' -l csv -d 'Print one table in CSV'
+complete -c tally -n '__fish_seen_subcommand_from lastb' -l feeders -x -d 'Read files with up to N threads'
+complete -c tally -n '__fish_seen_subcommand_from lastb' -l east -x -d 'Minutes east of UTC'
+complete -c tally -n '__fish_seen_subcommand_from lastb' -l west -x -d 'Minutes west of UTC'
+complete -c tally -n '__fish_seen_subcommand_from lastb' -l zone -r -a '(__tally_zones)' -d 'Local time of a zone'
+complete -c tally -n '__fish_seen_subcommand_from lastb' -s h -l help -d 'Print help'
 
 complete -c tally -n '__fish_seen_subcommand_from ac' -s d -d 'Sum by day'
 complete -c tally -n '__fish_seen_subcommand_from ac' -s p -d 'Sum by user'

@@ -97,7 +97,7 @@ def choose(generator, command, job, clock, base):
     ways = ('from', 'to', 'in', 'at') if command == 'last' else ('from', 'to', 'in')
     way = generator.choice((('from',), ('to',), ('from', 'to'), ('from', 'to'), ('in',), ('in',), ways[-1:], generator.sample(ways, 2)))
     for key in way if generator.random() < 0.5 else ():
-        names = ['--' + key] + ([LETTERS[key]] if command == 'last' and key in LETTERS else [])
+        names = ['--' + key] + ([LETTERS[key]] if command in ('last', 'lastb') and key in LETTERS else [])
         later = generator.choice((0, 100000, 1000000)) if key == 'to' else 0
         for _ in range(2 if generator.random() < 0.01 else 1):
             is_refused = is_refused or key in job

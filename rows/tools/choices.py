@@ -34,6 +34,13 @@ def is_chosen(job, stay):
     return user in job.get('user', [user]) and line in job.get('line', [line])
 
 
+def is_attempt_chosen(job, record, period):
+    """Whether a record is a failed login, of a user, on a line and at a time that are chosen."""
+    first, last = bounds(period)
+    return (record['kind'] in (6, 7) and record['line'] + record['user'] != b'' and is_chosen(job, dict(record, is_boot=False))
+            and first <= record['time'] < last)
+
+
 def bounds(period):
     """From which number up to which the seconds of a period are."""
     first, last = period

@@ -13,6 +13,7 @@ import struct
 import sys
 
 sys.dont_write_bytecode = True
+from attempt_rows import add_example as add_attempt_example, add_rows as add_attempt_rows
 from by_file_rows import add_rows as add_by_file_rows
 from choice_faults import add_rows as add_choice_faults
 from choice_rows import add_rows as add_choice_rows
@@ -559,6 +560,10 @@ add_people_rows(row, lines, A, A3)
 
 add_by_file_rows(row, lines, A)
 
+# --- failed logins
+
+add_attempt_rows(row, lines, U)
+
 # --- closed standard streams
 
 BESIDE = 'A file and standard input, with '
@@ -659,6 +664,7 @@ row('example-users-of-a-build', 'sa,sa -m', 'The usage of each user of a small b
           '1001              1         0.01re         0.00cp         40avio        300k'), files={'build.acct': example('build.acct')})
 add_usage_example(row, lines, example)
 add_people_example(row, lines, example)
+add_attempt_example(row, lines, example)
 
 # --- CSV
 
@@ -794,7 +800,7 @@ def room(r):
 README_HEAD = '''# Worked rows
 
 Each row is one run of the program: a folder with its input files, its words and what it must write. They stand by report, `ac/`, `last/`,
-`sa/` and `all/`; apart from these the runs that end with a fault, `faults/`, those that ask for help, `help/`, and those that README and manual
+`lastb/`, `sa/` and `all/`; apart from these the runs that end with a fault, `faults/`, those that ask for help, `help/`, and those that README and manual
 show, `examples/`. No two have one name.
 
     tools/run TALLY_BINARY                    every row
@@ -827,7 +833,7 @@ In a folder:
 | `stdout_to` | a device that takes the place of standard output |
 | `closed` | the standard streams that are closed, by number |
 
-Needs: `ac`, `last`, `sa`, `all` are the subcommands, with `ac -d` and the like for flags; `offset` is
+Needs: `ac`, `last`, `lastb`, `sa`, `all` are the subcommands, with `ac -d` and the like for flags; `offset` is
 `--east` and `--west`; `clock` that clock changes move sessions; `files` several files; `feeders`, `askers`,
 `until`, `csv` and `zone` these options; `moment` that `--until` takes more than a number of seconds; `choice` reports on some users,
 some lines or a period; `uid` and `period` the same of `sa`, users by number; `names` the names of users from a file; `by-file` that `sa`

@@ -2,8 +2,9 @@
 import struct
 
 BLOCK = 1024                      # records that are read at once
-SIZES = {'w': 384, 'p': 64}
+SIZES = {'w': 384, 'b': 384, 'p': 64}
 VERSIONS = (2, 3)
+FAILED = (0, 6, 7)                # types of login records that a file of failed logins has
 
 
 class Fault(Exception):
@@ -34,7 +35,14 @@ def login(raw, at):
         raise Fault('record %d has login type %d' % (at, kind))
     time, = struct.unpack_from('<i', raw, 340)
     record = dict(line=text_of(raw[8:40]), user=text_of(raw[44:76]), remote=text_of(raw[76:332]), time=time)
-    return dict(record, event=event(kind, record['line'], record['user']))
+    return dict(record, kind=kind, event=event(kind, record['line'], record['user']))
+
+
+def failed_login(raw, at):
+    record = login(raw, at)
+    if record['kind'] not in FAILED:
+        raise Fault('no file of failed logins')
+    return record
 
 
 def event(kind, line, user):
@@ -62,13 +70,28 @@ def process(raw, at):
     return dict(name=text_of(name), forked=raw[0] % 2 == 1, uid=uid, begin=begin, real=real, cpu=cpu, io=io, mem_cpu=mem * cpu)
 
 
+def torn(raw, size):
+    return Fault('torn after %d records, %d bytes left' % (len(raw) // size, len(raw) % size))
+
+
+def failed_logins_of(raw):
+    """The records of a file of failed logins, or what stands first in it that is none."""
+    size = SIZES['b']
+    found = [failed_login(raw[size * at:size * at + size], at) for at in range(len(raw) // size)]
+    if len(raw) % size:
+        raise torn(raw, size)
+    return found
+
+
 def records_of(kind, raw):
     """The records of a file, or the fault of its first faulty block."""
+    if kind == 'b':
+        return failed_logins_of(raw)
     size, found = SIZES[kind], []
     for start in range(0, len(raw), BLOCK * size):
         block = raw[start:start + BLOCK * size]
         if len(block) % size:
-            raise Fault('torn after %d records, %d bytes left' % (len(raw) // size, len(raw) % size))
+            raise torn(raw, size)
         for at in range(0, len(block), size):
             read = login if kind == 'w' else process
             found.append(read(block[at:at + size], (start + at) // size))

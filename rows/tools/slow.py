@@ -9,7 +9,7 @@ import datetime
 import io
 
 import moments
-from choices import cut, is_chosen, is_met, is_process_chosen, look
+from choices import cut, is_attempt_chosen, is_chosen, is_met, is_process_chosen, look
 from clocks import fixed, of_zone
 from passwd import fault_of, name_in
 from records import Fault, records_of, text_of
@@ -79,6 +79,23 @@ def sessions_of(hosts, asked):
     return [cut(stay, asked.period) for stay in stays if is_chosen(asked.job, stay)]
 
 
+# Failed logins
+
+def attempts_of(host, asked):
+    return [record for record in host if is_attempt_chosen(asked.job, record, asked.period)]
+
+
+def attempts_shown(host, asked):
+    return attempts_of(host, asked)[::-1][:asked.limit]
+
+
+def attempt_sums(hosts, asked):
+    """User, remote host and number of failed logins of each row."""
+    groups = grouped([record for host in hosts for record in attempts_of(host, asked)], lambda r: (r['user'], r['remote']))
+    rows = [(group[0]['user'], group[0]['remote'], len(group)) for group in groups]
+    return sorted(rows, key=lambda row: (-row[2], row[0], row[1]))[:asked.limit]
+
+
 # Text
 
 def shown(text):
@@ -125,6 +142,18 @@ def last_text(host, asked):
         start = moment(stay['time'], asked.clock)
         text += '%-8s %-12s %-16s %s%s\n' % (user, line, shown(stay['remote']), start, tail(stay, asked))
     return text + '\nwtmp begins %s\n' % moment(host[0]['time'], asked.clock)
+
+
+def attempts_text(host, asked):
+    if not host:
+        return 'btmp has no records\n'
+    text = ''.join('%-8s %-12s %-16s %s\n' % (shown(r['user']), shown(r['line']), shown(r['remote']), moment(r['time'], asked.clock))
+                   for r in attempts_shown(host, asked))
+    return text + '\nbtmp begins %s\n' % moment(host[0]['time'], asked.clock)
+
+
+def attempt_sums_text(hosts, asked):
+    return ''.join('%8d %-8s %s\n' % (number, shown(user), shown(remote)) for user, remote, number in attempt_sums(hosts, asked))
 
 
 def ac_line(name, seconds, day=None):
@@ -248,6 +277,16 @@ def last_table(hosts, asked):
     return table(names + ',within' * asked.has_within, rows)
 
 
+def attempts_table(hosts, asked):
+    return table('file,user,line,remote,time,at',
+                 [(number, shown(r['user']), shown(r['line']), shown(r['remote']), r['time'], iso(r['time'], asked.clock))
+                  for number, host in enumerate(hosts, 1) for r in attempts_shown(host, asked)])
+
+
+def attempt_sums_table(hosts, asked):
+    return table('user,remote,attempts', [(shown(user), shown(remote), number) for user, remote, number in attempt_sums(hosts, asked)])
+
+
 def ac_table(hosts, asked):
     stays, by_day, by_user = sessions_of(hosts, asked), asked.has('d'), asked.has('p')
     if not by_day and not by_user:
@@ -299,19 +338,21 @@ def output(job, files):
             read.append((kind, records_of(kind, raw)))
         except Fault as fault:
             return 1, '', 'tally: %s: %s\n' % (path, fault)
-    hosts = [records for kind, records in read if kind == 'w']
+    hosts = [records for kind, records in read if kind in 'wb']
     parts = [[record for record in records if is_process_chosen(job, record, asked.period)] for kind, records in read if kind == 'p']
     if asked.has('csv'):
         return 0, {
             'last': lambda: last_table(hosts, asked),
+            'lastb': lambda: (attempt_sums_table if asked.has('sum') else attempts_table)(hosts, asked),
             'ac': lambda: ac_table(hosts, asked),
             'sa': lambda: usage_table(parts, asked),
         }[job['command']](), ''
-    lasts = [last_text(host, asked) for host in hosts]
+    lasts = lambda: [last_text(host, asked) for host in hosts]
     sections = {
-        'last': lambda: lasts,
+        'last': lasts,
+        'lastb': lambda: [attempt_sums_text(hosts, asked)] if asked.has('sum') else [attempts_text(host, asked) for host in hosts],
         'ac': lambda: [ac_text(hosts, asked)],
         'sa': lambda: usage_texts(parts, [path for _, path, _ in files], asked),
-        'all': lambda: lasts + [ac_text(hosts, asked), sa_text(sum(parts, []), False, False, False)],
+        'all': lambda: lasts() + [ac_text(hosts, asked), sa_text(sum(parts, []), False, False, False)],
     }[job['command']]()
     return 0, '\n'.join(sections), ''
