@@ -1,0 +1,5 @@
+pub mod Kinds
+pub mod Marks
+pub mod Records
+pub mod Sums
+pub mod Texts
