@@ -18,10 +18,10 @@ const NUMBER_SIZE: usize = 8;
 
 /// Whether 8 bytes are a count of calls.
 fn is_count(bytes: &[u8]) -> bool
-    requires { 4 ≤ length bytes.now }
+    requires { 8 ≤ length bytes.now }
     ensures { result ≡ Spec.is_count bytes.now }
 {
-    !are_zeros(&bytes[..4]) && are_zeros(&bytes[4..])
+    !are_zeros(&bytes[0..4]) && are_zeros(&bytes[4..8])
 }
 
 fn is_sum(bytes: &[u8; NUMBER_SIZE]) -> bool
@@ -42,19 +42,19 @@ fn has_sums(bytes: &[u8]) -> bool
     ensures { result ≡ Spec.has_sums bytes.now }
 {
     let (numbers, _) = bytes[8..72].as_chunks::<NUMBER_SIZE>();
-    is_count(&bytes[..8]) && are_sums(numbers)
+    is_count(&bytes[0..8]) && are_sums(numbers)
 }
 
 fn is_command_sum(bytes: &[u8; SAVACCT_SIZE]) -> bool
     ensures { result ≡ Spec.is_command_sum bytes.now }
 {
-    has_text(bytes, 0, 16) && bytes[16] <= 1 && has_sums(&bytes[24..])
+    has_text(bytes, 0, 16) && bytes[16] <= 1 && has_sums(&bytes[24..96])
 }
 
 fn is_user_sum(bytes: &[u8; USRACCT_SIZE]) -> bool
     ensures { result ≡ Spec.is_user_sum bytes.now }
 {
-    has_text(bytes, 0, 32) && bytes[0] != 0 && has_sums(&bytes[32..])
+    has_text(bytes, 0, 32) && bytes[0] != 0 && has_sums(&bytes[32..104])
 }
 
 fn are_command_sums(entries: &[[u8; SAVACCT_SIZE]]) -> bool
