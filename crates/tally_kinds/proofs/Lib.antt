@@ -1,1 +1,2 @@
-mod WorkedKinds
+pub mod WorkedKinds
+mod WorkedSums

@@ -6,24 +6,24 @@ use Rattle.tally_kinds.specs.declared.kinds.Looks.{Looks}
 use Rattle.tally_kinds.specs.declared.kinds.Looks.TheVariants.{Nothing, Gzip, Xz, Zstd, Bzip2, Sqlite, FailedLogins, Logins, Logins400, BigEndianLogins, Processes, BigEndianProcesses, Lastlog, Text, Unknown}
 
 -- what a whole file looks like
-abbrev looks : List ℕ → Looks
+abbrev pub looks : List ℕ → Looks
 looks bytes = looks_of bytes (length bytes)
 
 -- a field of n bytes with a text
-abbrev field : ℕ → List ℕ → List ℕ
+abbrev pub field : ℕ → List ℕ → List ℕ
 field n text = text ++ replicate (n - length text) 0
 
 -- what a field holds that tells nothing
-abbrev other : ℕ → List ℕ
+abbrev pub other : ℕ → List ℕ
 other n = replicate n 170
 
 -- a login record with these two bytes of type, and so many bytes after its texts
-abbrev login : ℕ → ℕ → ℕ → List ℕ
+abbrev pub login : ℕ → ℕ → ℕ → List ℕ
 login first second rest =
     first ∷ second ∷ other 6 ++ field 32 (codes "tty1") ++ other 4 ++ field 32 (codes "ann") ++ field 256 (codes "far.example") ++ other rest
 
 -- process records of versions 2 and 3, with these bytes of version
-abbrev version_2 : ℕ → List ℕ
+abbrev pub version_2 : ℕ → List ℕ
 version_2 version = 1 ∷ version ∷ other 34 ++ field 17 (codes "make") ++ other 11
 
 abbrev version_3 : ℕ → List ℕ

@@ -18,12 +18,12 @@ abbrev pub has_all : ℕ → (List ℕ → Bool) → List ℕ → ℕ → Bool
 has_all n is_record front size = is_whole n front size && list_all is_record (records n front)
 
 -- the field of so many bytes at an offset
-abbrev pub field : ℕ → ℕ → List ℕ → List ℕ
-field offset n bytes = take n (drop offset bytes)
+abbrev pub field_at : ℕ → ℕ → List ℕ → List ℕ
+field_at offset n bytes = take n (drop offset bytes)
 
 -- it holds a text
 abbrev pub has_text : ℕ → ℕ → List ℕ → Bool
-has_text offset n bytes = is_padded (field offset n bytes)
+has_text offset n bytes = is_padded (field_at offset n bytes)
 
 -- a type of utmp(5), 0 to 9, as its low and its high byte
 abbrev pub is_type : ℕ → ℕ → Bool
