@@ -8,6 +8,31 @@ _tally_zones() {
     fi
 }
 
+# The names of files, as the shell itself offers and quotes them.
+_tally_files() {
+    compopt -o default
+}
+
+# A file of records after the letter of its kind. Out of quotes the shell takes the colon for a word of its own.
+_tally_records() {
+    local word=${1#[\'\"]} before=$2
+    case $word in
+        [wp]:*)
+            compopt -o filenames
+            mapfile -t COMPREPLY < <(compgen -P "${word%%:*}:" -f -- "${word#?:}")
+            ;;
+        :) _tally_files ;;
+        *)
+            if [ "$before" = : ]; then
+                _tally_files
+            else
+                compopt -o nospace
+                COMPREPLY=($(compgen -W 'w: p:' -- "$word"))
+            fi
+            ;;
+    esac
+}
+
 _tally() {
     local word=${COMP_WORDS[COMP_CWORD]} before=${COMP_WORDS[COMP_CWORD - 1]} options=
     COMPREPLY=()
@@ -16,19 +41,20 @@ _tally() {
         return
     fi
     case ${COMP_WORDS[1]} in
-        last) options='-n --user --line -s --from -t --to --in -p --at --until --csv --feeders --east --west --zone -h --help' ;;
-        lastb) options='-n --sum --user --line -s --from -t --to --in --csv --feeders --east --west --zone -h --help' ;;
-        ac) options='-d -p --user --line --from --to --in --until --csv --feeders --east --west --zone -h --help' ;;
+        last) options='-n --user --line -s --from -t --to --in -p --at --until --csv -f --feeders --east --west --zone -h --help' ;;
+        lastb) options='-n --sum --user --line -s --from -t --to --in --csv -f --feeders --east --west --zone -h --help' ;;
+        ac) options='-d -p --user --line --from --to --in --until --csv -f --feeders --east --west --zone -h --help' ;;
         sa) options='-a -m -n -r --uid --from --to --in --names --by-file --csv --feeders --east --west --zone -h --help' ;;
         all) options='--askers --until --feeders --east --west --zone -h --help' ;;
         help)
             COMPREPLY=($(compgen -W 'last lastb ac sa all help' -- "$word"))
             return
             ;;
+        *) return ;;
     esac
     if [ "$before" = --zone ]; then
         case $word in
-            /* | .*) COMPREPLY=($(compgen -f -- "$word")) ;;
+            /* | .*) _tally_files ;;
             *) COMPREPLY=($(compgen -W "$(_tally_zones)" -- "$word")) ;;
         esac
         return
@@ -42,18 +68,18 @@ _tally() {
             COMPREPLY=($(compgen -W now -- "$word"))
             return
             ;;
-        sa:--names)
-            COMPREPLY=($(compgen -f -- "$word"))
+        last:-f | lastb:-f | ac:-f | sa:--names)
+            _tally_files
             return
             ;;
         last:--line | lastb:--line | ac:--line | *:--in | sa:--uid) return ;;
         last:-n | lastb:-n | *:--feeders | *:--east | *:--west | *:--askers) return ;;
     esac
-    case $word in
-        -*) COMPREPLY=($(compgen -W "$options" -- "$word")) ;;
-        [wp]:*) [ "${COMP_WORDS[1]}" = all ] && COMPREPLY=($(compgen -P "${word%%:*}:" -f -- "${word#?:}")) ;;
-        *) COMPREPLY=($(compgen -f -- "$word")) ;;
+    case ${COMP_WORDS[1]}:$word in
+        *:-*) COMPREPLY=($(compgen -W "$options" -- "$word")) ;;
+        all:*) _tally_records "$word" "$before" ;;
+        *) _tally_files ;;
     esac
 }
 
-complete -o filenames -F _tally tally
+complete -F _tally tally
