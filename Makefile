@@ -8,7 +8,7 @@ INTO = $(DESTDIR)$(PREFIX)
 WORDS = ac -p
 FILES = examples/morning.wtmp
 
-.PHONY: build look test test-anew test-edits test-big pictures install uninstall clean
+.PHONY: build look test test-anew test-edits test-big pictures install uninstall dist clean
 
 # Proves every crate that the program stands on, and builds it.
 build:
@@ -55,5 +55,9 @@ uninstall:
 	rm -f "$(INTO)/bin/tally" "$(INTO)/share/man/man1/tally.1" "$(INTO)/share/bash-completion/completions/tally"
 	rm -f "$(INTO)/share/zsh/site-functions/_tally" "$(INTO)/share/fish/vendor_completions.d/tally.fish"
 
+# One archive for a machine without the kit: program, manual, completions, and SHA256SUMS of these, in out/.
+dist: build
+	@.ci/dist $(PROGRAM)
+
 clean:
-	rm -rf crates/*/out
+	rm -rf crates/*/out out
