@@ -18,6 +18,7 @@ from by_file_rows import add_rows as add_by_file_rows
 from choice_faults import add_rows as add_choice_faults
 from choice_rows import add_rows as add_choice_rows
 from common import ROOMS, TOP
+from file_rows import add_rows as add_file_rows
 from moment_rows import add_rows as add_moment_rows
 from moments import NO_RANGE
 from people_rows import add_example as add_people_example, add_rows as add_people_rows
@@ -180,7 +181,7 @@ row('bad-block-comes-before-a-torn-one', 'ac',
 row('file-not-there', 'ac', 'A file that cannot be opened.', ['ac', 'f'], '', 'tally: f: cannot be opened\n', 1)
 row('a-folder-cannot-be-read', 'ac', 'A folder is opened, and the read fails.', ['ac', '.'], '',
     'tally: .: read failed\n', 1)
-row('no-file-named', 'ac', 'A command without a file is refused.', ['ac'], '', None, 2)
+row('no-file-named', 'all', 'A report of all without a file is refused; the others then read the file that their peers read.', ['all'], '', None, 2)
 row('unknown-subcommand', 'ac', 'A subcommand that does not exist is refused.', ['who', 'f'], '', None, 2, {'f': b''})
 row('no-words', 'ac', 'No words at all are refused.', [], '', None, 2)
 row('help-of-ac', 'ac', 'Help goes to standard output, with status 0.', ['ac', '--help'], None, '', 0)
@@ -563,6 +564,10 @@ add_by_file_rows(row, lines, A)
 # --- failed logins
 
 add_attempt_rows(row, lines, U)
+
+# --- files of an option
+
+add_file_rows(row, lines, U)
 
 # --- closed standard streams
 
