@@ -1,0 +1,84 @@
+"""Runs without a file, where the program's root is a folder of the test: which file is read then.
+
+Only root may take another root; else the case is left out, and said. What is wanted is written out by hand.
+"""
+import os
+import shutil
+
+from make import MAKE, ONE_HOUR, ONE_HOUR_LAST, SA_FORKED, SA_NOTHING, SA_OTHER, SA_TOTAL, SA_USERS, TOTAL_ONE, U, lines
+from places import Root, same
+
+WTMP, BTMP = 'var/log/wtmp', 'var/log/btmp'
+# Where Debian keeps process records, and where Red Hat does.
+DEBIAN, RED_HAT = 'var/log/account/pacct', 'var/account/pacct'
+NAMED = 'var/named'
+TWO_HOURS = U(7, 'tty1', 'bob', '-', 2000000) + U(8, 'tty1', '-', '-', 2007200)
+ATTEMPTS = U(6, 'tty1', 'ann', '-', 60) + U(6, 'tty1', 'ann', '-', 120)
+LASTB = lines('ann      tty1                          1970-01-01 00:02:00',
+              'ann      tty1                          1970-01-01 00:01:00', '', 'btmp begins 1970-01-01 00:01:00')
+COMMANDS = lines(SA_TOTAL, SA_OTHER, SA_FORKED)
+TWO_HOURS_LAST = lines('bob      tty1                          1970-01-24 03:33:20 - 1970-01-24 05:33:20 (02:00)', '',
+                       'wtmp begins 1970-01-24 03:33:20')
+ALL_FILES = {WTMP: ONE_HOUR, BTMP: ATTEMPTS, DEBIAN: MAKE}
+
+# The files that are there, the words, and the report.
+READ = (
+    (ALL_FILES, ('last',), ONE_HOUR_LAST),
+    (ALL_FILES, ('ac',), TOTAL_ONE),
+    (ALL_FILES, ('lastb',), LASTB),
+    (ALL_FILES, ('sa',), COMMANDS),
+    (ALL_FILES, ('sa', '-m'), SA_USERS),
+    ({RED_HAT: MAKE}, ('sa',), COMMANDS),
+    # Of both the first is read, even if it has nothing.
+    ({DEBIAN: MAKE, RED_HAT: b''}, ('sa',), COMMANDS),
+    ({DEBIAN: b'', RED_HAT: MAKE}, ('sa',), SA_NOTHING),
+    # A file that is named is read alone.
+    ({WTMP: ONE_HOUR, NAMED: TWO_HOURS}, ('last', NAMED), TWO_HOURS_LAST),
+    ({WTMP: ONE_HOUR, NAMED: TWO_HOURS}, ('last', '-f', NAMED), TWO_HOURS_LAST),
+    ({WTMP: ONE_HOUR, NAMED: TWO_HOURS}, ('ac', '-f' + NAMED), lines('total                        2.00')),
+    ({DEBIAN: b'', NAMED: MAKE}, ('sa', NAMED), COMMANDS),
+)
+# Where the file is not there, or is of another kind: the files, the words, and the fault line. On a terminal a hint follows.
+REFUSED = (
+    ({BTMP: ATTEMPTS, DEBIAN: MAKE}, ('last',), '/var/log/wtmp: cannot be opened', '/var/log/wtmp is not there'),
+    ({BTMP: ATTEMPTS, DEBIAN: MAKE}, ('ac', '-d'), '/var/log/wtmp: cannot be opened', '/var/log/wtmp is not there'),
+    ({WTMP: ONE_HOUR, DEBIAN: MAKE}, ('lastb', '--sum'), '/var/log/btmp: cannot be opened', '/var/log/btmp is not there'),
+    ({WTMP: ONE_HOUR, BTMP: ATTEMPTS}, ('sa',), '/var/log/account/pacct: cannot be opened', '/var/log/account/pacct is not there'),
+    ({RED_HAT + '/pacct': MAKE}, ('sa',), '/var/account/pacct: read failed', '/var/account/pacct is a folder'),
+    ({DEBIAN: ONE_HOUR}, ('sa', '-m'), '/var/log/account/pacct: record 0 has version 0',
+     '/var/log/account/pacct has login records: try tally last /var/log/account/pacct'),
+)
+
+
+def with_files(root, files):
+    """The root, with these files below var/ and no others."""
+    shutil.rmtree(root.path('var'), ignore_errors=True)
+    for path, data in files.items():
+        root.put(path, data)
+    return root
+
+
+def files_of_the_system(place):
+    """Without FILE a report reads the file of its peer: of the two of process records the first, unless only the other is there."""
+    if os.geteuid() != 0:
+        print('  left out, since only root may take another root')
+        return
+    os.mkdir(place.path('root'))
+    root = Root(place.binary, os.path.join(place.folder, 'root'))
+    for files, words, wanted in READ:
+        done = with_files(root, files).run(*words)
+        same((done.returncode, done.stdout, done.stderr), (0, wanted.encode(), b''), '%s: ' % (words,))
+    for files, words, fault, hint in REFUSED:
+        done, fault = with_files(root, files).run(*words), b'tally: %s\n' % fault.encode()
+        same((done.returncode, done.stdout, done.stderr), (1, b'', fault), '%s: ' % (words,))
+        done, said = root.on_terminal(*words)
+        same((done.returncode, done.stdout, said), (1, b'', fault + b'hint: %s\n' % hint.encode()), '%s: ' % (words,))
+
+
+def no_file_of_all(place):
+    """A report of all has no such file, and is refused as a mistaken command line."""
+    done = place.run('all')
+    same((done.returncode, done.stdout), (2, b''))
+
+
+CASES = (files_of_the_system, no_file_of_all)

@@ -1,0 +1,161 @@
+"""Runs on a terminal: what it is shown of a path, which hint follows a fault line, and how far a run is.
+
+Each case is a function of a place, with what it wants in its first line.
+"""
+import os
+import re
+import threading
+import time
+
+from hints import READ, REFUSED
+from kinds import KINDS
+from make import MAKE, ONE_HOUR, ONE_HOUR_LAST, SA_FORKED, SA_OTHER, SA_TOTAL, TOTAL_ONE, lines
+from places import other_user, same
+
+ONE, TORN = TOTAL_ONE.encode(), b'a\nb\x1b[2J'
+# What erases the line that a terminal is in.
+ERASE = rb'\r\x1b\[K'
+
+
+def path_on_a_terminal(place):
+    """A byte of a path that does not print is a question mark on a terminal, and stands elsewhere."""
+    path = b'no\n\x1b[2J\xc3\xa9\x7f'
+    same(place.on_terminal(b'ac', path)[1], b'tally: no??[2J???: cannot be opened\nhint: no??[2J??? is not there\n')
+    same(place.run(b'ac', path).stderr, b'tally: ' + path + b': cannot be opened\n')
+
+
+def faulty_file_on_a_terminal(place):
+    """So in the line of a file that was read, and where a prefix is missing."""
+    place.put(TORN, ONE_HOUR[:385])
+    done, said = place.on_terminal(b'ac', TORN)
+    same((done.returncode, said), (1, b'tally: a?b?[2J: torn after 1 records, 1 bytes left\n'))
+    done, said = place.on_terminal(b'all', b'w:f', TORN)
+    same((done.returncode, said), (2, b'tally: a?b?[2J: no prefix w: or p:\n'))
+
+
+def refused_word_on_a_terminal(place):
+    """The parser's text names a word as the terminal shows it, and as given elsewhere."""
+    done, said = place.on_terminal(b'ac', b'--no\n\x1b[2J', b'f')
+    plain = place.run(b'ac', b'--no??[2J', b'f')
+    same((done.returncode, said), (2, plain.stderr))
+    assert b"--no??[2J" in said, said
+    assert b'--no\n\x1b[2J' in place.run(b'ac', b'--no\n\x1b[2J', b'f').stderr
+
+
+def report_on_a_terminal(place):
+    """A terminal as standard error changes no report."""
+    done, said = place.on_terminal(b'ac', b'f')
+    same((done.returncode, done.stdout, said), (0, ONE, b''))
+
+
+def hinted(place, words, hint, status, **options):
+    """On a terminal the hint alone comes after what is said elsewhere."""
+    plain = place.run(*words, **options)
+    done, said = place.on_terminal(*words, **options)
+    same((done.returncode, done.stdout), (plain.returncode, plain.stdout), '%s: ' % (words,))
+    same((done.returncode, said), (status, plain.stderr + (b'hint: %s\n' % hint.encode() if hint else b'')), '%s: ' % (words,))
+
+
+def hints_on_a_terminal(place):
+    """What a refused file looks like is said after the fault line, and which files that were read seem to have failed logins."""
+    for name, data in KINDS.items():
+        place.put(name, data)
+    for words, hint in REFUSED:
+        hinted(place, words, hint, 1)
+    for words, hint in READ:
+        hinted(place, words, hint, 0)
+
+
+def hint_on_a_path(place):
+    """A byte of a path that does not print is a question mark in its hint too."""
+    place.put('a\x1bb', KINDS['gzip'])
+    said = place.on_terminal('ac', 'a\x1bb')[1]
+    same(said.splitlines()[1:], [b'hint: a?b is packed by gzip: try zcat a?b | tally ac /dev/stdin'])
+
+
+def pipe_of(place, name, *pieces):
+    """Makes a named pipe, and a thread that writes these into it, with more than a second between each two."""
+    path = place.path(name)
+    os.mkfifo(path)
+
+    def write():
+        with open(path, 'wb', buffering=0) as pipe:
+            pipe.write(pieces[0])
+            for piece in pieces[1:]:
+                time.sleep(1.2)
+                pipe.write(piece)
+    writer = threading.Thread(target=write)
+    writer.start()
+    return writer
+
+
+def no_hint_on_what_is_read_once(place):
+    """Standard input and a named pipe are not looked at again."""
+    packed = KINDS['gzip']
+    place.put('packed', packed)
+    with open(place.path('packed'), 'rb') as file:
+        said = place.on_terminal('ac', '/dev/stdin', stdin=file)[1]
+    same(said, b'tally: /dev/stdin: torn after 0 records, %d bytes left\n' % len(packed))
+    writer = pipe_of(place, 'pipe', packed)
+    said = place.on_terminal('ac', 'pipe')[1]
+    writer.join()
+    same(said, b'tally: pipe: torn after 0 records, %d bytes left\n' % len(packed))
+
+
+def hint_on_a_file_of_another_user(place):
+    """A file that only its user may read, and a folder."""
+    os.chmod(place.path('f'), 0)
+    os.mkdir(place.path('closed'), 0)
+    hinted(place, ('last', 'f'), 'f may not be read by this user', 1, preexec_fn=other_user)
+    hinted(place, ('sa', 'closed/f'), 'closed/f may not be read by this user', 1, preexec_fn=other_user)
+    hinted(place, ('last', 'closed'), 'closed is a folder', 1, preexec_fn=other_user)
+
+
+FAILED = lines('ann      :0                            1970-01-12 13:48:20',
+               'root     ssh:notty    203.0.113.7      1970-01-12 13:46:40', '', 'btmp begins 1970-01-12 13:46:40')
+# Reports that read a file in two pieces: the words, the pieces, what is said of the file, and the report.
+FOLLOWED = (
+    (('ac',), (ONE_HOUR[:384], ONE_HOUR[384:]), b'768 bytes, 2 records', ONE),
+    (('last',), (ONE_HOUR[:384], ONE_HOUR[384:]), b'768 bytes, 2 records', ONE_HOUR_LAST.encode()),
+    (('sa',), (MAKE[:64], MAKE[64:]), b'192 bytes, 3 records', lines(SA_TOTAL, SA_OTHER, SA_FORKED).encode()),
+    (('lastb',), (KINDS['failed'][:384], KINDS['failed'][384:]), b'768 bytes, 2 records', FAILED.encode()),
+)
+
+
+def followed_on_a_terminal(place):
+    """Where a run takes more than a second, a terminal says how far it is, by the end of a long path, and nothing of it is left."""
+    path = 'p' * 10 + '\x1b' + 'q' * 39
+    for words, pieces, read, report in FOLLOWED:
+        writer = pipe_of(place, path, *pieces)
+        done, said = place.on_terminal(*words, path)
+        writer.join()
+        os.remove(place.path(path))
+        same((done.returncode, done.stdout), (0, report), '%s: ' % (words,))
+        assert re.fullmatch(rb'(%s\?q{39}: %s)+%s' % (ERASE, read, ERASE), said), '%s: %r' % (words, said)
+
+
+def followed_up_to_the_report(place):
+    """The line is gone before the report is printed, and before a fault line."""
+    for pieces, status, last in (((ONE_HOUR[:384], ONE_HOUR[384:]), 0, ONE),
+                                 ((ONE_HOUR[:384], ONE_HOUR[384:385]), 1, b'tally: slow: torn after 1 records, 1 bytes left\n')):
+        writer = pipe_of(place, 'slow', *pieces)
+        done, said = place.on_terminal('ac', 'slow', is_whole=True)
+        writer.join()
+        os.remove(place.path('slow'))
+        wanted = rb'(%sslow: %d bytes, %d records)+%s%s' % (ERASE, sum(map(len, pieces)), 2 - status, ERASE, re.escape(last))
+        assert done.returncode == status and re.fullmatch(wanted, said), said
+
+
+def followed_nowhere_else(place):
+    """Elsewhere such a run says nothing."""
+    for words, pieces, _, report in FOLLOWED:
+        writer = pipe_of(place, 'slow', *pieces)
+        done = place.run(*words, 'slow')
+        writer.join()
+        os.remove(place.path('slow'))
+        same((done.returncode, done.stdout, done.stderr), (0, report, b''), '%s: ' % (words,))
+
+
+CASES = (path_on_a_terminal, faulty_file_on_a_terminal, refused_word_on_a_terminal, report_on_a_terminal, hints_on_a_terminal,
+         hint_on_a_path, no_hint_on_what_is_read_once, hint_on_a_file_of_another_user, followed_on_a_terminal, followed_up_to_the_report,
+         followed_nowhere_else)
