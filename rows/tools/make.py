@@ -505,6 +505,23 @@ row('shutdown-by-its-name-and-line', 'ac', 'Only `shutdown` on a line that begin
     TOTAL_ONE, files={'f': U(7, 'tty1', 'ann', '-', 0) + U(1, '~', 'shutdownx', '-', 100) + U(1, 'tty1', 'shutdown', '-', 200)
                       + U(1, '~', 'shutdown', '-', 3600) + U(8, 'tty1', '-', '-', 7200)})
 
+# --- records of zeros, as a crash leaves them
+
+ZEROS = 2 * bytes(384)
+ANN_AND_BOB = (U(7, 'tty1', 'ann', '-', 1000000) + U(7, 'tty2', 'bob', '-', 1000000) + U(8, 'tty2', '-', '-', 1003600))
+row('zeros-before-a-boot', 'ac', 'Between other records they change nothing: the boot ends the session.', ['ac', 'f'], TOTAL_ONE,
+    files={'f': ONE_HOUR[:384] + ZEROS + U(2, '~', 'reboot', '-', 1003600)})
+row('zeros-at-the-end', 'ac,ac -p', 'The last time is 1970, so that the open session of ann has no length.', ['ac', '-p', 'f'],
+    lines('bob                          1.00', 'total                        1.00'), files={'f': ANN_AND_BOB + ZEROS})
+row('zeros-at-the-end-up-to-a-moment', 'ac,ac -p,until', '--until gives it one: two hours.', ['ac', '-p', '--until', '1007200', 'f'],
+    lines('ann                          2.00', 'bob                          1.00', 'total                        3.00'),
+    files={'f': ANN_AND_BOB + ZEROS})
+row('zeros-at-the-beginning', 'last', 'The first time is 1970.', ['last', 'f'],
+    lines('ann      tty1                          1970-01-12 13:46:40 - 1970-01-12 14:46:40 (01:00)', '',
+          'wtmp begins 1970-01-01 00:00:00'), files={'f': ZEROS + ONE_HOUR})
+row('process-record-of-zeros', 'sa', 'It has no version.', ['sa', 'f'], '', 'tally: f: record 3 has version 0\n', 1,
+    {'f': MAKE + bytes(64)})
+
 # --- until
 
 row('open-session-up-to-a-moment', 'ac,files,until', 'd is open on one host and has 1850 seconds; 4250 in all.',
