@@ -3,6 +3,7 @@ use Rattle.std.proofs.Common.{◌≡◌, ◌∙◌, ◌<◌, ◌⊎◌, inl, inr
 use Rattle.std.specs.Prelude.{String, option_map, unwrap_or, codes, slice_get, slice_index_or}
 use Rattle.std.specs.Borrow.{Bor}
 use Rattle.std.proofs.lemmas.List.{length-map}
+use Rattle.std.proofs.lemmas.List.Elements.{All-nil}
 use Rattle.std.proofs.lemmas.Option.{slice_get-map, unwrap_or-slice_get}
 use Rattle.std.proofs.lemmas.Result.{IfErr-weaker, IfOk-weaker}
 use Rattle.clap.specs.Walk.{texts}
@@ -15,7 +16,7 @@ use Rattle.clap.specs.declared.parser.matches.Found.{Found}
 use Rattle.clap.proofs.WalkLemmas.{one_text-rows, raw_values-rows}
 use Rattle.tally_line.proofs.Accepted.{accepted_are_complete}
 use Rattle.tally_line.specs.CommandLine.{tally_app}
-use Rattle.tally_line.specs.FileWords.{IsFirstBare, NamesFiles}
+use Rattle.tally_line.specs.FileWords.{IsFirstBare, NamesFiles, Reads}
 use Rattle.tally_line.specs.Lines.{Answers, AreAccepted, AsksFor, HasNoWord, AreSound, AsksForm, IsRunOf, Refuses, file_words, met_in, name_of, rows_met, words_in}
 use Rattle.tally_line.specs.inside.LineSteps.{IsComplete, IsFaultFor, IsHelpFor, IsFaultOf, IsFileFault, IsLineOf, IsMemoryOrUsage}
 use Rattle.tally_line.specs.Jobs.{IsRunnable, TakesUntil}
@@ -62,20 +63,29 @@ word_found words borrowed i found are at =
     ∙ ap (λ (ws : List Text). unwrap_or (slice_get ws i) []) (sym are)
     ∙ unwrap_or-slice_get words i []
 
+-- no words name no files
+pub no_files : (r : Report) (words : List Text) (files : List FileArg) → words ≡ [] → files ≡ [] → NamesFiles r words files
+no_files r words files none empty = rw (none, empty) (record { each_word = refl; each_kind = All-nil (λ (file : FileArg). Reads r file.kind) })
+
 -- ---- the answers of one subcommand
 
-pub file_fault : (name : Text) (rows : List Row) (r : Report) (words : List Text) (f : LineFault) → name ≡ name_of r → words_in rows ≡ words
-    → IsFileFault r words f → IsFaultOf (Some (name, rows)) f
-file_fault name rows r words fault.Memory named words_are h = tt
-file_fault name rows r words (fault.Usage text) named words_are h = absurd h
-file_fault name rows r words (fault.Prefix index) named words_are h =
-    (ap Some (named ∙ ap name_of h.0), rw words_are h.1)
+pub file_fault : (name : Text) (rows : List Row) (r : Report) (f : LineFault) → name ≡ name_of r
+    → IsFileFault r (words_in rows) f → IsFaultOf (Some (name, rows)) f
+file_fault name rows r fault.Memory named h = tt
+file_fault name rows r (fault.Usage text) named h = absurd h
+file_fault name rows r (fault.Prefix index) named h = (ap Some (named ∙ ap name_of h.0), h.1)
 
-pub run_found : (name : Text) (rows : List Row) (r : Report) (words : List (Bor Text)) (job : Job) (times : Times) (usage : UsageAsked) (zone : Option (String Global)) (files : List FileArg) → name ≡ name_of r
-    → words_in rows ≡ texts words → 0 < length (words_in rows) → job.report ≡ r → IsRunnable job → job.askers ≤ 64 → (job.askers ≡ 0) ⊎ (r ≡ report.All)
-    → AsksForm r rows job.form → SetsJob rows job → times ≡ times_in r rows → TakesUntil r times.until → IsUsageAsked rows usage → IsZoneOf rows zone → AreSound rows → NamesFiles r (texts words) files
+-- a report of all has a file where its words have one
+some_file_named : (name : Text) (rows : List Row) (r : Report) (files : List FileArg) → name ≡ name_of r → (AsksFor report.All (Some (name, rows)) → 0 < length (words_in rows))
+    → NamesFiles r (words_in rows) files → r ≡ report.All → 0 < length files
+some_file_named name rows r files named some names all =
+    omega (arith, some (ap Some (named ∙ ap name_of all)), length-map {A = FileArg} {B = Text}, ap length names.each_word)
+
+pub run_found : (name : Text) (rows : List Row) (r : Report) (job : Job) (times : Times) (usage : UsageAsked) (zone : Option (String Global)) (files : List FileArg) → name ≡ name_of r
+    → (AsksFor report.All (Some (name, rows)) → 0 < length (words_in rows)) → job.report ≡ r → IsRunnable job → job.askers ≤ 64 → (job.askers ≡ 0) ⊎ (r ≡ report.All)
+    → AsksForm r rows job.form → SetsJob rows job → times ≡ times_in r rows → TakesUntil r times.until → IsUsageAsked rows usage → IsZoneOf rows zone → AreSound rows → NamesFiles r (words_in rows) files
     → IsRunOf (Some (name, rows)) job times usage zone files
-run_found name rows r words job times usage word files named words_are some is runnable few asked form options moments until usage_words zone_word sound names = record {
+run_found name rows r job times usage word files named some is runnable few asked form options moments until usage_words zone_word sound names = record {
   named = ap Some (named ∙ ap name_of (sym is));
   runnable = runnable;
   form = rw is form;
@@ -87,8 +97,8 @@ run_found name rows r words job times usage word files named words_are some is r
   usage_words = usage_words;
   zone_word = zone_word;
   sound = sound;
-  some_file = omega (arith, some, ap length words_are, length-map {A = FileArg} {B = Text}, length-map {A = Bor Text} {B = Text}, ap length names.each_word);
-  names_files = rw (is, words_are) names;
+  some_file = λ all. some_file_named name rows r files named some names (sym is ∙ all);
+  names_files = rw is names;
 }
 
 -- ---- the answers to words
@@ -114,7 +124,7 @@ module _ (words : List Text) (command : Command) (is : app_of command ≡ tally_
   accepted : (is_simple_and_free (app_of command) ≡ true → fault_of (app_of command) words ≡ []) → AreAccepted words
   accepted taken = ap (λ (a : App). fault_of a words) (sym is) ∙ taken (ap is_simple_and_free is ∙ tally_is_free)
 
-  -- what a parse found names a report and a file
+  -- what a parse found names a report, and a file where that is of all
   pub complete_matches : (m : ArgMatches) → HasMatchesOf (app_of command) words m
       → (is_simple_and_free (app_of command) ≡ true → fault_of (app_of command) words ≡ []) → IsComplete (subcommand_rows_of m)
   complete_matches m has taken = subst IsComplete (sym (met_in_words m has)) (accepted_are_complete words (accepted taken))

@@ -1,14 +1,18 @@
 -- Worked examples, computed by the definitions.
 use Rattle.std.proofs.Common.{◌≡◌, [], ◌∷◌, None, Some, Err, true, false, map, pos, neg_ℤ, refl}
 use Rattle.std.specs.Prelude.{List, codes}
-use Rattle.clap.specs.Words.{Row}
+use Rattle.clap.proofs.OnLiterals.{clap_on_literals}
+use Rattle.clap.specs.Words.{Row, fault_of}
+use Rattle.clap.specs.declared.error.kind.ErrorKind.TheVariants.{MissingRequiredArgument, UnknownArgument}
 use Rattle.tally_moments.specs.declared.moment.Moment.{Moment}
 use Rattle.tally_moments.specs.declared.moment.Moment.TheVariants.{Day, Now, Second, Time}
 use Rattle.tally_records.specs.Choice.{every_login}
 use Rattle.tally_records.specs.declared.batch.Kind.TheVariants.{FailedLogin, Login, Proc}
 use Rattle.tally_records.specs.declared.period.Period.{Period}
 use Rattle.tally_usage.specs.declared.order.Order.TheVariants.{Cpu}
+use Rattle.tally_line.specs.CommandLine.{tally_app}
 use Rattle.tally_line.specs.FileWords.{word_of}
+use Rattle.tally_line.specs.Lines.{file_words, met_in}
 use Rattle.tally_line.specs.Named.{names_of}
 use Rattle.tally_line.specs.Settled.{is_moment, is_until, known_fault, over, period_by, settled}
 use Rattle.tally_line.specs.Times.{ask_now, until_in}
@@ -21,6 +25,26 @@ use Rattle.tally_line.specs.declared.times.Times.{Times}
 -- a file of `all` has the prefix of its kind, and no other file has one
 words : word_of report.All Login (codes "f") ∷ word_of report.All Proc (codes "f") ∷ word_of (report.Last None every_login false) Login (codes "f") ∷ word_of (report.Attempts None every_login) FailedLogin (codes "f") ∷ [] ≡ codes "w:f" ∷ codes "p:f" ∷ codes "f" ∷ codes "f" ∷ []
 words = refl
+
+-- the files of `-f`, apart from it or joined to it, stand among the others in the order of the words
+files_in_order : file_words (met_in (codes "last" ∷ codes "b" ∷ codes "-f" ∷ codes "a" ∷ codes "-fc" ∷ codes "--csv" ∷ codes "d" ∷ [])) ≡ codes "b" ∷ codes "a" ∷ codes "c" ∷ codes "d" ∷ []
+unfolding tally_app clap_on_literals
+files_in_order = refl
+
+-- no file has to be named, except of a report of all
+unnamed : map (λ name. fault_of tally_app (name ∷ [])) (codes "last" ∷ codes "lastb" ∷ codes "ac" ∷ codes "sa" ∷ codes "all" ∷ []) ≡ [] ∷ [] ∷ [] ∷ [] ∷ (MissingRequiredArgument ∷ []) ∷ []
+unfolding tally_app clap_on_literals
+unnamed = refl
+
+-- words that name none have none
+none_named : file_words (met_in (codes "last" ∷ [])) ≡ []
+unfolding tally_app clap_on_literals
+none_named = refl
+
+-- neither `sa` nor a report of all has `-f`
+letters : map (λ name. fault_of tally_app (name ∷ codes "-f" ∷ codes "w:a" ∷ [])) (codes "ac" ∷ codes "sa" ∷ codes "all" ∷ []) ≡ [] ∷ (UnknownArgument ∷ []) ∷ (UnknownArgument ∷ []) ∷ []
+unfolding tally_app clap_on_literals
+letters = refl
 
 -- ---- seconds
 

@@ -88,18 +88,29 @@ zone_rule = record (new_rule (codes "zone")) {
   parser = Some NonEmptyString;
 }
 
--- the files, one or more
+-- the files of a report, of which none has to be named
 abbrev pub file_rule : Rule
 file_rule = record (new_rule (codes "file")) {
   value_names = 1;
   range = Some (record { start_inclusive = 1; end_inclusive = usize_max });
-  required = true;
 }
 
--- the options and the files that each subcommand has, after its own
-abbrev pub with_common : App → App
-with_common app =
-    with_rule (with_rule (with_rule (with_rule (with_rule app feeders_rule) east_rule) west_rule) zone_rule) file_rule
+-- those of a report of all: one has to be named
+abbrev pub some_file_rule : Rule
+some_file_rule = record file_rule { required = true }
+
+-- `-f FILE` of `last`, `lastb` and `ac`: its words and those without an option are one list, in the order of the words
+abbrev pub more_files_rule : Rule
+more_files_rule = record file_rule { short = Some 102; action = Some Append }
+
+-- the options that each subcommand has after its own, and its files
+abbrev pub with_files : Rule → App → App
+with_files files app =
+    with_rule (with_rule (with_rule (with_rule (with_rule app feeders_rule) east_rule) west_rule) zone_rule) files
+
+-- the same where none has to be named, and `-f` names some, too
+abbrev pub with_more_files : App → App
+with_more_files app = with_files file_rule (with_rule app more_files_rule)
 
 -- the users and lines that a report is over
 abbrev pub with_names : App → App
@@ -120,7 +131,7 @@ with_lettered_period app =
 
 -- `last`
 abbrev pub last_app : App
-last_app = with_common (with_rule (with_rule (with_rule (with_lettered_period (with_names
+last_app = with_more_files (with_rule (with_rule (with_rule (with_lettered_period (with_names
     (with_rule (new_app (codes "last")) limit_rule)))
     (lettered_rule (codes "at") 112))
     until_rule)
@@ -128,13 +139,13 @@ last_app = with_common (with_rule (with_rule (with_rule (with_lettered_period (w
 
 -- `lastb`
 abbrev pub attempts_app : App
-attempts_app = with_common (with_rule (with_lettered_period (with_names
+attempts_app = with_more_files (with_rule (with_lettered_period (with_names
     (with_rule (with_rule (new_app (codes "lastb")) limit_rule) sum_rule)))
     csv_rule)
 
 -- `ac`
 abbrev pub connect_app : App
-connect_app = with_common (with_rule (with_rule (with_period (with_names (with_rule (with_rule (new_app (codes "ac"))
+connect_app = with_more_files (with_rule (with_rule (with_period (with_names (with_rule (with_rule (new_app (codes "ac"))
     (flag_rule (codes "by_day") 100))
     (flag_rule (codes "by_user") 112))))
     until_rule)
@@ -150,7 +161,7 @@ with_usage_flags app = with_rule (with_rule (with_rule (with_rule app
 
 -- `sa`
 abbrev pub usage_app : App
-usage_app = with_common (with_rule (with_rule (with_rule (with_period (with_rule (with_usage_flags (new_app (codes "sa")))
+usage_app = with_files file_rule (with_rule (with_rule (with_rule (with_period (with_rule (with_usage_flags (new_app (codes "sa")))
     (repeated_rule (codes "uid"))))
     (word_rule (codes "names")))
     by_file_rule)
@@ -158,7 +169,7 @@ usage_app = with_common (with_rule (with_rule (with_rule (with_period (with_rule
 
 -- `all`
 abbrev pub all_app : App
-all_app = with_common (with_rule (with_rule (new_app (codes "all")) askers_rule) until_rule)
+all_app = with_files some_file_rule (with_rule (with_rule (new_app (codes "all")) askers_rule) until_rule)
 
 -- words without a program's name, of which one names a subcommand; `--version` is taken too
 abbrev pub top_app : App

@@ -95,7 +95,7 @@ pub record IsRunOf (met : Met) (job : Job) (times : Times) (usage : UsageAsked) 
   pub usage_words : IsUsageAsked (rows_met met) usage
   pub zone_word : IsZoneOf (rows_met met) zone
   pub sound : AreSound (rows_met met)
-  pub some_file : 0 < length files
+  pub some_file : job.report ≡ report.All → 0 < length files
   pub names_files : NamesFiles job.report (file_words met) files
 
 -- `clap` answers with a text of its own: help, or the version

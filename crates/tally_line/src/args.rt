@@ -1,7 +1,8 @@
 //! The arguments of the command line.
 ghost use Rattle.std.specs.Prelude.{◌≡◌, false};
 ghost use Rattle.clap.specs.Words.{rule_of};
-ghost use Rattle.tally_line.specs.CommandLine.{askers_rule, by_file_rule, csv_rule, feeders_rule, file_rule, flag_rule, lettered_rule, limit_rule, minutes_rule, number_rule, repeated_rule, sum_rule, until_rule, word_rule, zone_rule};
+ghost use Rattle.tally_line.specs.CommandLine.{askers_rule, by_file_rule, csv_rule, feeders_rule, file_rule, flag_rule, lettered_rule, limit_rule, minutes_rule, more_files_rule};
+ghost use Rattle.tally_line.specs.CommandLine.{number_rule, repeated_rule, some_file_rule, sum_rule, until_rule, word_rule, zone_rule};
 
 use clap::builder::ValueParser;
 use clap::{Arg, ArgAction, value_parser};
@@ -129,6 +130,7 @@ pub(crate) fn zone<'a>(alloc: Global) -> Arg<'a>
         .value_parser(ValueParser::NonEmptyString)
 }
 
+/// The files of a report, which need not be named.
 pub(crate) fn file<'a>(alloc: Global, help: &'a str) -> Arg<'a>
     ensures rule { rule_of result ≡ file_rule }
     ensures local { result.global ≡ false }
@@ -136,8 +138,24 @@ pub(crate) fn file<'a>(alloc: Global, help: &'a str) -> Arg<'a>
     Arg::new(alloc, "file")
         .value_name("FILE")
         .help(help)
-        .required(true)
         .num_args(1..)
+}
+
+/// The same where one has to be named.
+pub(crate) fn some_file<'a>(alloc: Global, help: &'a str) -> Arg<'a>
+    ensures rule { rule_of result ≡ some_file_rule }
+    ensures local { result.global ≡ false }
+{
+    file(alloc, help).required(true)
+}
+
+/// Files named by `-f`, in one list with those without an option.
+pub(crate) fn more_files<'a>(alloc: Global) -> Arg<'a>
+    ensures rule { rule_of result ≡ more_files_rule }
+    ensures local { result.global ≡ false }
+{
+    let help = "Read FILE, too, as if it stood without -f; may be repeated";
+    file(alloc, help).short('f').action(ArgAction::Append)
 }
 
 /// A long option with minutes from UTC.

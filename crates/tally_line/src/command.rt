@@ -1,12 +1,12 @@
 //! The command line as `clap` reads it.
 ghost use Rattle.std.specs.Prelude.{◌≡◌, IfOk, false};
 ghost use Rattle.clap.specs.Words.{App, Rule, new_app, rule_of, with_rule, with_subcommand};
-ghost use Rattle.tally_line.specs.CommandLine.{all_app, attempts_app, connect_app, last_app, tally_app, top_app, usage_app, with_common, with_lettered_period, with_names, with_period, with_usage_flags};
+ghost use Rattle.tally_line.specs.CommandLine.{all_app, attempts_app, connect_app, last_app, tally_app, top_app, usage_app, with_files, with_lettered_period, with_more_files, with_names, with_period, with_usage_flags};
 ghost use Rattle.tally_line.specs.inside.Commands.{IsCommand};
 
 use crate::args::{
-    askers, by_file, csv, feeders, file, flag, lettered, limit, minutes, repeated, sum, until,
-    word, zone,
+    askers, by_file, csv, feeders, file, flag, lettered, limit, minutes, more_files, repeated,
+    some_file, sum, until, word, zone,
 };
 use clap::{Arg, Command};
 use std::alloc::{AllocError, Global};
@@ -20,6 +20,13 @@ const FROM: &str =
 const TO: &str = "Report up to, without, MOMENT, which is as for --from";
 
 const IN: &str = "Report on a year, a month or a day, as 2026, 2026-07 or 2026-07-31";
+
+const LOGINS: &str = "Read the login records of FILE [default: /var/log/wtmp]";
+
+const FAILED_LOGINS: &str = "Read the failed logins of FILE [default: /var/log/btmp]";
+
+const PROCESSES: &str =
+    "Read the process records of FILE [default: /var/log/account/pacct, or /var/account/pacct]";
 
 /// A command, where there was memory for it.
 type Made<'a> = Result<Command<'a>, AllocError>;
@@ -90,7 +97,7 @@ fn last<'a>(alloc: Global) -> Made<'a>
     let command = with(command, lettered(alloc, "at", 'p', help));
     let command = with(command, until(alloc));
     let command = with(command, csv(alloc));
-    with_options(alloc, command, "Read the login records of FILE")
+    with_more_files(alloc, command, LOGINS)
 }
 
 #[inline(never)]
@@ -110,7 +117,7 @@ fn attempts<'a>(alloc: Global) -> Made<'a>
     );
     let command = with_lettered_period(alloc, command);
     let command = with(command, csv(alloc));
-    with_options(alloc, command, "Read the failed logins of FILE")
+    with_more_files(alloc, command, FAILED_LOGINS)
 }
 
 #[inline(never)]
@@ -137,7 +144,7 @@ fn connect<'a>(alloc: Global) -> Made<'a>
     let command = with_period(alloc, command);
     let command = with(command, until(alloc));
     let command = with(command, csv(alloc));
-    with_options(alloc, command, "Read the login records of FILE")
+    with_more_files(alloc, command, LOGINS)
 }
 
 #[inline(never)]
@@ -153,7 +160,7 @@ fn usage<'a>(alloc: Global) -> Made<'a>
     let command = with(command, word(alloc, "names", "FILE", help));
     let command = with(command, by_file(alloc));
     let command = with(command, csv(alloc));
-    with_options(alloc, command, "Read the process records of FILE")
+    with_options(alloc, command, file(alloc, PROCESSES))
 }
 
 #[inline(never)]
@@ -163,11 +170,8 @@ fn all<'a>(alloc: Global) -> Made<'a>
     let about = "Print last for each login file, then ac, then sa";
     let command = with(Ok(named(alloc, "all", about)), askers(alloc));
     let command = with(command, until(alloc));
-    with_options(
-        alloc,
-        command,
-        "Read login records of w:PATH, process records of p:PATH",
-    )
+    let help = "Read login records of w:PATH, process records of p:PATH";
+    with_options(alloc, command, some_file(alloc, help))
 }
 
 /// The flags of `sa`.
@@ -224,10 +228,11 @@ fn with_lettered_period<'a>(alloc: Global, command: Made<'a>) -> Made<'a>
     with(command, word(alloc, "in", "PERIOD", IN))
 }
 
-/// The options and the files that each subcommand has.
+/// The options that each subcommand has, and its files.
 #[inline(never)]
-fn with_options<'a>(alloc: Global, command: Made<'a>, files: &'a str) -> Made<'a>
-    ensures { (app : App) → IfOk command.entry (IsCommand app) → IfOk result (IsCommand (with_common app)) }
+fn with_options<'a>(alloc: Global, command: Made<'a>, files: Arg<'a>) -> Made<'a>
+    ensures { (app : App) (rule : Rule) → IfOk command.entry (IsCommand app) → rule_of files.entry ≡ rule
+        → files.entry.global ≡ false → IfOk result (IsCommand (with_files rule app)) }
 {
     let command = with(command, feeders(alloc));
     let command = with(
@@ -247,7 +252,16 @@ fn with_options<'a>(alloc: Global, command: Made<'a>, files: &'a str) -> Made<'a
         ),
     );
     let command = with(command, zone(alloc));
-    with(command, file(alloc, files))
+    with(command, files)
+}
+
+/// The same where no file has to be named, and `-f` names some, too.
+#[inline(never)]
+fn with_more_files<'a>(alloc: Global, command: Made<'a>, files: &'a str) -> Made<'a>
+    ensures { (app : App) → IfOk command.entry (IsCommand app) → IfOk result (IsCommand (with_more_files app)) }
+{
+    let command = with(command, more_files(alloc));
+    with_options(alloc, command, file(alloc, files))
 }
 
 /// A command with no argument.

@@ -1,12 +1,14 @@
 //! The command line's words read as a job.
 ghost use Rattle.std.specs.Prelude.{◌≡◌, [], Some, IfErr, IfNone, IfOk, IfSome, map, slice_index_or, string_bytes};
 ghost use Rattle.clap.specs.Words.{found_of, rows_of, subcommand_rows_of};
+ghost use Rattle.tally_line.specs.FileWords.{NamesFiles};
 ghost use Rattle.tally_line.specs.Lines.{Answers, AreSound, HasNoWord, Refuses, file_words, met_in, words_in};
-ghost use Rattle.tally_line.specs.inside.LineSteps.{IsComplete, IsFaultOf, IsLineOf};
+ghost use Rattle.tally_line.specs.inside.LineSteps.{IsComplete, IsFaultOf, IsFileFault, IsLineOf};
 
 use crate::command;
 use crate::files::files_of;
-use crate::line::{Line, LineFault};
+use crate::job::Report;
+use crate::line::{FileArg, Line, LineFault};
 use crate::moments::{mistake_in_moments, times_in};
 use crate::named::mistake_in_names;
 use crate::offsets::{NOT_PLAIN, has_plain_offsets};
@@ -91,10 +93,7 @@ fn run_under(alloc: Global, name: &str, matches: &ArgMatches<'_>) -> Result<Line
     let Some(report) = report_of(name, matches) else {
         unreachable!()
     };
-    let Some(words) = matches.get_raw("file") else {
-        unreachable!()
-    };
-    let files = files_of(alloc, report, words)?;
+    let files = files_in(alloc, report, matches)?;
     let zone = zone_of(alloc, matches)?;
     let usage = usage_asked(alloc, matches)?;
     let job = job_from(report, matches);
@@ -106,6 +105,21 @@ fn run_under(alloc: Global, name: &str, matches: &ArgMatches<'_>) -> Result<Line
         zone,
         files,
     })
+}
+
+/// The files that the matches name to a report: none where there is no word of one.
+fn files_in(
+    alloc: Global,
+    report: Report,
+    matches: &ArgMatches<'_>,
+) -> Result<Vec<FileArg>, LineFault>
+    ensures ok { IfOk result (λ files. NamesFiles report (words_in (rows_of (found_of matches.now))) files.items) }
+    ensures err { IfErr result (IsFileFault report (words_in (rows_of (found_of matches.now)))) }
+{
+    match matches.get_raw("file") {
+        Some(words) => files_of(alloc, report, words),
+        None => Ok(Vec::new(alloc)),
+    }
 }
 
 /// What is wrong with the values of options, where anything is.

@@ -45,7 +45,7 @@ IsMemoryOrUsage fault.Memory = ⊤
 IsMemoryOrUsage (fault.Usage text) = ⊤
 IsMemoryOrUsage (fault.Prefix index) = ⊥
 
--- the matches name a report and a file
+-- the matches name a report, and a file where that is of all
 pub record IsComplete (met : Met) : Type 0 where
-  pub report : (r : Report) × AsksFor r met
-  pub file : 0 < length (file_words met)
+  pub named : (r : Report) × AsksFor r met
+  pub file : AsksFor report.All met → 0 < length (file_words met)

@@ -83,7 +83,11 @@ fn other_words_are_refused(rt: HostRuntime) {
     let lines = "\
 x
 
-ac
+all
+all --askers 1
+all -f w:f
+ac -f
+sa -f f
 ac --east 1440 f
 ac --east -1 f
 --east 1 ac f

@@ -4,4 +4,4 @@ pub returns : goal.returns
 returns c =
     let askers = c.with-command.ensures _ _ c.named.ensures c.askers.ensures.rule c.askers.ensures.local in
     let own = c.with-command-2.ensures _ _ askers c.until.ensures.rule c.until.ensures.local in
-    c.with_options.ensures _ own
+    c.with_options.ensures _ _ own c.some_file.ensures.rule c.some_file.ensures.local

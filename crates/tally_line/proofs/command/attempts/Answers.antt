@@ -7,4 +7,4 @@ returns c =
     let names = c.with_names-command.ensures _ sum in
     let period = c.with_lettered_period-command.ensures _ names in
     let own = c.with-command-3.ensures _ _ period c.csv.ensures.rule c.csv.ensures.local in
-    c.with_options.ensures _ own
+    c.with_more_files.ensures _ own

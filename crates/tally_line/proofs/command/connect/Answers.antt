@@ -8,4 +8,4 @@ returns c =
     let period = c.with_period-command.ensures _ names in
     let until = c.with-command-3.ensures _ _ period c.until.ensures.rule c.until.ensures.local in
     let own = c.with-command-4.ensures _ _ until c.csv.ensures.rule c.csv.ensures.local in
-    c.with_options.ensures _ own
+    c.with_more_files.ensures _ own

@@ -8,4 +8,4 @@ returns c =
     let at = c.with-command-2.ensures _ _ period c.lettered.ensures.rule c.lettered.ensures.local in
     let until = c.with-command-3.ensures _ _ at c.until.ensures.rule c.until.ensures.local in
     let own = c.with-command-4.ensures _ _ until c.csv.ensures.rule c.csv.ensures.local in
-    c.with_options.ensures _ own
+    c.with_more_files.ensures _ own

@@ -8,4 +8,4 @@ returns c =
     let names = c.with-command-2.ensures _ _ period c.word.ensures.rule c.word.ensures.local in
     let by_file = c.with-command-3.ensures _ _ names c.by_file.ensures.rule c.by_file.ensures.local in
     let own = c.with-command-4.ensures _ _ by_file c.csv.ensures.rule c.csv.ensures.local in
-    c.with_options.ensures _ own
+    c.with_options.ensures _ _ own c.file.ensures.rule c.file.ensures.local

@@ -1,19 +1,16 @@
-use Rattle.std.proofs.Common.{ap, arith, length, rules}
+use Rattle.std.proofs.Common.{rules}
 use Rattle.std.proofs.lemmas.Result.{err_from_is_err_and}
-use Rattle.clap.specs.Words.{Text, found_of, rows_of}
-use Rattle.tally_line.proofs.LineLemmas.{file_fault, no_file_words, run_found, some_file_words}
+use Rattle.clap.specs.Words.{found_of, rows_of}
+use Rattle.tally_line.proofs.LineLemmas.{file_fault, run_found}
 use Rattle.tally_line.proofs.words.run_under.Goals as goal
-
-pub unreachable-requires-in_default-get_raw : goal.unreachable-requires-in_default-get_raw
-unreachable-requires-in_default-get_raw c =
-    absurd (omega (arith, c.requires.file, ap (length {A = Text}) (no_file_words (found_of c.args.matches.now) c.in_default-get_raw.ensures)))
 
 pub returns-in_err-files-clause-err : goal.returns-in_err-files-clause-err
 returns-in_err-files-clause-err c =
     let p = err_from_is_err_and c.from_residual-in_err-files.result c.from_residual-in_err-files.ensures.1 in
-    rw (p.1, p.2) (file_fault c.args.name.now (rows_of (found_of c.args.matches.now)) _ _ _ c.in-Some-report_of.ensures.named (some_file_words (found_of c.args.matches.now) c.in-Some-get_raw.words.now c.in-Some-get_raw.ensures) c.in_err-files.ensures.err)
+    rw (p.1, p.2) (file_fault c.args.name.now (rows_of (found_of c.args.matches.now)) _ _ c.in-Some-report_of.ensures.named c.in_err-files.ensures.err)
 
 pub returns-clause-ok : goal.returns-clause-ok
 returns-clause-ok c =
-    run_found c.args.name.now (rows_of (found_of c.args.matches.now)) _ c.in-Some-get_raw.words.now _ _ _ _ _ c.in-Some-report_of.ensures.named (some_file_words (found_of c.args.matches.now) c.in-Some-get_raw.words.now c.in-Some-get_raw.ensures)
-    c.requires.file c.job_from-job.ensures.report c.job_from-job.ensures.runnable c.job_from-job.ensures.few c.job_from-job.ensures.asked c.job_from-job.ensures.form c.job_from-job.ensures.options c.times_in-times.ensures.value c.times_in-times.ensures.until c.in_ok-usage.ensures c.in_ok-zone.ensures (search rules) c.in_ok-files.ensures.ok
+    run_found c.args.name.now (rows_of (found_of c.args.matches.now)) _ _ _ _ _ _ c.in-Some-report_of.ensures.named c.requires.file
+    c.job_from-job.ensures.report c.job_from-job.ensures.runnable c.job_from-job.ensures.few c.job_from-job.ensures.asked c.job_from-job.ensures.form c.job_from-job.ensures.options
+    c.times_in-times.ensures.value c.times_in-times.ensures.until c.in_ok-usage.ensures c.in_ok-zone.ensures (search rules) c.in_ok-files.ensures.ok

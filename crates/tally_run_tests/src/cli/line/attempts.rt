@@ -11,6 +11,7 @@ use tally_records::{Kind, LoginChoice, Period};
 #[test]
 fn lastb_lists_and_counts_failed_logins(rt: HostRuntime) {
     let rows = [
+        ("lastb", Wanted::Attempts(None)),
         ("lastb f", Wanted::Attempts(None)),
         ("lastb -n 1 f", Wanted::Attempts(Some(1))),
         ("lastb f -n 1048576", Wanted::Attempts(Some(1_048_576))),
@@ -84,7 +85,6 @@ fn lastb_is_over_a_period(rt: HostRuntime) {
 #[test]
 fn lastb_has_no_sessions(rt: HostRuntime) {
     let lines = "\
-lastb
 lastb --at @5 f
 lastb -p @5 f
 lastb --until @5 f

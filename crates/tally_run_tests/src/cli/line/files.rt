@@ -1,6 +1,6 @@
 //! Which files the words of a command line name.
 
-use super::answers::{Wanted, expect_line, words_of};
+use super::answers::{Wanted, expect_all, expect_line, words_of};
 use crate::cli::expect::{expect_that, made};
 use std::process::Abort;
 use tally_cli::file_word;
@@ -29,6 +29,27 @@ fn a_report_tells_the_kind_of_its_files(rt: HostRuntime) {
     expect_three(&rt, "last a -n 1 w:b -- -c", Kind::Login);
     expect_three(&rt, "sa a -n w:b -- -c", Kind::Proc);
     expect_three(&rt, "sa -m a w:b -- -c", Kind::Proc);
+}
+
+#[test]
+fn a_report_need_not_name_a_file(rt: HostRuntime) {
+    let lines = "\
+last
+lastb --sum
+ac -d
+sa -m";
+    expect_all(&rt, lines, Wanted::Files(&[]));
+}
+
+#[test]
+fn files_of_a_letter_stand_among_the_others(rt: HostRuntime) {
+    let files = [(Kind::Login, "a"), (Kind::Login, "b"), (Kind::Login, "c")];
+    let lines = "\
+last a -f b c
+last -f a -fb -p @5 c
+ac -f a b --csv -f=c
+ac -dfa -- b c";
+    expect_all(&rt, lines, Wanted::Files(&files));
 }
 
 // Asserts that the first file of a line without a prefix is the one at this index, and its word.
