@@ -49,11 +49,12 @@ REFUSED = (
     (('ac', '-p', 'usracct'), USRACCT),
     (('sa', 'savacct-torn'), None),
     (('sa', 'usracct-bad'), None),
-    (('last', 'text'), 'text is text'),
+    (('last', 'text'), 'text is text, which is not read'),
     (('last', 'torn'), None),
     (('sa', 'zeros'), None),
     (('last', 'absent'), 'absent is not there'),
     (('sa', 'processes', 'absent/p'), 'absent/p is not there'),
+    (('sa', '-m', '--names', 'absent', 'processes'), 'absent is not there'),
     (('last', '.'), '. is a folder'),
 )
 

@@ -2,6 +2,9 @@
 use Rattle.std.proofs.Common.{◌≡◌, ◌+◌, ◌++◌, ◌≤◌, [], ℕ, List, None, Option, Some, arith, length, subst, take}
 use Rattle.std.specs.Prelude.{IfSome, option_map}
 use Rattle.std.proofs.lemmas.List.{length-take, take_all}
+use Rattle.tally_kinds.specs.Kinds.{looks_of}
+use Rattle.tally_kinds.specs.declared.kinds.Looks.{Looks}
+use Rattle.tally_kinds.specs.declared.kinds.TheConstants.{FRONT_SIZE}
 use Rattle.tally.specs.Users.{HasNamesOf, users_front}
 use Rattle.tally.specs.declared.users.TheConstants.{USERS_LIMIT}
 
@@ -16,6 +19,12 @@ names_of_front None front names is has = tt
 names_of_front (Some xs) front names is has =
     let read : HasNamesOf (users_front xs) names = subst (λ (f : List ℕ). HasNamesOf f names) is has in
     subst (λ (f : List ℕ). HasNamesOf f names) (small_is_whole xs read.small) read
+
+-- a file looks like what was read of its front
+pub looks_of_front : (bytes : Option (List ℕ)) (front : List ℕ) (size : ℕ) (looks : Looks) → IfSome bytes (λ xs. front ≡ take FRONT_SIZE xs) → looks ≡ looks_of front size
+    → IfSome bytes (λ xs. looks ≡ looks_of (take FRONT_SIZE xs) size)
+looks_of_front None front size looks is shown = tt
+looks_of_front (Some xs) front size looks is shown = subst (λ (f : List ℕ). looks ≡ looks_of f size) is shown
 
 -- what a reader of so many bytes read after none is the front of what its file had
 pub limited : (bytes : Option (List ℕ)) (given limit : ℕ) (before items : List ℕ) → given ≡ limit → before ≡ []

@@ -6,14 +6,16 @@ ghost use Rattle.tally_line.specs.Settled.{Settles, SettlesChoice};
 ghost use Rattle.tally_line.specs.declared.settling.TimesFault.{TimesFault};
 ghost use Rattle.tally_moments.specs.Seconds.{local};
 
-use crate::faults::{times_fault, users_fault, zone_fault};
+use crate::faults::{FAULT, fault, file_fault, times_fault, zone_fault};
+use crate::hints::hinted_not_opened;
 use crate::shown::{ErrorsTo, Shown};
-use crate::users::names_of;
+use crate::users::{UsersFault, names_of};
 use std::process::ExitCode;
 use std::rt::Files;
 use tally_cli::{FileArg, Job};
 use tally_clock::Clock;
 use tally_line::{Times, UsageAsked, settle, settle_choice};
+use tally_records::Memory;
 use tally_usage::{ProcChoice, UserNames};
 use tally_zones::clock_of;
 
@@ -60,6 +62,23 @@ pub(crate) fn job_for<R: Eprint>(rt: &R, asked: Asked<'_>, clock: &Clock) -> Res
     }
 }
 
+/// Prints why a file gives no names of users.
+fn users_fault<R: Files + Eprint>(
+    rt: &R,
+    to: ErrorsTo,
+    path: &str,
+    found: UsersFault,
+) -> ExitCode
+where
+    R::File: Drop,
+{
+    match found {
+        UsersFault::Memory => fault(rt, FAULT, Memory),
+        UsersFault::NotOpened => hinted_not_opened(rt, to, path),
+        UsersFault::NoUsers => file_fault(rt, FAULT, Shown::new(path, to), "no file of users"),
+    }
+}
+
 /// The names of users that the file of the command line gives, where it names one. It stays apart, as `clock_for` does.
 #[inline(never)]
 pub(crate) fn names_for<R>(
@@ -78,7 +97,7 @@ where
     };
     match names_of(rt, path.as_str()) {
         Ok(names) => Ok(Some(names)),
-        Err(found) => Err(users_fault(rt, Shown::new(path.as_str(), to), found)),
+        Err(found) => Err(users_fault(rt, to, path.as_str(), found)),
     }
 }
 

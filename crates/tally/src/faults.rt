@@ -6,7 +6,6 @@ ghost use Rattle.tally_cli.specs.Runs.{IsNamed};
 ghost use Rattle.tally_cli.specs.Usages.{IsNamedFile};
 
 use crate::shown::{ErrorsTo, Shown};
-use crate::users::UsersFault;
 use std::fmt::Display;
 use std::process::ExitCode;
 use tally_cli::{FileArg, RunFault, UsageFault};
@@ -56,15 +55,6 @@ pub(crate) fn zone_fault<R: Eprint>(
         ZoneFault::NotFound => file_fault(rt, FAULT, shown, "no such zone"),
         ZoneFault::NoZone => file_fault(rt, FAULT, shown, "no time zone file"),
         ZoneFault::Mistaken => file_fault(rt, REFUSED, shown, hint_on(word)),
-    }
-}
-
-/// Prints why a file gives no names of users.
-pub(crate) fn users_fault<R: Eprint>(rt: &R, path: Shown<'_>, found: UsersFault) -> ExitCode {
-    match found {
-        UsersFault::Memory => fault(rt, FAULT, Memory),
-        UsersFault::NotOpened => not_opened(rt, path),
-        UsersFault::NoUsers => file_fault(rt, FAULT, path, "no file of users"),
     }
 }
 

@@ -1,15 +1,22 @@
-//! `tally`: reports of login and process accounting files, as last(1), ac(1) and sa(8) give them.
+//! `tally`: reports of login and process accounting files, as last(1), lastb(8), ac(1) and sa(8) give them.
 #![tactic(auto)]
 
+mod about;
 mod asked;
+mod defaults;
 mod faults;
+mod hints;
 mod limited;
+mod looking;
 mod now;
 mod opened;
 mod output;
 mod program;
+mod progress;
+mod reporting;
 mod running;
 mod shown;
+mod subject;
 mod users;
 mod words;
 

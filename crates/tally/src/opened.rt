@@ -6,16 +6,17 @@ ghost use Rattle.tally.specs.Faults.{Names, NamesOneOf};
 ghost use Rattle.tally.specs.declared.opened.OpenFault.TheVariants.{Memory};
 ghost use Rattle.tally_cli.specs.Runs.{IsReadable};
 
+use crate::progress::{Followed, Progress};
 use std::alloc::{AllocFailed, Global};
 use std::fs;
 use std::io::{self, Read};
 use std::os::fd::AsRawFd;
-use std::rt::Files;
+use std::rt::{Clock, Files};
 use tally_cli::{FileArg, Source};
 use tally_desk::Reading;
 
 /// The path of the program's own standard input.
-const STANDARD_INPUT: &str = "/dev/stdin";
+pub(crate) const STANDARD_INPUT: &str = "/dev/stdin";
 
 /// A folder that each system has, and that has no bytes to read.
 pub(crate) const ROOT: &str = "/";
@@ -79,8 +80,11 @@ impl<F: Read + Drop, S: Read + Drop> Read for Opened<F, S> {
     }
 }
 
+/// What is read of a file.
+type FileReading<'a, R, F, S> = Reading<Followed<'a, R, Opened<F, S>>>;
+
 /// What is read of the files.
-pub(crate) type Sources<F, S> = Vec<Source<Reading<Opened<F, S>>>>;
+pub(crate) type Sources<'a, R, F, S> = Vec<Source<FileReading<'a, R, F, S>>>;
 
 /// Why the files were not all opened.
 pub(crate) enum OpenFault<'a> {
@@ -111,10 +115,11 @@ where
 }
 
 /// What is read of a file.
-fn source_of<'a, R: Files + Input>(
+fn source_of<'a, R: Files + Input + Clock + Eprint>(
     rt: &R,
+    progress: &Progress<'a, R>,
     file: &'a FileArg,
-) -> Result<Source<Reading<Opened<R::File, R::Reader>>>, OpenFault<'a>>
+) -> Result<Source<FileReading<'a, R, R::File, R::Reader>>, OpenFault<'a>>
 where
     R::File: Drop,
     ensures kind { IfOk result (λ source. source.kind ≡ file.now.kind) }
@@ -125,19 +130,21 @@ where
     let Some(opened) = open(rt, path) else {
         return Err(OpenFault::NotOpened(path));
     };
+    let followed = Followed::new(opened, progress, file.kind, path);
     Ok(Source {
         kind: file.kind,
-        input: Reading::new(opened),
+        input: Reading::new(followed),
     })
 }
 
 /// Opens the files in order, up to the first that cannot be opened. It stays apart, so that a run needs no stack for it.
 #[inline(never)]
-pub(crate) fn open_all<'a, R: Files + Input>(
+pub(crate) fn open_all<'a, R: Files + Input + Clock + Eprint>(
     rt: &R,
     alloc: Global,
+    progress: &Progress<'a, R>,
     files: &'a [FileArg],
-) -> Result<Sources<R::File, R::Reader>, OpenFault<'a>>
+) -> Result<Sources<'a, R, R::File, R::Reader>, OpenFault<'a>>
 where
     R::File: Drop,
     ensures count { IfOk result (λ sources. length sources.items ≡ length files.now) }
@@ -147,7 +154,7 @@ where
 {
     let mut sources = Vec::new(alloc);
     for at in 0..files.len() {
-        let source = source_of(rt, &files[at])?;
+        let source = source_of(rt, progress, &files[at])?;
         sources.push(source)?;
     }
     Ok(sources)

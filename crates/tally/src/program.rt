@@ -1,14 +1,12 @@
 //! The program over a runtime.
 ghost use Rattle.tally_line.specs.Jobs.{IsRunnable, TakesUntil};
 
-use crate::asked::{Asked, choice_for, clock_for, files_by_file, job_for, names_for};
-use crate::faults::{FAULT, REFUSED, fault, file_fault, not_opened, times_fault, usage};
+use crate::asked::Asked;
+use crate::faults::{FAULT, REFUSED, fault, file_fault, times_fault, usage};
 use crate::now::now_for;
-use crate::opened::{OpenFault, ROOT, hold_closed_streams, open_all};
-use crate::running::run_over;
+use crate::reporting::hold_and_report;
 use crate::shown::{ErrorsTo, Shown, printable};
 use crate::words::{WordsFault, words};
-use std::hash::RandomState;
 use std::io;
 use std::os::fd::AsRawFd;
 use std::process::ExitCode;
@@ -16,8 +14,7 @@ use std::random::RandomSource;
 use std::rt::{Clock as MachineClock, Env, Files};
 use std::sync::Wait;
 use std::thread::Threads;
-use tally_cli::{FileArg, Job, Line, LineFault, RunFault, UsageWanted, file_word, job_of};
-use tally_clock::Clock;
+use tally_cli::{FileArg, Job, Line, LineFault, RunFault, file_word, job_of};
 use tally_line::{Times, UsageAsked, known_fault};
 use tally_records::Memory;
 
@@ -109,101 +106,6 @@ fn no_prefix<R: Eprint + AllocGlobal>(
             file_fault(rt, REFUSED, shown, LineFault::Prefix { index })
         }
         Err(_) => fault(rt, FAULT, Memory),
-    }
-}
-
-/// Opens all files, and then reads them and prints the report in the time of a clock.
-fn report_on<R>(
-    rt: &R,
-    to: ErrorsTo,
-    job: &Job,
-    wanted: UsageWanted<'_>,
-    keys: RandomState,
-    clock: &Clock,
-    files: &[FileArg],
-) -> ExitCode
-where
-    R: Files + Input + Print + Eprint + AllocGlobal + RandomSource + Threads + Wait + Sync,
-    R::File: Drop + Send,
-    R::Reader: Send,
-    requires { IsRunnable job.now }
-{
-    let sources = match open_all(rt, rt.alloc(), files) {
-        Ok(sources) => sources,
-        Err(OpenFault::Memory) => return fault(rt, FAULT, Memory),
-        Err(OpenFault::NotOpened(path)) => return not_opened(rt, Shown::new(path, to)),
-    };
-    run_over(rt, to, job, wanted, keys, clock, files, sources)
-}
-
-/// Settles the choice of processes on a clock and reads the names of users, and then reports.
-fn report_wanted<R>(
-    rt: &R,
-    to: ErrorsTo,
-    asked: Asked<'_>,
-    job: &Job,
-    keys: RandomState,
-    clock: &Clock,
-) -> ExitCode
-where
-    R: Files + Input + Print + Eprint + AllocGlobal + RandomSource + Threads + Wait + Sync,
-    R::File: Drop + Send,
-    R::Reader: Send,
-    requires { IsRunnable job.now }
-{
-    let choice = match choice_for(rt, asked, clock) {
-        Ok(choice) => choice,
-        Err(status) => return status,
-    };
-    match names_for(rt, to, asked.usage.names.as_ref()) {
-        Ok(names) => {
-            let wanted = UsageWanted {
-                choice,
-                names: names.as_ref(),
-                by_file: files_by_file(asked),
-            };
-            report_on(rt, to, job, wanted, keys, clock, asked.files)
-        }
-        Err(status) => status,
-    }
-}
-
-/// Draws the keys, reads the zone and settles the job on its clock, and then reports. It stays apart, so that help needs no stack for it.
-#[inline(never)]
-fn report<R>(rt: &R, to: ErrorsTo, asked: Asked<'_>) -> ExitCode
-where
-    R: Files + Input + Print + Eprint + AllocGlobal + RandomSource + Threads + Wait + Sync,
-    R::File: Drop + Send,
-    R::Reader: Send,
-    requires runnable { IsRunnable asked.job.now }
-    requires until { TakesUntil asked.job.now.report asked.times.now.until }
-{
-    let keys = match RandomState::new(rt) {
-        Ok(keys) => keys,
-        Err(_) => return fault(rt, FAULT, "no random bytes"),
-    };
-    let clock = match clock_for(rt, to, asked.zone) {
-        Ok(clock) => clock,
-        Err(status) => return status,
-    };
-    match job_for(rt, asked, &clock) {
-        Ok(job) => report_wanted(rt, to, asked, &job, keys, &clock),
-        Err(status) => status,
-    }
-}
-
-/// Reports with the closed standard streams held, so that no file takes the place of one.
-fn hold_and_report<R>(rt: &R, to: ErrorsTo, asked: Asked<'_>) -> ExitCode
-where
-    R: Files + Input + Print + Eprint + AllocGlobal + RandomSource + Threads + Wait + Sync,
-    R::File: AsRawFd + Drop + Send,
-    R::Reader: Send,
-    requires runnable { IsRunnable asked.job.now }
-    requires until { TakesUntil asked.job.now.report asked.times.now.until }
-{
-    match hold_closed_streams(rt) {
-        Ok(_held) => report(rt, to, asked),
-        Err(_) => not_opened(rt, Shown::new(ROOT, to)),
     }
 }
 

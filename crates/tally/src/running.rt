@@ -6,11 +6,15 @@ ghost use Rattle.tally_cli.specs.Usages.{IsOfProcs, IsUsage};
 ghost use Rattle.tally_line.specs.Jobs.{IsRunnable};
 
 use crate::faults::{run_fault, usage_fault};
+use crate::hints::{hint_after, hint_on};
 use crate::output::Watched;
+use crate::progress::Progress;
 use crate::shown::ErrorsTo;
+use crate::subject::{run_subject, usage_subject};
 use std::hash::RandomState;
 use std::io;
 use std::process::ExitCode;
+use std::rt::{Clock as MachineClock, Files};
 use std::sync::Wait;
 use std::thread::Threads;
 use tally_cli::{FileArg, Job, Source, UsageWanted, is_usage_run, run, run_usage};
@@ -29,20 +33,29 @@ fn count_files<R, I: Input + Send>(
     keys: RandomState,
     clock: &Clock,
     files: &[FileArg],
+    progress: Progress<'_, R>,
     sources: Vec<Source<I>>,
 ) -> ExitCode
 where
-    R: Print + Eprint + AllocGlobal + Threads + Sync,
+    R: Files + Print + Eprint + MachineClock + AllocGlobal + Threads + Sync,
+    R::File: Drop,
     requires runnable { IsRunnable job.now }
     requires usage { IsUsage job.now.report }
     requires procs { All IsOfProcs sources.items }
     requires readable { All (IsReadable I.failures) sources.items }
     requires count { length sources.items ≡ length files.now }
 {
-    let mut out = Writing::new(Watched::new(io::writer(rt)));
-    match run_usage(rt, rt.alloc(), keys, clock, job, wanted, sources, &mut out) {
+    let mut out = Writing::new(Watched::new(io::writer(rt), progress));
+    let done = run_usage(rt, rt.alloc(), keys, clock, job, wanted, sources, &mut out);
+    out.writer().erase();
+    match done {
         Ok(()) => ExitCode::SUCCESS,
-        Err(found) => usage_fault(rt, to, files, found, out.writer().is_reader_gone()),
+        Err(found) => {
+            let subject = usage_subject(&found);
+            let status = usage_fault(rt, to, files, found, out.writer().is_reader_gone());
+            hint_on(rt, to, &job.report, files, subject);
+            status
+        }
     }
 }
 
@@ -55,19 +68,31 @@ fn read_files<R, I: Input + Send>(
     keys: RandomState,
     clock: &Clock,
     files: &[FileArg],
+    progress: Progress<'_, R>,
     sources: Vec<Source<I>>,
 ) -> ExitCode
 where
-    R: Print + Eprint + AllocGlobal + Threads + Wait + Sync,
+    R: Files + Print + Eprint + MachineClock + AllocGlobal + Threads + Wait + Sync,
+    R::File: Drop,
     requires runnable { IsRunnable job.now }
     requires readable { All (IsReadable I.failures) sources.items }
     requires count { length sources.items ≡ length files.now }
 {
-    let mut out = Writing::new(Watched::new(io::writer(rt)));
+    let mut out = Writing::new(Watched::new(io::writer(rt), progress));
     let alloc = rt.alloc();
-    match run(rt, alloc, keys, clock, job, sources, &OpenGate, &mut out) {
-        Ok(()) => ExitCode::SUCCESS,
-        Err(found) => run_fault(rt, to, files, found, out.writer().is_reader_gone()),
+    let done = run(rt, alloc, keys, clock, job, sources, &OpenGate, &mut out);
+    out.writer().erase();
+    match done {
+        Ok(()) => {
+            hint_after(rt, to, &job.report, files);
+            ExitCode::SUCCESS
+        }
+        Err(found) => {
+            let subject = run_subject(&found);
+            let status = run_fault(rt, to, files, found, out.writer().is_reader_gone());
+            hint_on(rt, to, &job.report, files, subject);
+            status
+        }
     }
 }
 
@@ -80,17 +105,19 @@ pub(crate) fn run_over<R, I: Input + Send>(
     keys: RandomState,
     clock: &Clock,
     files: &[FileArg],
+    progress: Progress<'_, R>,
     sources: Vec<Source<I>>,
 ) -> ExitCode
 where
-    R: Print + Eprint + AllocGlobal + Threads + Wait + Sync,
+    R: Files + Print + Eprint + MachineClock + AllocGlobal + Threads + Wait + Sync,
+    R::File: Drop,
     requires runnable { IsRunnable job.now }
     requires readable { All (IsReadable I.failures) sources.items }
     requires count { length sources.items ≡ length files.now }
 {
     if is_usage_run(job, sources.as_slice()) {
-        count_files(rt, to, job, wanted, keys, clock, files, sources)
+        count_files(rt, to, job, wanted, keys, clock, files, progress, sources)
     } else {
-        read_files(rt, to, job, keys, clock, files, sources)
+        read_files(rt, to, job, keys, clock, files, progress, sources)
     }
 }

@@ -30,7 +30,7 @@ impl<'a> Shown<'a> {
 }
 
 /// What a terminal is sent for a byte.
-fn printed(byte: u8) -> u8
+pub(crate) fn printed(byte: u8) -> u8
     ensures { result ≡ shown_byte byte }
 {
     match byte {
