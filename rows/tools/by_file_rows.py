@@ -210,7 +210,6 @@ def add_faults(row, files):
     fault('too-many-files-by-file', 'One file more than there may be.', 129 * ['f'], 'tally: 129 callers, 1 to 128 are allowed\n', 1, ',files')
     fault('names-by-file-without-users', 'Names are shown by -m alone.', ['--names', 'passwd', 'f'], needs=',names')
     fault('by-file-twice', 'An option that is said twice.', ['--by-file', 'f'])
-    fault('by-file-without-a-file', 'A report without a file is refused.', [])
     row('by-file-with-a-value', 'sa,by-file', 'It takes no value.', ['sa', '--by-file=1', 'f'], '', None, 2, files)
     for report, file in (('last', 'e'), ('ac', 'e'), ('all', 'p:e')):
         row('by-file-of-' + report, report + ',by-file', 'The option is one of sa alone.', [report, '--by-file', file], '', None, 2, files)

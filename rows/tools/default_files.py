@@ -28,6 +28,7 @@ READ = (
     (ALL_FILES, ('lastb',), LASTB),
     (ALL_FILES, ('sa',), COMMANDS),
     (ALL_FILES, ('sa', '-m'), SA_USERS),
+    (ALL_FILES, ('sa', '--by-file'), lines('/var/log/account/pacct:', SA_TOTAL, SA_OTHER, SA_FORKED, '', SA_TOTAL, SA_OTHER, SA_FORKED)),
     ({RED_HAT: MAKE}, ('sa',), COMMANDS),
     # Of both the first is read, even if it has nothing.
     ({DEBIAN: MAKE, RED_HAT: b''}, ('sa',), COMMANDS),
