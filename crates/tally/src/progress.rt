@@ -146,7 +146,8 @@ impl<'a, R: Clock + Eprint, F: Read + Drop> Followed<'a, R, F> {
         }
     }
 
-    /// Counts bytes that were read.
+    /// Counts bytes that were read. It stays apart: the loop that counts records has reading inlined, and needs the registers.
+    #[inline(never)]
     fn count(&mut self, count: usize)
         ensures file { self.new.file ≡ self.old.file }
         ensures due { self.old.progress.due ≡ None → self.new.progress.due ≡ None }
