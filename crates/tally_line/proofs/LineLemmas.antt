@@ -63,9 +63,9 @@ word_found words borrowed i found are at =
     ∙ ap (λ (ws : List Text). unwrap_or (slice_get ws i) []) (sym are)
     ∙ unwrap_or-slice_get words i []
 
--- no words name no files
-pub no_files : (r : Report) (words : List Text) (files : List FileArg) → words ≡ [] → files ≡ [] → NamesFiles r words files
-no_files r words files none empty = rw (none, empty) (record { each_word = refl; each_kind = All-nil (λ (file : FileArg). Reads r file.kind) })
+-- where there are no file words, these name no files
+pub no_files : (r : Report) (f : Found) (files : List FileArg) → None ≡ option_map raw_values (matched_of f (codes "file")) → files ≡ [] → NamesFiles r (words_in (rows_of f)) files
+no_files r f files none empty = rw (no_file_words f none, empty) (record { each_word = refl; each_kind = All-nil (λ (file : FileArg). Reads r file.kind) })
 
 -- ---- the answers of one subcommand
 

@@ -108,6 +108,7 @@ fn run_under(alloc: Global, name: &str, matches: &ArgMatches<'_>) -> Result<Line
 }
 
 /// The files that the matches name to a report: none where there is no word of one.
+#[tactic(auto, using(crate::proofs::LineLemmas::some_file_words, crate::proofs::LineLemmas::no_files))]
 fn files_in(
     alloc: Global,
     report: Report,
