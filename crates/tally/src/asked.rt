@@ -63,12 +63,7 @@ pub(crate) fn job_for<R: Eprint>(rt: &R, asked: Asked<'_>, clock: &Clock) -> Res
 }
 
 /// Prints why a file gives no names of users.
-fn users_fault<R: Files + Eprint>(
-    rt: &R,
-    to: ErrorsTo,
-    path: &str,
-    found: UsersFault,
-) -> ExitCode
+fn users_fault<R: Files + Eprint>(rt: &R, to: ErrorsTo, path: &str, found: UsersFault) -> ExitCode
 where
     R::File: Drop,
 {
