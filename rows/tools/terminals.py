@@ -67,10 +67,15 @@ def hints_on_a_terminal(place):
 
 
 def hint_on_a_path(place):
-    """A byte of a path that does not print is a question mark in its hint too."""
-    place.put('a\x1bb', KINDS['gzip'])
-    said = place.on_terminal('ac', 'a\x1bb')[1]
-    same(said.splitlines()[1:], [b'hint: a?b is packed by gzip: try zcat a?b | tally ac /dev/stdin'])
+    """In its hint too a byte of a path that does not print is a question mark. In the command a path that a shell would read otherwise is quoted."""
+    for path, shown, quoted in (('a\x1bb', 'a?b', "'a?b'"), ('a b', 'a b', "'a b'"), ("it's;x", "it's;x", "'it'\\''s;x'"), ('-b', '-b', './-b'),
+                                ('$(x)', '$(x)', "'$(x)'"), ('a-b_c.%+,:@/../Z9', 'a-b_c.%+,:@/../Z9', 'a-b_c.%+,:@/../Z9')):
+        os.makedirs(os.path.dirname(os.path.join(place.folder, path)), exist_ok=True)
+        with open(os.path.join(place.folder, path), 'wb') as file:
+            file.write(KINDS['gzip'])
+        done, said = place.on_terminal('ac', '--', path)
+        hint = 'hint: %s is packed by gzip: try zcat %s | tally ac /dev/stdin' % (shown, quoted)
+        same(said.splitlines()[1:], [hint.encode()])
 
 
 def pipe_of(place, name, *pieces):

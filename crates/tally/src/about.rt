@@ -44,6 +44,7 @@ impl<'a> FileHint<'a> {
 impl Display for FileHint<'_> {
     fn fmt<W: fmt::Write>(&self, f: &mut Formatter<W>) -> fmt::Result {
         let path = self.path;
+        let quoted = path.quoted();
         match self.about {
             About::Packed {
                 by,
@@ -52,9 +53,11 @@ impl Display for FileHint<'_> {
                 prefix,
             } => write!(
                 f,
-                "{path} is packed by {by}: try {unpack} {path} | tally {report} {prefix}/dev/stdin"
+                "{path} is packed by {by}: try {unpack} {quoted} | tally {report} {prefix}/dev/stdin"
             ),
-            About::Other { has, report } => write!(f, "{path} {has}: try tally {report} {path}"),
+            About::Other { has, report } => {
+                write!(f, "{path} {has}: try tally {report} {quoted}")
+            }
             About::Only(text) => write!(f, "{path} {text}"),
         }
     }

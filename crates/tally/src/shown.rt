@@ -1,6 +1,8 @@
 //! Words of the command line as fault lines show them.
 ghost use Rattle.std.specs.Prelude.{◌≡◌, Some, IfOk, map, string_bytes};
+ghost use Rattle.std.specs.List.{list_all};
 ghost use Rattle.tally_print.specs.Text.{shown_byte};
+ghost use Rattle.tally.specs.Shown as Spec;
 ghost use Rattle.tally.specs.Shown.{shown_word};
 
 use std::alloc::{AllocError, Global};
@@ -27,6 +29,11 @@ impl<'a> Shown<'a> {
     {
         Shown { word, to }
     }
+
+    /// The path that the word is, for a command.
+    pub(crate) fn quoted(&self) -> Quoted<'a> {
+        Quoted { path: self.word }
+    }
 }
 
 /// What a terminal is sent for a byte.
@@ -52,6 +59,54 @@ impl Display for Shown<'_> {
                 Ok(())
             }
         }
+    }
+}
+
+/// A path in a command that a terminal shows, as a shell reads it: in single quotes unless all of its bytes are plain, and with
+/// its folder where it begins with a dash.
+#[derive(Clone, Copy)]
+pub(crate) struct Quoted<'a> {
+    path: &'a str,
+}
+
+fn is_plain_byte(byte: u8) -> bool
+    ensures { result ≡ Spec.is_plain_byte byte }
+{
+    match byte {
+        b'a'..=b'z' | b'A'..=b'Z' | b'0'..=b':' | b'%' | b'+'..=b'/' | b'@' | b'_' => true,
+        _ => false,
+    }
+}
+
+/// Whether a shell reads a path as it is.
+fn is_plain(path: &[u8]) -> bool
+    ensures { result ≡ list_all Spec.is_plain_byte path.now }
+{
+    path.iter().all(|byte| is_plain_byte(*byte))
+}
+
+/// Writes a byte that stands in single quotes.
+fn put_quoted<W: fmt::Write>(byte: u8, f: &mut Formatter<W>) -> fmt::Result {
+    match byte {
+        b'\'' => f.write_str("'\\''"),
+        _ => f.write_char(printed(byte) as char),
+    }
+}
+
+impl Display for Quoted<'_> {
+    fn fmt<W: fmt::Write>(&self, f: &mut Formatter<W>) -> fmt::Result {
+        let path = self.path.as_bytes();
+        if path.starts_with(b"-") {
+            f.write_str("./")?;
+        }
+        if is_plain(path) {
+            return f.write_str(self.path);
+        }
+        f.write_char('\'')?;
+        for byte in path {
+            put_quoted(*byte, f)?;
+        }
+        f.write_char('\'')
     }
 }
 
