@@ -4,7 +4,8 @@
    size         none is refused; the file REFUSED is made where a growth has N bytes
    read, write  the Nth read or write fails by EIO; read-again and read-invalid by EAGAIN and EINVAL
    read-end     the Nth read gives no byte, as at the end
-   read-signal, write-signal   the Nth read or write answers EINTR, and so do those after it, TIMES in all
+   read-signal, write-signal   the Nth read or write answers EINTR, and so do the next ones of the same
+                descriptor, TIMES in all: those of another thread's file are left alone
    write-less, write-one       the Nth write takes one byte less than it is given, or one byte
    random       the Nth call for random bytes fails
    clock        the Nth call for the time of the machine says a second before 1970
@@ -26,8 +27,8 @@
 enum { FROM = 1000003, TO = 1000033 };
 
 static const char *kind = "";
-static long at, times = 1, memory, reads, writes, randoms, clocks;
-static int all_refused;
+static long at, times = 1, memory, reads, writes, randoms, clocks, signals;
+static int all_refused, signalled = -1;
 
 __attribute__((constructor)) static void begin(void) {
     char *given = getenv("REFUSE");
@@ -56,6 +57,17 @@ static int is(const char *word) {
 static int refused(const char *word, long count) {
     if (!is(word) || count < at || count >= at + times)
         return 0;
+    mark("REFUSED");
+    return 1;
+}
+
+/* Whether this call, the one of that count, is broken off by a signal. */
+static int broken_off(const char *word, long count, int fd) {
+    if (!is(word) || count < at || (count > at && (fd != signalled || signals >= times)))
+        return 0;
+    if (count == at)
+        signalled = fd;
+    ++signals;
     mark("REFUSED");
     return 1;
 }
@@ -137,16 +149,16 @@ ssize_t read(int fd, void *to, size_t size) {
     static ssize_t (*real)(int, void *, size_t);
     if (!real)
         real = (ssize_t (*)(int, void *, size_t))dlsym(RTLD_NEXT, "read");
-    ++reads;
-    if (refused("read", reads) || refused("read-last", reads))
+    long count = __atomic_add_fetch(&reads, 1, __ATOMIC_SEQ_CST);
+    if (refused("read", count) || refused("read-last", count))
         return errno = EIO, -1;
-    if (refused("read-again", reads))
+    if (refused("read-again", count))
         return errno = EAGAIN, -1;
-    if (refused("read-invalid", reads))
+    if (refused("read-invalid", count))
         return errno = EINVAL, -1;
-    if (refused("read-signal", reads))
+    if (broken_off("read-signal", count, fd))
         return errno = EINTR, -1;
-    if (refused("read-end", reads))
+    if (refused("read-end", count))
         return 0;
     return real(fd, to, size && (is("short") || is("read-last")) ? 1 : size);
 }
@@ -157,14 +169,14 @@ ssize_t write(int fd, const void *from, size_t size) {
         real = (ssize_t (*)(int, const void *, size_t))dlsym(RTLD_NEXT, "write");
     if (fd == 2)
         return real(fd, from, size);
-    ++writes;
-    if (refused("write", writes) || refused("write-last", writes))
+    long count = __atomic_add_fetch(&writes, 1, __ATOMIC_SEQ_CST);
+    if (refused("write", count) || refused("write-last", count))
         return errno = EIO, -1;
-    if (refused("write-signal", writes))
+    if (broken_off("write-signal", count, fd))
         return errno = EINTR, -1;
-    if (size > 1 && refused("write-less", writes))
+    if (size > 1 && refused("write-less", count))
         return real(fd, from, size - 1);
-    if (size > 1 && (is("short") || is("write-last") || refused("write-one", writes)))
+    if (size > 1 && (is("short") || is("write-last") || refused("write-one", count)))
         return real(fd, from, 1);
     return real(fd, from, size);
 }
