@@ -1,5 +1,6 @@
 //! How far a run is, in a line on a terminal that is gone before the report is printed.
-ghost use Rattle.std.specs.Prelude.{◌≡◌, ◌<◌, None, false};
+ghost use Rattle.std.specs.Prelude.{◌≡◌, ◌+◌, ◌-◌, ◌<◌, ◌^◌, None, false, min};
+ghost use Rattle.tally.specs.Progress.{record_size};
 ghost use Rattle.tally.specs.declared.shown.ErrorsTo.TheVariants as to_where;
 
 use crate::shown::{ErrorsTo, printed};
@@ -98,7 +99,8 @@ struct Line<'a> {
 
 /// The size of a record.
 fn size_of(kind: Kind) -> u64
-    ensures { 0 < result }
+    ensures value { result ≡ record_size kind }
+    ensures positive { 0 < result }
 {
     match kind {
         Kind::Login | Kind::FailedLogin => LOGIN_SIZE as u64,
@@ -136,6 +138,7 @@ impl<'a, R: Clock + Eprint, F: Read + Drop> Followed<'a, R, F> {
         path: &'a str,
     ) -> Followed<'a, R, F>
         ensures file { result.file ≡ file }
+        ensures bytes { result.line.bytes ≡ 0 }
         ensures due { result.progress.due ≡ progress.now.due }
     {
         let bytes = 0;
@@ -150,6 +153,7 @@ impl<'a, R: Clock + Eprint, F: Read + Drop> Followed<'a, R, F> {
     #[inline(never)]
     fn count(&mut self, count: usize)
         ensures file { self.new.file ≡ self.old.file }
+        ensures bytes { self.new.line.bytes ≡ min (self.old.line.bytes + count) (2 ^ 64 - 1) }
         ensures due { self.old.progress.due ≡ None → self.new.progress.due ≡ None }
     {
         self.line.bytes = self.line.bytes.saturating_add(count as u64);

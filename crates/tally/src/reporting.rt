@@ -31,16 +31,7 @@ fn report_on<R>(
     files: &[FileArg],
 ) -> ExitCode
 where
-    R: Files
-        + Input
-        + Print
-        + Eprint
-        + MachineClock
-        + AllocGlobal
-        + RandomSource
-        + Threads
-        + Wait
-        + Sync,
+    R: Files + Input + Print + Eprint + MachineClock + AllocGlobal + Threads + Wait + Sync,
     R::File: Drop + Send,
     R::Reader: Send,
     requires { IsRunnable job.now }
@@ -64,16 +55,7 @@ fn report_wanted<R>(
     clock: &Clock,
 ) -> ExitCode
 where
-    R: Files
-        + Input
-        + Print
-        + Eprint
-        + MachineClock
-        + AllocGlobal
-        + RandomSource
-        + Threads
-        + Wait
-        + Sync,
+    R: Files + Input + Print + Eprint + MachineClock + AllocGlobal + Threads + Wait + Sync,
     R::File: Drop + Send,
     R::Reader: Send,
     requires { IsRunnable job.now }
