@@ -3,3 +3,4 @@ pub mod BatchLemmas
 pub mod Front
 pub mod HostPlaces
 pub mod Lending
+pub mod OfHost

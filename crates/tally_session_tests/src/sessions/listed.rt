@@ -1,10 +1,11 @@
-//! Sessions of a list of entries, by one thread and where four are allowed.
+//! Sessions of a list of entries, by one thread and where four are allowed; and the entries of one host among them.
 ghost use Rattle.std.specs.Prelude.{◌≡◌, ◌<◌, IfOk};
 
 use crate::equal::expect_equal;
 use crate::sessions::scripts::{new_keys, played};
 use std::alloc::Global;
 use std::process::Abort;
+use std::random::RandomSource;
 use tally_records::EVERY_LOGIN;
 use tally_sessions::{EntryList, Sessions};
 
@@ -56,4 +57,31 @@ fn sessions_of_a_list_are_those_of_its_hosts(rt: HostRuntime) {
     let list = played(rt, alloc, SCRIPT).into_entries();
     let made = Sessions::of_entries_by(rt, alloc, keys, 3, list, 4);
     expect_numbers(rt, alloc, made);
+}
+
+/// The entries of one host of the script, which outlive the list that they share their records with.
+fn entries_of_one<R: Abort + RandomSource>(rt: &R, alloc: Global, host: u32) -> EntryList {
+    let list = played(rt, alloc, SCRIPT).into_entries();
+    let only = list.entries().only(alloc, host).expect(rt, "memory");
+    drop(list);
+    only
+}
+
+#[test]
+fn entries_of_one_host_are_in_stored_order(rt: HostRuntime) {
+    let rt = &rt;
+    let only = entries_of_one(rt, rt.alloc(), 1);
+    let entries = only.entries();
+    let found = (entries.len(), entries.time(0), entries.time(1));
+    drop(only);
+    expect_equal(rt, &found, &(2, Some(10), Some(100)));
+}
+
+#[test]
+fn host_without_entries_has_an_empty_list(rt: HostRuntime) {
+    let rt = &rt;
+    let only = entries_of_one(rt, rt.alloc(), 3);
+    let count = only.len();
+    drop(only);
+    expect_equal(rt, &count, &0);
 }

@@ -1,10 +1,13 @@
 //! Entries of one host among those that are lent, and what is read of them alone.
-ghost use Rattle.std.specs.Prelude.{◌≡◌, ◌≢◌, ◌≤◌, ◌+◌, ◌<◌, IfNone, IfSome, Some, drop, length, option_map, slice_get, take, true, false};
-ghost use Rattle.tally_sessions.specs.Hosts.{of_host};
+ghost use Rattle.std.specs.Prelude.{◌≡◌, ◌≢◌, ◌≤◌, ◌+◌, ◌<◌, IfNone, IfOk, IfSome, Some, drop, length, option_map, slice_get, take, true, false};
+ghost use Rattle.tally_sessions.specs.Hosts.{entries_of_host, of_host};
 ghost use Rattle.tally_sessions.specs.Lent.{entries_in};
 ghost use Rattle.tally_sessions.specs.inside.Entries.{entry_at};
 
 use crate::entries::Entries;
+use crate::entries::list::EntryList;
+use std::alloc::Global;
+use tally_records::Memory;
 
 impl<'a> Entries<'a> {
     /// Whether the entry at a place is a host's.
@@ -49,6 +52,14 @@ impl<'a> Entries<'a> {
             end = self.list.batch_start(last);
         }
         None
+    }
+
+    /// The entries of one host, in stored order. Both lists share the records.
+    #[tactic(auto, unfolding(crate::specs::Lent::entries_in))]
+    pub fn only(self, alloc: Global, host: u32) -> Result<EntryList, Memory>
+        ensures value { IfOk result (λ list. list ≡ entries_of_host host (entries_in self.entry)) }
+    {
+        self.list.of_host(alloc, host, self.count)
     }
 
     /// The type of the record of the entry at a place, `ut_type` of utmp(5).

@@ -1,10 +1,10 @@
 //! Stored login records and their hosts, each batch as it came.
 ghost use Rattle.std.specs.Arc.{arc_value};
-ghost use Rattle.std.specs.Prelude.{◌≡◌, ◌≤◌, ◌<◌, ◌+◌, ◌++◌, [], length, slice_get, take, IsTrue, OnOk, OnErr, ◌↔◌};
+ghost use Rattle.std.specs.Prelude.{◌≡◌, ◌≤◌, ◌<◌, ◌+◌, ◌-◌, ◌++◌, [], length, slice_get, take, IfOk, IsTrue, OnOk, OnErr, ◌↔◌};
 ghost use Rattle.tally_records.specs.Records.{IsLogins, logins_in, record_count};
 ghost use Rattle.tally_sessions.specs.inside.Entries.{AreOf, IsRecordOf, entry_at, record_in};
-ghost use Rattle.tally_sessions.specs.inside.Stored.{Holds};
-ghost use Rattle.tally_sessions.specs.Hosts.{posted_by};
+ghost use Rattle.tally_sessions.specs.inside.Stored.{Holds, entries_of};
+ghost use Rattle.tally_sessions.specs.Hosts.{entries_of_host, posted_by};
 
 use crate::entries::batches::{ENTRIES_FOR_A_MARK, StoredBatch, batch_of, keep_before, push_times};
 use crate::entries::stored::StoredRecord;
@@ -126,13 +126,18 @@ impl EntryList {
         self.batch(at).first
     }
 
-    /// Adds records as those of a host, or none.
-    fn append(&mut self, host: u32, records: Arc<Logins, Global>) -> Result<(), Memory>
-        requires room { length self.old + length (arc_value records) ≤ ENTRY_LIMIT }
-        ensures added { OnOk result (self.new ≡ self.old ++ posted_by host (arc_value records)) }
+    /// Adds the first so many records as those of a host, or none.
+    fn append(
+        &mut self,
+        host: u32,
+        records: Arc<Logins, Global>,
+        count: usize,
+    ) -> Result<(), Memory>
+        requires stored { count ≤ length (arc_value records) }
+        requires room { length self.old + count ≤ ENTRY_LIMIT }
+        ensures added { OnOk result (self.new ≡ self.old ++ posted_by host (take count (arc_value records))) }
         ensures refused { OnErr result (self.new ≡ self.old) }
     {
-        let count = records.len();
         // No batch is empty, so that few begin between two marks.
         if count == 0 {
             return Ok(());
@@ -162,9 +167,43 @@ impl EntryList {
         ensures refused { OnErr result (self.new ≡ self.old) }
     {
         match b.share_logins()? {
-            Some(records) => self.append(host, records),
+            Some(records) => {
+                let count = records.len();
+                self.append(host, records, count)
+            }
             None => Ok(()),
         }
+    }
+
+    /// Adds the entries of a batch before a place, if they are a host's. The lists share their records.
+    #[tactic(auto, using(crate::proofs::entries::OfHost::nothing_added, crate::proofs::entries::OfHost::own_part))]
+    fn append_part(&mut self, host: u32, batch: &StoredBatch, count: usize) -> Result<(), Memory>
+        requires stored { batch.now.count ≤ length (arc_value batch.now.records) }
+        requires room { length self.old + batch.now.count ≤ ENTRY_LIMIT }
+        ensures added { OnOk result (self.new ≡ self.old ++ entries_of_host host (take (count - batch.now.first) (entries_of batch.now))) }
+        ensures refused { OnErr result (self.new ≡ self.old) }
+    {
+        if batch.host != host {
+            return Ok(());
+        }
+        let part = batch.count.min(count.saturating_sub(batch.first));
+        self.append(host, Arc::try_clone(&batch.records)?, part)
+    }
+
+    /// The entries of a host among the first so many. The lists share their records.
+    pub(crate) fn of_host(
+        &self,
+        alloc: Global,
+        host: u32,
+        count: usize,
+    ) -> Result<EntryList, Memory>
+        ensures { IfOk result (λ list. list ≡ entries_of_host host (take count self.now)) }
+    {
+        let mut list = EntryList::new(alloc);
+        for number in 0..self.batches.len() {
+            list.append_part(host, &self.batches[number], count)?;
+        }
+        Ok(list)
     }
 
     /// Keeps the first so many entries.
