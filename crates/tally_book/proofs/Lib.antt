@@ -7,3 +7,4 @@ pub mod Permuted
 pub mod SameAnswers
 pub mod RowDays
 pub mod RowSums
+pub mod WorkedHosts

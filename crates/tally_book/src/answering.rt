@@ -81,7 +81,8 @@ fn total_of(
     }
 }
 
-fn connect_answer(
+/// The rows of connect times and the total of sessions.
+pub(crate) fn connect_answer(
     alloc: Global,
     clock: &Clock,
     sessions: &Sessions,

@@ -1,23 +1,25 @@
-ghost use Rattle.std.specs.Prelude.{◌≡◌, ◌<◌, ◌≤◌, length, IfOk, IfErr, OnErr, OnOk};
-ghost use Rattle.tally_book.specs.Answers.{HasDays, IsAskable};
+ghost use Rattle.std.specs.Prelude.{◌≡◌, ◌<◌, ◌≤◌, [], length, IfOk, IfErr, OnErr, OnOk};
+ghost use Rattle.tally_book.specs.Answers.{HasDays, IsAskable, answer_of};
 ghost use Rattle.tally_book.specs.Books.{IsLegal, IsReceipt, IsServed, counts_of, empty, posted, asked};
 ghost use Rattle.tally_book.specs.Refusals.{IsPostRefusal, IsAskRefusal};
 ghost use Rattle.tally_clock.specs.Rows.{utc};
+ghost use Rattle.tally_sessions.specs.Days.{IsOffset};
+ghost use Rattle.tally_sessions.specs.Hosts.{entries_of_host};
 ghost use Rattle.tally_sessions.specs.Lent.{entries_in as lent_logins};
 ghost use Rattle.tally_usage.specs.Entries.{entries_in};
 
-use crate::answering::{answer, check_host};
+use crate::answering::{answer, check_host, connect_answer};
 use crate::fault::{AskFault, PostFault};
 use crate::history::{Call, Receipt, Served, record};
 use crate::logins::LoginStore;
-use crate::question::Question;
+use crate::question::{Answer, Question};
 use crate::storing::{check_room, counts, store};
 use std::alloc::Global;
 use std::hash::RandomState;
 use std::marker::Model;
 use std::thread::Threads;
 use tally_clock::Clock;
-use tally_records::{Batch, Memory};
+use tally_records::{Batch, LoginChoice, Memory};
 use tally_sessions::{Entries, EntryList, HOST_LIMIT, Sessions};
 use tally_usage::{ProcEntries, ProcList, Summary};
 
@@ -189,6 +191,35 @@ impl Book {
         ensures same { self.new ≡ self.old }
     {
         self.logins.count_by(rt, alloc, threads)
+    }
+
+    /// Connect times as a question has them, over the sessions of one caller alone. It is no call of the history.
+    #[tactic(auto, unfolding(crate::specs::Answers::answer_of))]
+    pub fn connect_of_host(
+        &self,
+        alloc: Global,
+        host: u32,
+        by_day: bool,
+        by_user: bool,
+        offset: i32,
+        choice: &LoginChoice,
+        until: Option<i32>,
+    ) -> Result<Answer, Memory>
+        requires offset { IsOffset offset }
+        ensures value { IfOk result (λ a. a ≡ answer_of self.now.clock (Question.Connect by_day by_user offset choice.now until) (entries_of_host host self.now.logins) []) }
+        ensures days { IfOk result HasDays }
+    {
+        let sessions = self.logins.sessions_of(alloc, host)?;
+        connect_answer(
+            alloc,
+            self.clock(),
+            &sessions,
+            by_day,
+            by_user,
+            offset,
+            choice,
+            until,
+        )
     }
 
     /// Answers a question over all that is stored. Refused, nothing has changed: for calls, for a

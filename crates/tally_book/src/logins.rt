@@ -1,7 +1,7 @@
 //! The stored login entries, and their sessions from the first question on.
 ghost use Rattle.std.specs.Prelude.{◌≡◌, ◌≤◌, ◌<◌, ◌+◌, ◌++◌, ◌↔◌, ℕ, [], All, IfErr, IfNone, IfOk, IfSome, IsOk, MatchOption, MatchResult, OnErr, OnOk, false, true, length};
 ghost use Rattle.tally_records.specs.Records.{IsLogins, logins_in, record_count};
-ghost use Rattle.tally_sessions.specs.Hosts.{posted_by};
+ghost use Rattle.tally_sessions.specs.Hosts.{entries_of_host, posted_by};
 ghost use Rattle.tally_sessions.specs.Lent.{entries_in};
 ghost use Rattle.tally_book.specs.inside.LoginStores.{entries_of, hosts_of, is_counted};
 ghost use Rattle.tally_book.specs.inside.Ready.{IsReady};
@@ -220,6 +220,17 @@ impl LoginStore {
         match &self.kept {
             Kept::Listed(_) => unreachable!(),
             Kept::Counted(sessions) => sessions,
+        }
+    }
+
+    /// The sessions of the entries of one host alone, counted anew.
+    pub(crate) fn sessions_of(&self, alloc: Global, host: u32) -> Result<Sessions, Memory>
+        ensures { IfOk result (λ sessions. sessions.entries ≡ entries_of_host host self.now.entries) }
+    {
+        let entries = self.entries().only(alloc, host)?;
+        match Sessions::of_entries(alloc, self.keys, self.hosts, entries) {
+            Ok(sessions) => Ok(sessions),
+            Err(_) => Err(Memory),
         }
     }
 
