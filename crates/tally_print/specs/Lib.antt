@@ -5,11 +5,13 @@ pub mod AttemptText
 pub mod Civil
 pub mod ConnectTable
 pub mod ConnectText
+pub mod FileColumns
 pub mod FileUsage
 pub mod LastText
 pub mod Laws
 pub mod NamedUsers
 pub mod Output
+pub mod PathTable
 pub mod ReportTable
 pub mod Section
 pub mod Sections

@@ -1,5 +1,5 @@
 //! The failed logins of hosts, printed one by one: no list of them is made.
-ghost use Rattle.std.specs.Prelude.{◌≡◌, ◌++◌, ℤ, Option as Opt, OnOk, flat_map, length};
+ghost use Rattle.std.specs.Prelude.{◌≡◌, ◌++◌, ℤ, Option as Opt, OnOk, flat_map, length, map};
 ghost use Rattle.std.specs.List.{range_with_len};
 ghost use Rattle.tally_attempts.specs.Attempts.{latest_attempts};
 ghost use Rattle.tally_attempts.specs.declared.attempt.Attempt.{Attempt as Row};
@@ -10,6 +10,7 @@ ghost use Rattle.tally_print.specs.AttemptSections.{attempt_answers};
 ghost use Rattle.tally_print.specs.Output.{IsWritable, Prints, failed_calls};
 ghost use Rattle.tally_print.specs.ReportTable.{table_text};
 ghost use Rattle.tally_print.specs.Sections.{sections_text};
+ghost use Rattle.tally_print.specs.Tables.{csv_text};
 ghost use Rattle.tally_print.specs.inside.Attempts.{gap, section};
 ghost use Rattle.tally_print.specs.inside.LocalTime.{clock_of};
 ghost use Rattle.tally_print.specs.inside.Pages.{Fills};
@@ -17,7 +18,7 @@ ghost use Rattle.tally_print.specs.inside.Pages.{Fills};
 use crate::attempt_table::{AttemptFields, attempt_header};
 use crate::attempts::AttemptLine;
 use crate::beginning::push_beginning;
-use crate::lines::Line;
+use crate::lines::{Fields, Line};
 use crate::local::Local;
 use crate::printed_day::PrintedDays;
 use crate::put::{new_page, put_all, turn_page};
@@ -78,6 +79,26 @@ fn put_attempts<L: Line<Attempt>, O: Output>(
         before = place;
     }
     Ok(())
+}
+
+/// Prints a row of a table for each of them.
+pub(crate) fn print_host_attempts<F: Fields<Attempt>, O: Output>(
+    alloc: Global,
+    fields: &F,
+    entries: Entries<'_>,
+    host: u32,
+    limit: Option<u32>,
+    choice: &LoginChoice,
+    out: &mut O,
+) -> Result<(), PrintFault>
+    requires writable { IsWritable (O.state out.old) }
+    requires printed { (attempt : Row) → F.Line.prints attempt }
+    ensures writes { Prints (O.state out.old) (O.state out.new) result (failed_calls result)
+        (csv_text (map (F.fields fields.now) (latest_attempts host limit choice.now (entries_in entries.entry)))) }
+{
+    let mut page = new_page(alloc)?;
+    put_attempts(&mut page, fields, entries, host, limit, choice, out)?;
+    put_all(page.as_slice(), out)
 }
 
 /// Appends an empty line before each section but the first.

@@ -1,5 +1,5 @@
 //! Failed logins and their sums as CSV.
-ghost use Rattle.std.specs.Prelude.{◌≡◌, ◌+◌, ◌++◌, ◌∷◌, [], OnOk, decimal, ⊤, refl};
+ghost use Rattle.std.specs.Prelude.{◌≡◌, ◌+◌, ◌++◌, ◌∷◌, [], OnOk, decimal, drop, ⊤, refl};
 ghost use Rattle.std.specs.Fmt.{signed_decimal};
 ghost use Rattle.csv.specs.Writing.{default_writer, field_text, row_text};
 ghost use Rattle.tally_print.specs.AttemptTable.{attempt_fields, attempt_header, attempt_sum_fields, attempt_sum_header};
@@ -26,6 +26,18 @@ fn push_text(line: &mut Vec<u8>, field: &[u8]) -> Result<(), AllocError>
     Ok(())
 }
 
+/// Appends who tried where.
+#[inline(always)]
+fn push_user_at(line: &mut Vec<u8>, attempt: &Attempt) -> Result<(), AllocError>
+    ensures { OnOk result (line.new.items ≡ line.old.items ++ ((field_text default_writer (shown attempt.now.user) ++ 44 ∷ [])
+        ++ (field_text default_writer (shown attempt.now.line) ++ 44 ∷ [])
+        ++ (field_text default_writer (shown attempt.now.remote) ++ 44 ∷ []))) }
+{
+    push_text(line, &attempt.user)?;
+    push_text(line, &attempt.line)?;
+    push_text(line, &attempt.remote)
+}
+
 /// Appends the number of the file, and who tried where.
 fn push_who(line: &mut Vec<u8>, attempt: &Attempt) -> Result<(), AllocError>
     ensures { OnOk result (line.new.items ≡ line.old.items ++ (decimal (attempt.now.host + 1) ++ 44 ∷ []
@@ -35,9 +47,7 @@ fn push_who(line: &mut Vec<u8>, attempt: &Attempt) -> Result<(), AllocError>
 {
     push_file(line, attempt.host)?;
     line.push(b',')?;
-    push_text(line, &attempt.user)?;
-    push_text(line, &attempt.line)?;
-    push_text(line, &attempt.remote)
+    push_user_at(line, attempt)
 }
 
 /// Appends when it was, and ends the line.
@@ -66,6 +76,20 @@ fn push_attempt(
         ≡ line.old.items ++ row_text default_writer (attempt_fields (clock_of local.now) attempt.now)) }
 {
     push_who(line, attempt)?;
+    push_when(line, last, attempt.time, local)
+}
+
+/// Appends the fields of a failed login after that of its file.
+pub(crate) fn push_attempt_after_file(
+    line: &mut Vec<u8>,
+    last: &mut PrintedDay,
+    attempt: &Attempt,
+    local: &Local<'_>,
+) -> Result<(), AllocError>
+    ensures { OnOk result (line.new.items
+        ≡ line.old.items ++ row_text default_writer (drop 1 (attempt_fields (clock_of local.now) attempt.now))) }
+{
+    push_user_at(line, attempt)?;
     push_when(line, last, attempt.time, local)
 }
 

@@ -10,6 +10,7 @@ mod connect;
 mod connect_table;
 mod date;
 mod fields;
+mod file_columns;
 mod file_usage;
 mod kept;
 mod last;
@@ -19,6 +20,8 @@ mod local;
 mod named_users;
 mod output;
 mod part_table;
+mod path_fields;
+mod path_table;
 mod plain;
 mod printed_day;
 mod put;
@@ -38,15 +41,17 @@ pub use answer::print_answer;
 pub use attempts::{print_attempt_sums, print_attempts};
 pub use connect::print_connect;
 pub use date::day_text_is_that_of_jiff;
+pub use file_columns::FileColumns;
 pub use file_usage::{
-    FileTable, print_empty_line, print_file_commands, print_file_header, print_file_named_users,
-    print_file_users, print_path_line,
+    FileTable, print_empty_line, print_file_commands, print_file_connect, print_file_header,
+    print_file_named_users, print_file_users, print_path_line,
 };
 pub use kept::Kept;
 pub use last::print_last;
 pub use laws::moments_have_their_days;
 pub use named_users::{print_named_user_table, print_named_users};
 pub use output::{Output, OutputFault, PrintFault};
+pub use path_table::{print_path_attempts, print_path_header, print_path_section};
 pub use report_table::{Table, print_table};
 pub use section::{Section, print_all_sections, print_section_table};
 pub use sections::print_sections;

@@ -1,5 +1,5 @@
 //! Stays as CSV, with the seconds that a period has of each.
-ghost use Rattle.std.specs.Prelude.{◌≡◌, ◌++◌, ◌∷◌, [], OnOk, decimal, ⊤, refl};
+ghost use Rattle.std.specs.Prelude.{◌≡◌, ◌++◌, ◌∷◌, [], OnOk, decimal, drop, ⊤, refl};
 ghost use Rattle.csv.specs.Writing.{default_writer, row_text};
 ghost use Rattle.tally_print.specs.StayTable.{part_fields, part_header};
 ghost use Rattle.tally_print.specs.inside.LocalTime.{clock_of};
@@ -9,7 +9,7 @@ use crate::fields::{push_number, push_seconds};
 use crate::lines::{Fields, Line};
 use crate::local::Local;
 use crate::printed_day::PrintedDays;
-use crate::stay_table::{push_ending, push_start, push_who};
+use crate::stay_table::{push_ending, push_start, push_user_at, push_who};
 use std::alloc::AllocError;
 use tally_records::Period;
 use tally_sessions::Stay;
@@ -41,6 +41,24 @@ fn push_row(
         ≡ line.old.items ++ row_text default_writer (part_fields (clock_of local.now) period.now stay.now)) }
 {
     push_who(line, stay)?;
+    push_start(line, &mut days.start, stay, local)?;
+    push_ending(line, &mut days.end, stay, local)?;
+    push_length(line, stay)?;
+    push_within(line, stay, period)
+}
+
+/// Appends the fields of a stay after that of its file, and its seconds in a period.
+pub(crate) fn push_part_after_file(
+    line: &mut Vec<u8>,
+    days: &mut PrintedDays,
+    stay: &Stay,
+    local: &Local<'_>,
+    period: &Period,
+) -> Result<(), AllocError>
+    ensures { OnOk result (line.new.items
+        ≡ line.old.items ++ row_text default_writer (drop 1 (part_fields (clock_of local.now) period.now stay.now))) }
+{
+    push_user_at(line, stay)?;
     push_start(line, &mut days.start, stay, local)?;
     push_ending(line, &mut days.end, stay, local)?;
     push_length(line, stay)?;

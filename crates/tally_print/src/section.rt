@@ -100,7 +100,7 @@ pub fn print_all_sections<O: Output>(
 }
 
 /// Prints a row of a table for each of the latest chosen stays of a host up to a limit.
-fn print_stay_rows<F: Fields<Stay>, O: Output>(
+pub(crate) fn print_stay_rows<F: Fields<Stay>, O: Output>(
     alloc: Global,
     fields: &F,
     sessions: &Sessions,
@@ -122,7 +122,7 @@ fn print_stay_rows<F: Fields<Stay>, O: Output>(
 }
 
 /// Prints the rows of a section.
-fn print_section_rows<O: Output>(
+pub(crate) fn print_section_rows<O: Output>(
     alloc: Global,
     clock: &Clock,
     sessions: &Sessions,

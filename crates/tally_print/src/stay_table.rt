@@ -1,5 +1,5 @@
 //! Stays as CSV.
-ghost use Rattle.std.specs.Prelude.{◌≡◌, ◌+◌, ◌++◌, ◌∷◌, [], OnOk, decimal, if◌then◌else◌, int_le, pos, ⊤, refl};
+ghost use Rattle.std.specs.Prelude.{◌≡◌, ◌+◌, ◌++◌, ◌∷◌, [], OnOk, decimal, drop, if◌then◌else◌, int_le, pos, ⊤, refl};
 ghost use Rattle.std.specs.Fmt.{signed_decimal};
 ghost use Rattle.csv.specs.Writing.{default_writer, field_text, row_text};
 ghost use Rattle.tally_print.specs.StayTable.{end_word, iso_moment, line_field, stay_fields, stay_header, user_field, zone};
@@ -124,6 +124,18 @@ fn push_place(line: &mut Vec<u8>, stay: &Stay) -> Result<(), AllocError>
     push_remote(line, stay)
 }
 
+/// Appends who was logged in where.
+#[inline(always)]
+pub(crate) fn push_user_at(line: &mut Vec<u8>, stay: &Stay) -> Result<(), AllocError>
+    ensures { OnOk result (line.new.items ≡ line.old.items ++ (field_text default_writer (user_field stay.now) ++ 44 ∷ []
+        ++ (field_text default_writer (line_field stay.now) ++ 44 ∷ []
+        ++ (field_text default_writer (shown stay.now.remote) ++ 44 ∷ [])))) }
+{
+    push_user(line, stay)?;
+    line.push(b',')?;
+    push_place(line, stay)
+}
+
 #[inline(always)]
 pub(crate) fn push_who(line: &mut Vec<u8>, stay: &Stay) -> Result<(), AllocError>
     ensures { OnOk result (line.new.items ≡ line.old.items ++ (decimal (stay.now.host + 1) ++ 44 ∷ []
@@ -133,9 +145,7 @@ pub(crate) fn push_who(line: &mut Vec<u8>, stay: &Stay) -> Result<(), AllocError
 {
     push_file(line, stay.host)?;
     line.push(b',')?;
-    push_user(line, stay)?;
-    line.push(b',')?;
-    push_place(line, stay)
+    push_user_at(line, stay)
 }
 
 #[inline(always)]
@@ -188,6 +198,22 @@ fn push_row(
     ensures { OnOk result (line.new.items ≡ line.old.items ++ row_text default_writer (stay_fields (clock_of local.now) stay.now)) }
 {
     push_who(line, stay)?;
+    push_start(line, &mut days.start, stay, local)?;
+    push_ending(line, &mut days.end, stay, local)?;
+    push_seconds(line, stay.length)
+}
+
+/// Appends the fields of a stay after that of its file.
+pub(crate) fn push_stay_after_file(
+    line: &mut Vec<u8>,
+    days: &mut PrintedDays,
+    stay: &Stay,
+    local: &Local<'_>,
+) -> Result<(), AllocError>
+    ensures { OnOk result (line.new.items
+        ≡ line.old.items ++ row_text default_writer (drop 1 (stay_fields (clock_of local.now) stay.now))) }
+{
+    push_user_at(line, stay)?;
     push_start(line, &mut days.start, stay, local)?;
     push_ending(line, &mut days.end, stay, local)?;
     push_seconds(line, stay.length)

@@ -12,6 +12,7 @@ use tally_usage::{CommandRow, Usage};
 mod all_attempts;
 mod attempts;
 mod connect;
+mod files;
 mod last;
 mod outputs;
 mod sections;

@@ -10,6 +10,8 @@ mod equal;
 #[cfg(test)]
 mod failed;
 #[cfg(test)]
+mod hosts;
+#[cfg(test)]
 mod makers;
 #[cfg(test)]
 mod records;

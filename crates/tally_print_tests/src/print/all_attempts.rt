@@ -6,7 +6,9 @@ use super::{is_printed, name};
 use std::alloc::Global;
 use std::process::Abort;
 use tally_clock::Clock;
-use tally_print::{Kept, print_all_attempts, print_attempt_table};
+use tally_print::{
+    Kept, Table, print_all_attempts, print_attempt_table, print_path_attempts, print_path_header,
+};
 use tally_records::{Batch, LoginChoice};
 use tally_sessions::EntryList;
 
@@ -147,4 +149,42 @@ fn no_file_has_no_section(rt: HostRuntime) {
     is_printed(rt, printed, out, b"");
     drop(list);
     drop(utc);
+}
+
+/// Asserts that the latest two failed logins of one of the three files are printed so with a path.
+fn expect_path(rt: &impl Abort, alloc: Global, host: u32, path: &str, text: &[u8]) {
+    let utc = Clock::utc(alloc);
+    let list = three_files(rt, alloc);
+    let entries = list.entries();
+    let choice = LoginChoice::every();
+    let limit = Some(2);
+    let mut out = Kept::new(alloc);
+    let mut printed = print_path_header(Table::Attempts, &mut out);
+    if printed.is_ok() {
+        printed = print_path_attempts(
+            alloc, &utc, entries, host, limit, &choice, path, 60, &mut out,
+        );
+    }
+    is_printed(rt, printed, out, text);
+    drop(list);
+    drop(utc);
+}
+
+#[test]
+fn a_path_stands_after_the_number_of_its_file(rt: HostRuntime) {
+    let rt = &rt;
+    let alloc = rt.alloc();
+    let text = b"\
+file,path,user,line,remote,time,at
+1,\"a,\"\"b?\",root,tty1,,1000120,1970-01-12T14:48:40+01:00
+1,\"a,\"\"b?\",ann,tty1,,1000060,1970-01-12T14:47:40+01:00
+";
+    expect_path(rt, alloc, 0, "a,\"b\x1B", text);
+    let text = b"file,path,user,line,remote,time,at\n";
+    expect_path(rt, alloc, 1, "none", text);
+    let text = b"\
+file,path,user,line,remote,time,at
+3,,bob,tty1,,-1,1970-01-01T00:59:59+01:00
+";
+    expect_path(rt, alloc, 2, "", text);
 }

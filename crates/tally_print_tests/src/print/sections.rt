@@ -1,5 +1,7 @@
 //! Sections of stays, beside the printers of the answers that they stand for.
 ghost use Rattle.std.specs.Prelude.{◌≡◌, ◌+◌, ◌<◌, ◌≤◌, length};
+ghost use Rattle.tally_book.specs.Answers.{HasDays};
+ghost use Rattle.tally_print.specs.Section.{NamesHostBelow, answer_in};
 ghost use Rattle.tally_sessions.specs.Days.{IsOffset};
 
 use super::{is_printed, name};
@@ -11,7 +13,8 @@ use std::thread::Threads;
 use tally_book::{Answer, Book};
 use tally_clock::Clock;
 use tally_print::{
-    Kept, Section, Table, print_all_sections, print_last, print_section_table, print_table,
+    Kept, Section, Table, print_all_sections, print_last, print_path_header, print_path_section,
+    print_section_table, print_table,
 };
 use tally_records::{Batch, LoginChoice, Period};
 use tally_sessions::Sessions;
@@ -201,5 +204,58 @@ fn sections_of_stays_are_printed_as_lists_of_them(rt: HostRuntime) {
     expect_sections(rt, alloc, &utc, &sessions, None, 0);
     expect_sections(rt, alloc, &utc, &sessions, Some(200_000), -330);
     drop(utc);
+    drop(sessions);
+}
+
+/// Asserts that a section of the second host is printed so with a path.
+fn expect_path(
+    rt: &impl Abort,
+    alloc: Global,
+    sessions: &Sessions,
+    table: Table,
+    section: &Section,
+    text: &[u8],
+)
+    requires host { NamesHostBelow sessions.now.hosts section.now }
+    requires days { HasDays (answer_in sessions.now.entries section.now) }
+{
+    let utc = Clock::utc(alloc);
+    let mut out = Kept::new(alloc);
+    let mut printed = print_path_header(table, &mut out);
+    if printed.is_ok() {
+        let path = "/var/log/wtmp.1";
+        printed = print_path_section(alloc, &utc, sessions, table, path, section, 0, &mut out);
+    }
+    is_printed(rt, printed, out, text);
+    drop(utc);
+}
+
+#[test]
+fn stays_have_the_path_of_their_file(rt: HostRuntime) {
+    let rt = &rt;
+    let alloc = rt.alloc();
+    let sessions = sessions(rt, alloc);
+    let section = Section::Stays {
+        host: 1,
+        limit: None,
+        choice: of_bob(),
+        until: None,
+    };
+    let text = b"\
+file,path,user,line,remote,start,start_at,begin,end,end_time,end_at,seconds
+2,/var/log/wtmp.1,bob,tty2,,0,1970-01-01T00:00:00+00:00,0,still,90000,1970-01-02T01:00:00+00:00,90000
+";
+    let table = Table::Stays { within: None };
+    expect_path(rt, alloc, &sessions, table, &section, text);
+    let text = b"\
+file,path,user,line,remote,start,start_at,begin,end,end_time,end_at,seconds,within
+2,/var/log/wtmp.1,bob,tty2,,0,1970-01-01T00:00:00+00:00,0,still,90000,1970-01-02T01:00:00+00:00,90000,86400
+";
+    let within = Some(of_the_first_day().period);
+    let table = Table::Stays { within };
+    expect_path(rt, alloc, &sessions, table, &section, text);
+    let text = b"file,path,user,line,remote,time,at\n";
+    expect_path(rt, alloc, &sessions, Table::Attempts, &section, text);
+    drop(section);
     drop(sessions);
 }
