@@ -15,6 +15,7 @@ use Rattle.clap.specs.declared.parser.matches.ArgMatches.{ArgMatches}
 use Rattle.clap.specs.declared.parser.matches.Found.{Found}
 use Rattle.clap.proofs.WalkLemmas.{one_text-rows, raw_values-rows}
 use Rattle.tally_line.proofs.Accepted.{accepted_are_complete}
+use Rattle.tally_line.specs.Apart.{IsFilesAsked}
 use Rattle.tally_line.specs.CommandLine.{tally_app}
 use Rattle.tally_line.specs.FileWords.{IsFirstBare, NamesFiles, Reads}
 use Rattle.tally_line.specs.Lines.{Answers, AreAccepted, AsksFor, HasNoWord, AreSound, AsksForm, IsRunOf, Refuses, file_words, met_in, name_of, rows_met, words_in}
@@ -27,6 +28,7 @@ use Rattle.tally_line.specs.Zones.{IsZoneOf}
 use Rattle.std.specs.declared.alloc.Global.{Global}
 use Rattle.tally_line.specs.Options.{SetsJob}
 use Rattle.tally_line.specs.declared.line.FileArg.{FileArg}
+use Rattle.tally_line.specs.declared.line.FilesAsked.{FilesAsked}
 use Rattle.tally_line.specs.declared.job.Job.{Job}
 use Rattle.tally_line.specs.declared.job.Report.{Report}
 use Rattle.tally_line.specs.declared.job.Report.TheVariants as report
@@ -81,11 +83,11 @@ some_file_named : (name : Text) (rows : List Row) (r : Report) (files : List Fil
 some_file_named name rows r files named some names all =
     omega (arith, some (ap Some (named ∙ ap name_of all)), length-map {A = FileArg} {B = Text}, ap length names.each_word)
 
-pub run_found : (name : Text) (rows : List Row) (r : Report) (job : Job) (times : Times) (usage : UsageAsked) (zone : Option (String Global)) (files : List FileArg) → name ≡ name_of r
+pub run_found : (name : Text) (rows : List Row) (r : Report) (job : Job) (times : Times) (usage : UsageAsked) (apart : FilesAsked) (zone : Option (String Global)) (files : List FileArg) → name ≡ name_of r
     → (AsksFor report.All (Some (name, rows)) → 0 < length (words_in rows)) → job.report ≡ r → IsRunnable job → job.askers ≤ 64 → (job.askers ≡ 0) ⊎ (r ≡ report.All)
-    → AsksForm r rows job.form → SetsJob rows job → times ≡ times_in r rows → TakesUntil r times.until → IsUsageAsked rows usage → IsZoneOf rows zone → AreSound rows → NamesFiles r (words_in rows) files
-    → IsRunOf (Some (name, rows)) job times usage zone files
-run_found name rows r job times usage word files named some is runnable few asked form options moments until usage_words zone_word sound names = record {
+    → AsksForm r rows job.form → SetsJob rows job → times ≡ times_in r rows → TakesUntil r times.until → IsUsageAsked rows usage → IsFilesAsked rows apart → IsZoneOf rows zone → AreSound rows → NamesFiles r (words_in rows) files
+    → IsRunOf (Some (name, rows)) job times usage apart zone files
+run_found name rows r job times usage apart word files named some is runnable few asked form options moments until usage_words told_apart zone_word sound names = record {
   named = ap Some (named ∙ ap name_of (sym is));
   runnable = runnable;
   form = rw is form;
@@ -95,6 +97,7 @@ run_found name rows r job times usage word files named some is runnable few aske
   moments = rw is moments;
   until = rw is until;
   usage_words = usage_words;
+  told_apart = told_apart;
   zone_word = zone_word;
   sound = sound;
   some_file = λ all. some_file_named name rows r files named some names (sym is ∙ all);
@@ -132,7 +135,7 @@ module _ (words : List Text) (command : Command) (is : app_of command ≡ tally_
   pub answers : (m : ArgMatches) (l : Line) → HasMatchesOf (app_of command) words m
       → (is_simple_and_free (app_of command) ≡ true → fault_of (app_of command) words ≡ [])
       → IsLineOf (subcommand_rows_of m) l → Answers words l
-  answers m (line.Run job times usage zone files) has taken found = (accepted taken, subst (λ met. IsRunOf met job times usage zone files.items) (met_in_words m has) found)
+  answers m (line.Run job times usage apart zone files) has taken found = (accepted taken, subst (λ met. IsRunOf met job times usage apart zone files.items) (met_in_words m has) found)
   answers m (line.Help text) has taken found = absurd found
 
   pub refuses : (m : ArgMatches) (f : LineFault) → HasMatchesOf (app_of command) words m
@@ -152,7 +155,7 @@ module _ (words : List Text) (command : Command) (is : app_of command ≡ tally_
   ]
 
   as_help : (e : Error) (l : Line) → IsAmong (kind_of e) (fault_of tally_app words) → IsHelpFor (kind_of e) l → Answers words l
-  as_help e (line.Run job times usage _ files) one h = absurd h
+  as_help e (line.Run job times usage apart _ files) one h = absurd h
   as_help e (line.Help text) one h = (kind_of e, one, h)
 
   as_fault : (e : Error) (f : LineFault) → IsAmong (kind_of e) (fault_of tally_app words) → IsFaultFor (kind_of e) f → Refuses words f

@@ -1,8 +1,8 @@
 -- Worked examples, computed by the definitions.
-use Rattle.std.proofs.Common.{◌≡◌, [], ◌∷◌, None, Some, Err, true, false, map, pos, neg_ℤ, refl}
-use Rattle.std.specs.Prelude.{List, codes}
+use Rattle.std.proofs.Common.{◌≡◌, [], ◌∷◌, None, Some, Err, true, false, map, pos, neg_ℤ, refl, sym, true≢false}
+use Rattle.std.specs.Prelude.{Bool, List, codes}
 use Rattle.clap.proofs.OnLiterals.{clap_on_literals}
-use Rattle.clap.specs.Words.{Row, fault_of}
+use Rattle.clap.specs.Words.{Row, Text, fault_of}
 use Rattle.clap.specs.declared.error.kind.ErrorKind.TheVariants.{MissingRequiredArgument, UnknownArgument}
 use Rattle.tally_moments.specs.declared.moment.Moment.{Moment}
 use Rattle.tally_moments.specs.declared.moment.Moment.TheVariants.{Day, Now, Second, Time}
@@ -10,13 +10,15 @@ use Rattle.tally_records.specs.Choice.{every_login}
 use Rattle.tally_records.specs.declared.batch.Kind.TheVariants.{FailedLogin, Login, Proc}
 use Rattle.tally_records.specs.declared.period.Period.{Period}
 use Rattle.tally_usage.specs.declared.order.Order.TheVariants.{Cpu}
+use Rattle.tally_line.specs.Apart.{HasRowsOfFiles}
 use Rattle.tally_line.specs.CommandLine.{tally_app}
 use Rattle.tally_line.specs.FileWords.{word_of}
-use Rattle.tally_line.specs.Lines.{file_words, met_in}
+use Rattle.tally_line.specs.Lines.{file_words, met_in, rows_met}
 use Rattle.tally_line.specs.Named.{names_of}
+use Rattle.tally_line.specs.Options.{is_set}
 use Rattle.tally_line.specs.Settled.{is_moment, is_until, known_fault, over, period_by, settled}
 use Rattle.tally_line.specs.Times.{ask_now, until_in}
-use Rattle.tally_line.specs.declared.job.Form.TheVariants.{Text}
+use Rattle.tally_line.specs.declared.job.Form.TheVariants as form
 use Rattle.tally_line.specs.declared.job.Job.{Job}
 use Rattle.tally_line.specs.declared.job.Report.TheVariants as report
 use Rattle.tally_line.specs.declared.settling.TimesFault.TheVariants as fault
@@ -45,6 +47,54 @@ none_named = refl
 letters : map (λ name. fault_of tally_app (name ∷ codes "-f" ∷ codes "w:a" ∷ [])) (codes "ac" ∷ codes "sa" ∷ codes "all" ∷ []) ≡ [] ∷ (UnknownArgument ∷ []) ∷ (UnknownArgument ∷ []) ∷ []
 unfolding tally_app clap_on_literals
 letters = refl
+
+-- ---- files told apart
+
+-- the matches of words
+abbrev matches_of : List Text → List Row
+matches_of words = rows_met (met_in words)
+
+-- paths and reports by file are asked for by their flags alone
+asked_apart : map {B = Bool × Bool} (λ words. (is_set (codes "by-file") (matches_of words), is_set (codes "paths") (matches_of words)))
+    ((codes "last" ∷ codes "--csv" ∷ codes "--paths" ∷ []) ∷ (codes "ac" ∷ codes "--by-file" ∷ []) ∷ (codes "sa" ∷ codes "--paths" ∷ codes "--csv" ∷ codes "--by-file" ∷ []) ∷ (codes "all" ∷ codes "w:f" ∷ []) ∷ [])
+    ≡ (false, true) ∷ (true, false) ∷ (true, true) ∷ (false, false) ∷ []
+unfolding tally_app clap_on_literals
+asked_apart = refl
+
+-- neither `last` nor `lastb` is by file, and a report of all has neither flag
+flags_apart : map (fault_of tally_app) ((codes "last" ∷ codes "--by-file" ∷ []) ∷ (codes "lastb" ∷ codes "--paths" ∷ []) ∷ (codes "all" ∷ codes "--paths" ∷ codes "w:f" ∷ []) ∷ []) ≡ (UnknownArgument ∷ []) ∷ [] ∷ (UnknownArgument ∷ []) ∷ []
+unfolding tally_app clap_on_literals
+flags_apart = refl
+
+-- a listing in CSV has paths
+rows_of_files : HasRowsOfFiles (matches_of (codes "lastb" ∷ codes "--csv" ∷ codes "--paths" ∷ []))
+unfolding tally_app clap_on_literals
+rows_of_files asked = record { csv = refl; no_sum = refl; by_file = λ given. absurd (true≢false (sym given)) }
+
+-- so have sums of each file
+rows_by_file : HasRowsOfFiles (matches_of (codes "ac" ∷ codes "--by-file" ∷ codes "--csv" ∷ codes "--paths" ∷ []))
+unfolding tally_app clap_on_literals
+rows_by_file asked = record { csv = refl; no_sum = refl; by_file = λ given. refl }
+
+-- lines for the eye have none
+no_rows : ¬ HasRowsOfFiles (matches_of (codes "last" ∷ codes "--paths" ∷ []))
+unfolding tally_app clap_on_literals
+no_rows has = true≢false (sym (has refl).csv)
+
+-- nor have sums of attempts
+no_rows_of_sums : ¬ HasRowsOfFiles (matches_of (codes "lastb" ∷ codes "--csv" ∷ codes "--sum" ∷ codes "--paths" ∷ []))
+unfolding tally_app clap_on_literals
+no_rows_of_sums has = true≢false (has refl).no_sum
+
+-- nor sums over all files
+no_rows_over_all : ¬ HasRowsOfFiles (matches_of (codes "sa" ∷ codes "--csv" ∷ codes "--paths" ∷ []))
+unfolding tally_app clap_on_literals
+no_rows_over_all has = true≢false (sym ((has refl).by_file refl))
+
+-- a table without paths may be of anything
+none_asked : HasRowsOfFiles (matches_of (codes "sa" ∷ codes "--csv" ∷ []))
+unfolding tally_app clap_on_literals
+none_asked asked = absurd (true≢false (sym asked))
 
 -- ---- seconds
 
@@ -83,7 +133,7 @@ period_faults = refl
 
 -- what is wrong on every clock is named before what a clock shows
 abbrev all_of_it : Job
-all_of_it = record { report = report.All; form = Text; feeders = 4; askers = 0; offset = pos 0; until = None }
+all_of_it = record { report = report.All; form = form.Text; feeders = 4; askers = 0; offset = pos 0; until = None }
 
 first_fault : settled (record { until = Some (Day (pos 30000)); from = Some (Second (pos 4294967296)); to = None; at = None }) all_of_it (record { until = Some (pos 2592000000); from = Some (pos 4294967296); to = None; at = None })
     ∷ settled (record { until = Some (Day (pos 30000)); from = None; to = None; at = None }) all_of_it (record { until = Some (pos 2592000000); from = None; to = None; at = None }) ∷ []

@@ -32,17 +32,25 @@ limit_rule = record (new_rule (codes "limit")) {
   parser = Some (between 1 1048576);
 }
 
+-- `--name`
+abbrev pub long_flag_rule : Text → Rule
+long_flag_rule name = record (new_rule name) { long = Some name; action = Some SetTrue }
+
 -- `--csv`
 abbrev pub csv_rule : Rule
-csv_rule = record (new_rule (codes "csv")) { long = Some (codes "csv"); action = Some SetTrue }
+csv_rule = long_flag_rule (codes "csv")
+
+-- `--paths`
+abbrev pub paths_rule : Rule
+paths_rule = long_flag_rule (codes "paths")
 
 -- `--sum` of `lastb`
 abbrev pub sum_rule : Rule
-sum_rule = record (new_rule (codes "sum")) { long = Some (codes "sum"); action = Some SetTrue }
+sum_rule = long_flag_rule (codes "sum")
 
--- `--by-file`
+-- `--by-file` of `ac` and `sa`
 abbrev pub by_file_rule : Rule
-by_file_rule = record (new_rule (codes "by-file")) { long = Some (codes "by-file"); action = Some SetTrue }
+by_file_rule = long_flag_rule (codes "by-file")
 
 -- threads that read files
 abbrev pub feeders_rule : Rule
@@ -129,27 +137,32 @@ with_lettered_period app =
     (lettered_rule (codes "to") 116))
     (word_rule (codes "in"))
 
+-- what makes the report a table, and gives the table paths
+abbrev pub with_table : App → App
+with_table app = with_rule (with_rule app csv_rule) paths_rule
+
+-- the same of a report that may be on each file by itself
+abbrev pub with_file_table : App → App
+with_file_table app = with_table (with_rule app by_file_rule)
+
 -- `last`
 abbrev pub last_app : App
-last_app = with_more_files (with_rule (with_rule (with_rule (with_lettered_period (with_names
+last_app = with_more_files (with_table (with_rule (with_rule (with_lettered_period (with_names
     (with_rule (new_app (codes "last")) limit_rule)))
     (lettered_rule (codes "at") 112))
-    until_rule)
-    csv_rule)
+    until_rule))
 
 -- `lastb`
 abbrev pub attempts_app : App
-attempts_app = with_more_files (with_rule (with_lettered_period (with_names
-    (with_rule (with_rule (new_app (codes "lastb")) limit_rule) sum_rule)))
-    csv_rule)
+attempts_app = with_more_files (with_table (with_lettered_period (with_names
+    (with_rule (with_rule (new_app (codes "lastb")) limit_rule) sum_rule))))
 
 -- `ac`
 abbrev pub connect_app : App
-connect_app = with_more_files (with_rule (with_rule (with_period (with_names (with_rule (with_rule (new_app (codes "ac"))
+connect_app = with_more_files (with_file_table (with_rule (with_period (with_names (with_rule (with_rule (new_app (codes "ac"))
     (flag_rule (codes "by_day") 100))
     (flag_rule (codes "by_user") 112))))
-    until_rule)
-    csv_rule)
+    until_rule))
 
 -- the flags of `sa`
 abbrev pub with_usage_flags : App → App
@@ -161,11 +174,9 @@ with_usage_flags app = with_rule (with_rule (with_rule (with_rule app
 
 -- `sa`
 abbrev pub usage_app : App
-usage_app = with_files file_rule (with_rule (with_rule (with_rule (with_period (with_rule (with_usage_flags (new_app (codes "sa")))
+usage_app = with_files file_rule (with_file_table (with_rule (with_period (with_rule (with_usage_flags (new_app (codes "sa")))
     (repeated_rule (codes "uid"))))
-    (word_rule (codes "names")))
-    by_file_rule)
-    csv_rule)
+    (word_rule (codes "names"))))
 
 -- `all`
 abbrev pub all_app : App

@@ -4,6 +4,7 @@ use Rattle.std.specs.Prelude.{option_map, unwrap_or}
 use Rattle.clap.specs.Words.{IsAmong, Row, Text, all_of, fault_of, one_of, subcommand_of}
 use Rattle.clap.specs.declared.error.kind.ErrorKind.{ErrorKind}
 use Rattle.clap.specs.declared.error.kind.ErrorKind.TheVariants as kind
+use Rattle.tally_line.specs.Apart.{HasRowsOfFiles, IsFilesAsked}
 use Rattle.tally_line.specs.CommandLine.{tally_app}
 use Rattle.tally_line.specs.FileWords.{IsFirstBare, NamesFiles}
 use Rattle.tally_line.specs.Jobs.{IsRunnable, TakesUntil}
@@ -15,6 +16,7 @@ use Rattle.tally_line.specs.UsageWords.{AreUsageWords, IsUsageAsked}
 use Rattle.tally_line.specs.Zones.{HasOneClock, IsZoneOf}
 use Rattle.std.specs.declared.alloc.Global.{Global}
 use Rattle.tally_line.specs.declared.line.FileArg.{FileArg}
+use Rattle.tally_line.specs.declared.line.FilesAsked.{FilesAsked}
 use Rattle.tally_line.specs.declared.job.Form.{Form}
 use Rattle.tally_line.specs.declared.job.Form.TheVariants as form
 use Rattle.tally_line.specs.declared.job.Job.{Job}
@@ -74,16 +76,18 @@ name_of report.All = codes "all"
 abbrev pub AsksFor : Report → Met → Type 0
 AsksFor r met = option_map (λ found. found.0) met ≡ Some (name_of r)
 
--- offsets are plain, none stands beside a zone, and the words that name, choose processes or say moments are as they have to be
+-- offsets are plain, none stands beside a zone, the words that name, choose processes or say moments are as they have to be,
+-- and paths are asked for where rows are of files
 pub record AreSound (rows : List Row) : Type 0 where
   pub offsets : HasPlainOffsets rows
   pub clock : HasOneClock rows
   pub named : AreNamed rows
   pub usage : AreUsageWords rows
+  pub paths : HasRowsOfFiles rows
   pub moments : AreMoments rows
 
 -- a run that the matches ask for
-pub record IsRunOf (met : Met) (job : Job) (times : Times) (usage : UsageAsked) (zone : Option (String Global)) (files : List FileArg) : Type 0 where
+pub record IsRunOf (met : Met) (job : Job) (times : Times) (usage : UsageAsked) (apart : FilesAsked) (zone : Option (String Global)) (files : List FileArg) : Type 0 where
   pub named : AsksFor job.report met
   pub runnable : IsRunnable job
   pub form : AsksForm job.report (rows_met met) job.form
@@ -93,6 +97,7 @@ pub record IsRunOf (met : Met) (job : Job) (times : Times) (usage : UsageAsked) 
   pub moments : times ≡ times_in job.report (rows_met met)
   pub until : TakesUntil job.report times.until
   pub usage_words : IsUsageAsked (rows_met met) usage
+  pub told_apart : IsFilesAsked (rows_met met) apart
   pub zone_word : IsZoneOf (rows_met met) zone
   pub sound : AreSound (rows_met met)
   pub some_file : job.report ≡ report.All → 0 < length files
@@ -120,7 +125,7 @@ AreAccepted words = fault_of tally_app words ≡ []
 
 -- the answer to words
 abbrev pub Answers : List Text → Line → Type 0
-Answers words (line.Run job times usage zone files) = AreAccepted words × IsRunOf (met_in words) job times usage zone files.items
+Answers words (line.Run job times usage apart zone files) = AreAccepted words × IsRunOf (met_in words) job times usage apart zone files.items
 Answers words (line.Help text) = AskForHelp words
 
 -- why words are refused

@@ -1,6 +1,8 @@
 -- What the options of a command line set.
-use Rattle.std.specs.Prelude.{◌≡◌, ◌≤◌, ◌-ℤ◌, ℕ, ℤ, pos, Bool, true, false, List, Option, None, Some, ⊤, codes}
+use Rattle.std.specs.Prelude.{◌≡◌, ◌≤◌, ◌-ℤ◌, ℕ, ℤ, pos, Bool, true, false, List, Option, None, Some, ⊤, bytes_eq, codes}
+use Rattle.std.specs.Option.{option_map_or}
 use Rattle.std.specs.Str.Parse.{IsNumeral, digits_value, without_leading_plus}
+use Rattle.clap.specs.Walk.{first_of}
 use Rattle.clap.specs.Words.{Row, Text, one_of}
 use Rattle.tally_line.specs.Named.{login_choice}
 use Rattle.tally_line.specs.Times.{has_period}
@@ -35,6 +37,10 @@ pub record IsFlag (id : Text) (rows : List Row) (set : Bool) : Type 0 where
   pub given : one_of id rows ≡ Some (codes "true") → set ≡ true
   pub left_out : one_of id rows ≡ Some (codes "false") → set ≡ false
   pub none : one_of id rows ≡ None → set ≡ false
+
+-- a flag is set
+abbrev pub is_set : Text → List Row → Bool
+is_set id rows = option_map_or (λ word. bytes_eq word (codes "true")) (first_of id rows) false
 
 -- whether commands or users are ordered by calls
 abbrev pub is_by_calls : Order → Bool

@@ -1,11 +1,10 @@
 -- What a command line asks of a report on processes beside its job.
-use Rattle.std.specs.Prelude.{◌≡◌, ◌≤◌, ℕ, Bool, List, Option, bytes_eq, codes, false, length, map, option_map, slice_get, string_bytes, true}
+use Rattle.std.specs.Prelude.{◌≡◌, ◌≤◌, ℕ, List, Option, codes, length, map, option_map, slice_get, string_bytes, true}
 use Rattle.std.specs.List.{All, range_with_len}
-use Rattle.std.specs.Option.{option_map_or}
 use Rattle.clap.specs.Walk.{first_of}
 use Rattle.clap.specs.Words.{Row, Text}
 use Rattle.tally_line.specs.Named.{words_of}
-use Rattle.tally_line.specs.Options.{WritesIn, number_of}
+use Rattle.tally_line.specs.Options.{WritesIn, is_set, number_of}
 use Rattle.tally_line.specs.Times.{is_given}
 use Rattle.tally_line.specs.declared.line.UsageAsked.{UsageAsked}
 
@@ -17,10 +16,6 @@ uids_of words = map (λ k. option_map number_of (slice_get words k)) (range_with
 pub record AreUids (words : List Text) : Type 0 where
   pub few : length words ≤ 8
   pub each : All (WritesIn 0 4294967295) words
-
--- a flag is set
-abbrev pub is_set : Text → List Row → Bool
-is_set id rows = option_map_or (λ word. bytes_eq word (codes "true")) (first_of id rows) false
 
 -- names of users are given for a report by user alone
 abbrev pub HasUsersToName : List Row → Type 0
@@ -35,4 +30,3 @@ pub record AreUsageWords (rows : List Row) : Type 0 where
 pub record IsUsageAsked (rows : List Row) (asked : UsageAsked) : Type 0 where
   pub uids : asked.uids ≡ uids_of (words_of (codes "uid") rows)
   pub names : option_map string_bytes asked.names ≡ first_of (codes "names") rows
-  pub by_file : asked.by_file ≡ is_set (codes "by-file") rows

@@ -1,8 +1,8 @@
 //! The arguments of the command line.
 ghost use Rattle.std.specs.Prelude.{◌≡◌, false};
 ghost use Rattle.clap.specs.Words.{rule_of};
-ghost use Rattle.tally_line.specs.CommandLine.{askers_rule, by_file_rule, csv_rule, feeders_rule, file_rule, flag_rule, lettered_rule, limit_rule, minutes_rule, more_files_rule};
-ghost use Rattle.tally_line.specs.CommandLine.{number_rule, repeated_rule, some_file_rule, sum_rule, until_rule, word_rule, zone_rule};
+ghost use Rattle.tally_line.specs.CommandLine.{askers_rule, by_file_rule, csv_rule, feeders_rule, file_rule, flag_rule, lettered_rule, limit_rule, long_flag_rule, minutes_rule, more_files_rule};
+ghost use Rattle.tally_line.specs.CommandLine.{number_rule, paths_rule, repeated_rule, some_file_rule, sum_rule, until_rule, word_rule, zone_rule};
 
 use clap::builder::ValueParser;
 use clap::{Arg, ArgAction, value_parser};
@@ -33,29 +33,42 @@ pub(crate) fn csv<'a>(alloc: Global) -> Arg<'a>
     ensures rule { rule_of result ≡ csv_rule }
     ensures local { result.global ≡ false }
 {
-    Arg::new(alloc, "csv")
-        .long("csv")
-        .help("Print one table in CSV, in seconds and whole numbers, for other programs")
-        .action(ArgAction::SetTrue)
+    let help = "Print one table in CSV, in seconds and whole numbers, for other programs";
+    long_flag(alloc, "csv", help)
+}
+
+pub(crate) fn paths<'a>(alloc: Global) -> Arg<'a>
+    ensures rule { rule_of result ≡ paths_rule }
+    ensures local { result.global ≡ false }
+{
+    let help = "With --csv, give each row that has a file the file's path, too";
+    long_flag(alloc, "paths", help)
 }
 
 pub(crate) fn by_file<'a>(alloc: Global) -> Arg<'a>
     ensures rule { rule_of result ≡ by_file_rule }
     ensures local { result.global ≡ false }
 {
-    Arg::new(alloc, "by-file")
-        .long("by-file")
-        .help("Report on each file by itself, and then on all; with --csv on each alone")
-        .action(ArgAction::SetTrue)
+    let help = "Report on each file by itself, and then on all; with --csv on each alone";
+    long_flag(alloc, "by-file", help)
 }
 
 pub(crate) fn sum<'a>(alloc: Global) -> Arg<'a>
     ensures rule { rule_of result ≡ sum_rule }
     ensures local { result.global ≡ false }
 {
-    Arg::new(alloc, "sum")
-        .long("sum")
-        .help("Count attempts by user and remote host over all files, the most first")
+    let help = "Count attempts by user and remote host over all files, the most first";
+    long_flag(alloc, "sum", help)
+}
+
+/// A flag without a letter.
+fn long_flag<'a>(alloc: Global, name: &'a str, help: &'a str) -> Arg<'a>
+    ensures rule { rule_of result ≡ long_flag_rule name.entry.now }
+    ensures local { result.global ≡ false }
+{
+    Arg::new(alloc, name)
+        .long(name)
+        .help(help)
         .action(ArgAction::SetTrue)
 }
 

@@ -1,12 +1,12 @@
 //! The command line as `clap` reads it.
 ghost use Rattle.std.specs.Prelude.{◌≡◌, IfOk, false};
 ghost use Rattle.clap.specs.Words.{App, Rule, new_app, rule_of, with_rule, with_subcommand};
-ghost use Rattle.tally_line.specs.CommandLine.{all_app, attempts_app, connect_app, last_app, tally_app, top_app, usage_app, with_files, with_lettered_period, with_more_files, with_names, with_period, with_usage_flags};
+ghost use Rattle.tally_line.specs.CommandLine.{all_app, attempts_app, connect_app, last_app, tally_app, top_app, usage_app, with_file_table, with_files, with_lettered_period, with_more_files, with_names, with_period, with_table, with_usage_flags};
 ghost use Rattle.tally_line.specs.inside.Commands.{IsCommand};
 
 use crate::args::{
-    askers, by_file, csv, feeders, file, flag, lettered, limit, minutes, more_files, repeated,
-    some_file, sum, until, word, zone,
+    askers, by_file, csv, feeders, file, flag, lettered, limit, minutes, more_files, paths,
+    repeated, some_file, sum, until, word, zone,
 };
 use clap::{Arg, Command};
 use std::alloc::{AllocError, Global};
@@ -96,7 +96,7 @@ fn last<'a>(alloc: Global) -> Made<'a>
     let help = "Show who was logged in at MOMENT, which is as for --from";
     let command = with(command, lettered(alloc, "at", 'p', help));
     let command = with(command, until(alloc));
-    let command = with(command, csv(alloc));
+    let command = with_table(alloc, command);
     with_more_files(alloc, command, LOGINS)
 }
 
@@ -116,7 +116,7 @@ fn attempts<'a>(alloc: Global) -> Made<'a>
         "Show attempts on the line NAME, as ssh:notty, up to eight times",
     );
     let command = with_lettered_period(alloc, command);
-    let command = with(command, csv(alloc));
+    let command = with_table(alloc, command);
     with_more_files(alloc, command, FAILED_LOGINS)
 }
 
@@ -143,7 +143,7 @@ fn connect<'a>(alloc: Global) -> Made<'a>
     );
     let command = with_period(alloc, command);
     let command = with(command, until(alloc));
-    let command = with(command, csv(alloc));
+    let command = with_file_table(alloc, command);
     with_more_files(alloc, command, LOGINS)
 }
 
@@ -158,8 +158,7 @@ fn usage<'a>(alloc: Global) -> Made<'a>
     let command = with_period(alloc, command);
     let help = "With -m, name users as FILE does, which has lines of passwd(5), as /etc/passwd";
     let command = with(command, word(alloc, "names", "FILE", help));
-    let command = with(command, by_file(alloc));
-    let command = with(command, csv(alloc));
+    let command = with_file_table(alloc, command);
     with_options(alloc, command, file(alloc, PROCESSES))
 }
 
@@ -226,6 +225,24 @@ fn with_lettered_period<'a>(alloc: Global, command: Made<'a>) -> Made<'a>
     let command = with(command, lettered(alloc, "from", 's', FROM));
     let command = with(command, lettered(alloc, "to", 't', TO));
     with(command, word(alloc, "in", "PERIOD", IN))
+}
+
+/// What makes the report a table, and gives the table paths.
+#[inline(never)]
+fn with_table<'a>(alloc: Global, command: Made<'a>) -> Made<'a>
+    ensures { (app : App) → IfOk command.entry (IsCommand app) → IfOk result (IsCommand (with_table app)) }
+{
+    let command = with(command, csv(alloc));
+    with(command, paths(alloc))
+}
+
+/// The same of a report that may be on each file by itself.
+#[inline(never)]
+fn with_file_table<'a>(alloc: Global, command: Made<'a>) -> Made<'a>
+    ensures { (app : App) → IfOk command.entry (IsCommand app) → IfOk result (IsCommand (with_file_table app)) }
+{
+    let command = with(command, by_file(alloc));
+    with_table(alloc, command)
 }
 
 /// The options that each subcommand has, and its files.

@@ -3,6 +3,7 @@ ghost use Rattle.std.specs.Prelude.{◌≡◌, IfOk, length, option_map, slice_g
 ghost use Rattle.clap.specs.Walk.{first_of};
 ghost use Rattle.clap.specs.Words.{found_of, rows_of};
 ghost use Rattle.tally_line.specs.Named.{words_of};
+ghost use Rattle.tally_line.specs.Options.{is_set};
 ghost use Rattle.tally_line.specs.Times.{is_given};
 
 use clap::ArgMatches;
@@ -34,6 +35,16 @@ pub(crate) fn is_given(matches: &ArgMatches<'_>, id: &str) -> bool
     ensures { result ≡ is_given id.now (rows_of (found_of matches.now)) }
 {
     word_of(matches, id).is_some()
+}
+
+/// Whether a flag is set.
+pub(crate) fn is_set(matches: &ArgMatches<'_>, id: &str) -> bool
+    ensures { result ≡ is_set id.now (rows_of (found_of matches.now)) }
+{
+    match word_of(matches, id) {
+        Some(word) => word == "true",
+        None => false,
+    }
 }
 
 /// The word of an option at a place, where it may be repeated.

@@ -2,11 +2,12 @@
 //!
 //! `words` makes a `line` of the words: `command` is what the parser knows and `args` its arguments, `given` are the words of
 //! options, `options` what the options of a report set, `named` the users and lines, `usage_words` what a report on
-//! processes is asked, `moments` its `times`, `offsets` refuses
+//! processes is asked, `apart` how a report tells its files apart, `moments` its `times`, `offsets` refuses
 //! what only looks like minutes, `zones` a zone beside an offset, `files` the files that the words name, `refused` the answer
 //! where the parser gives no matches. A `line` asks for a `job`, or for help; `settling` makes seconds of the times of a job.
 #![tactic(auto)]
 
+mod apart;
 mod args;
 mod command;
 mod files;
@@ -25,7 +26,7 @@ mod words;
 mod zones;
 
 pub use crate::job::{Form, Job, Report};
-pub use crate::line::{FileArg, Line, LineFault, UsageAsked};
+pub use crate::line::{FileArg, FilesAsked, Line, LineFault, UsageAsked};
 pub use crate::settling::{TimesFault, known_fault, settle, settle_choice};
 pub use crate::times::Times;
 pub use crate::words::{file_word, job_of};

@@ -23,8 +23,15 @@ pub struct UsageAsked {
     pub uids: Uids,
     /// `--names`: the word of a file with the names of users, as it was given.
     pub names: Option<String>,
+}
+
+/// How a report tells its files apart.
+#[derive(Clone, Copy, Debug, PartialEq, Eq)]
+pub struct FilesAsked {
     /// `--by-file`: whether each file is reported by itself, too.
     pub by_file: bool,
+    /// `--paths`: whether a row of a table that has the number of a file has its path, too.
+    pub paths: bool,
 }
 
 /// What a command line asks for.
@@ -35,6 +42,7 @@ pub enum Line {
         job: Job,
         times: Times,
         usage: UsageAsked,
+        apart: FilesAsked,
         zone: Option<String>,
         files: Vec<FileArg>,
     },

@@ -6,9 +6,9 @@ ghost use Rattle.clap.specs.Words.{found_of, rows_of};
 ghost use Rattle.tally_line.specs.Named.{words_of};
 ghost use Rattle.tally_line.specs.Options.{WritesIn, number_of};
 ghost use Rattle.tally_line.specs.UsageWords as Spec;
-ghost use Rattle.tally_line.specs.UsageWords.{AreUids, AreUsageWords, HasUsersToName, IsUsageAsked, is_set};
+ghost use Rattle.tally_line.specs.UsageWords.{AreUids, AreUsageWords, HasUsersToName, IsUsageAsked};
 
-use crate::given::{count_of, is_given, text_of, word_at, word_of};
+use crate::given::{count_of, is_given, is_set, text_of, word_at};
 use crate::line::UsageAsked;
 use clap::ArgMatches;
 use std::alloc::{AllocError, Global};
@@ -32,7 +32,6 @@ pub(crate) fn usage_asked(alloc: Global, matches: &ArgMatches<'_>) -> Result<Usa
     Ok(UsageAsked {
         uids: uids_of(matches),
         names: text_of(alloc, matches, "names")?,
-        by_file: is_set(matches, "by-file"),
     })
 }
 
@@ -116,15 +115,5 @@ fn mistake_in_file(matches: &ArgMatches<'_>) -> Option<&'static str>
         Some(NO_USERS)
     } else {
         None
-    }
-}
-
-/// Whether a flag is set.
-fn is_set(matches: &ArgMatches<'_>, id: &str) -> bool
-    ensures { result ≡ is_set id.now (rows_of (found_of matches.now)) }
-{
-    match word_of(matches, id) {
-        Some(word) => word == "true",
-        None => false,
     }
 }

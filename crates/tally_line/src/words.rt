@@ -5,6 +5,7 @@ ghost use Rattle.tally_line.specs.FileWords.{NamesFiles};
 ghost use Rattle.tally_line.specs.Lines.{Answers, AreSound, HasNoWord, Refuses, file_words, met_in, words_in};
 ghost use Rattle.tally_line.specs.inside.LineSteps.{IsComplete, IsFaultOf, IsFileFault, IsLineOf};
 
+use crate::apart::{files_asked, mistake_in_paths};
 use crate::command;
 use crate::files::files_of;
 use crate::job::Report;
@@ -96,12 +97,14 @@ fn run_under(alloc: Global, name: &str, matches: &ArgMatches<'_>) -> Result<Line
     let files = files_in(alloc, report, matches)?;
     let zone = zone_of(alloc, matches)?;
     let usage = usage_asked(alloc, matches)?;
+    let apart = files_asked(matches);
     let job = job_from(report, matches);
     let times = times_in(report, matches);
     Ok(Line::Run {
         job,
         times,
         usage,
+        apart,
         zone,
         files,
     })
@@ -135,6 +138,7 @@ fn mistake_in(matches: &ArgMatches<'_>) -> Option<&'static str>
     } else {
         mistake_in_names(matches)
             .or(mistake_in_usage(matches))
+            .or(mistake_in_paths(matches))
             .or(mistake_in_moments(matches))
     }
 }

@@ -13,7 +13,7 @@ use Rattle.tally_line.specs.declared.line.LineFault.TheVariants as fault
 
 -- the answer to matches
 abbrev pub IsLineOf : Met → Line → Type 0
-IsLineOf met (line.Run job times usage zone files) = IsRunOf met job times usage zone files.items
+IsLineOf met (line.Run job times usage apart zone files) = IsRunOf met job times usage apart zone files.items
 IsLineOf met (line.Help text) = ⊥
 
 -- why complete matches are refused
@@ -30,7 +30,7 @@ IsFileFault r words (fault.Prefix index) = (r ≡ report.All) × IsFirstBare wor
 
 -- the answer where `clap` ends the words with a kind
 abbrev pub IsHelpFor : ErrorKind → Line → Type 0
-IsHelpFor k (line.Run job times usage _ files) = ⊥
+IsHelpFor k (line.Run job times usage apart _ files) = ⊥
 IsHelpFor k (line.Help text) = IsShown k
 
 -- why there is none then

@@ -6,5 +6,5 @@ returns c =
     let sum = c.with-command-2.ensures _ _ limit c.sum.ensures.rule c.sum.ensures.local in
     let names = c.with_names-command.ensures _ sum in
     let period = c.with_lettered_period-command.ensures _ names in
-    let own = c.with-command-3.ensures _ _ period c.csv.ensures.rule c.csv.ensures.local in
+    let own = c.with_table-command.ensures _ period in
     c.with_more_files.ensures _ own

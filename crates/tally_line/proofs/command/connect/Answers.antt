@@ -7,5 +7,5 @@ returns c =
     let names = c.with_names-command.ensures _ by_user in
     let period = c.with_period-command.ensures _ names in
     let until = c.with-command-3.ensures _ _ period c.until.ensures.rule c.until.ensures.local in
-    let own = c.with-command-4.ensures _ _ until c.csv.ensures.rule c.csv.ensures.local in
+    let own = c.with_file_table-command.ensures _ until in
     c.with_more_files.ensures _ own

@@ -7,5 +7,5 @@ returns c =
     let period = c.with_lettered_period-command.ensures _ names in
     let at = c.with-command-2.ensures _ _ period c.lettered.ensures.rule c.lettered.ensures.local in
     let until = c.with-command-3.ensures _ _ at c.until.ensures.rule c.until.ensures.local in
-    let own = c.with-command-4.ensures _ _ until c.csv.ensures.rule c.csv.ensures.local in
+    let own = c.with_table-command.ensures _ until in
     c.with_more_files.ensures _ own

@@ -6,6 +6,5 @@ returns c =
     let uid = c.with-command.ensures _ _ flags c.repeated.ensures.rule c.repeated.ensures.local in
     let period = c.with_period-command.ensures _ uid in
     let names = c.with-command-2.ensures _ _ period c.word.ensures.rule c.word.ensures.local in
-    let by_file = c.with-command-3.ensures _ _ names c.by_file.ensures.rule c.by_file.ensures.local in
-    let own = c.with-command-4.ensures _ _ by_file c.csv.ensures.rule c.csv.ensures.local in
+    let own = c.with_file_table-command.ensures _ names in
     c.with_options.ensures _ _ own c.file.ensures.rule c.file.ensures.local

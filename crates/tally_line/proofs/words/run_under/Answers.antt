@@ -11,6 +11,6 @@ returns-in_err-files-clause-err c =
 
 pub returns-clause-ok : goal.returns-clause-ok
 returns-clause-ok c =
-    run_found c.args.name.now (rows_of (found_of c.args.matches.now)) _ _ _ _ _ _ c.in-Some-report_of.ensures.named c.requires.file
+    run_found c.args.name.now (rows_of (found_of c.args.matches.now)) _ _ _ _ _ _ _ c.in-Some-report_of.ensures.named c.requires.file
     c.job_from-job.ensures.report c.job_from-job.ensures.runnable c.job_from-job.ensures.few c.job_from-job.ensures.asked c.job_from-job.ensures.form c.job_from-job.ensures.options
-    c.times_in-times.ensures.value c.times_in-times.ensures.until c.in_ok-usage.ensures c.in_ok-zone.ensures (search rules) c.in_ok-files.ensures.ok
+    c.times_in-times.ensures.value c.times_in-times.ensures.until c.in_ok-usage.ensures c.files_asked-apart.ensures c.in_ok-zone.ensures (search rules) c.in_ok-files.ensures.ok
