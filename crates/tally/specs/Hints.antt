@@ -1,5 +1,5 @@
 -- Which files a hint is given on, and what it is about.
-use Rattle.std.specs.Prelude.{Bool, true, false, Option, Some, None, option_map}
+use Rattle.std.specs.Prelude.{Option, Some, None, option_map}
 use Rattle.tally_cli.specs.declared.fault.RunFault.{RunFault}
 use Rattle.tally_cli.specs.declared.fault.RunFault.TheVariants as run
 use Rattle.tally_cli.specs.declared.fault.UsageFault.{UsageFault}
@@ -8,22 +8,9 @@ use Rattle.tally_desk.specs.declared.fault.CountFault.{CountFault}
 use Rattle.tally_desk.specs.declared.fault.CountFault.TheVariants as count
 use Rattle.tally_desk.specs.declared.fault.FeedFault.{FeedFault}
 use Rattle.tally_desk.specs.declared.fault.FeedFault.TheVariants as feed
-use Rattle.tally_kinds.specs.declared.kinds.Looks.{Looks}
-use Rattle.tally_kinds.specs.declared.kinds.Looks.TheVariants.{FailedLogins, Logins, Nothing, Processes, Unknown}
-use Rattle.tally_records.specs.declared.batch.Kind.{Kind}
-use Rattle.tally_records.specs.declared.batch.Kind.TheVariants.{FailedLogin, Login, Proc}
 use Rattle.tally.specs.declared.subject.Cause.{Cause}
 use Rattle.tally.specs.declared.subject.Cause.TheVariants.{Content, Reading}
 use Rattle.tally.specs.declared.subject.Subject.{Subject}
-
--- a file looks as one of its kind does, or like nothing known: nothing is said of it
-abbrev pub is_silent : Kind → Looks → Bool
-is_silent kind Nothing = true
-is_silent kind Unknown = true
-is_silent Login Logins = true
-is_silent FailedLogin FailedLogins = true
-is_silent Proc Processes = true
-is_silent kind looks = false
 
 -- why a file was not read to its end, where a hint helps
 abbrev pub feed_cause : FeedFault → Option Cause

@@ -1,5 +1,5 @@
 //! What a command line asks to report: its clock, its moments and its names of users, worked out.
-ghost use Rattle.std.specs.Prelude.{◌≡◌, IfErr, IfOk, None, Some, Ok, Err, if◌then◌else◌};
+ghost use Rattle.std.specs.Prelude.{◌≡◌, IfErr, IfOk, None, Ok, Err};
 ghost use Rattle.tally_clock.specs.Rows.{utc};
 ghost use Rattle.tally_line.specs.Jobs.{IsRunnable, TakesUntil};
 ghost use Rattle.tally_line.specs.Settled.{Settles, SettlesChoice};
@@ -8,14 +8,14 @@ ghost use Rattle.tally_moments.specs.Seconds.{local};
 
 use crate::faults::{FAULT, fault, file_fault, times_fault, zone_fault};
 use crate::hints::hinted_not_opened;
-use crate::shown::{ErrorsTo, Shown};
 use crate::users::{UsersFault, names_of};
 use std::process::ExitCode;
 use std::rt::Files;
-use tally_cli::{FileArg, Job};
+use tally_cli::{FileArg, FilesApart, FilesAsked, Job};
 use tally_clock::Clock;
 use tally_line::{Times, UsageAsked, settle, settle_choice};
 use tally_records::Memory;
+use tally_terminal::{ErrorsTo, Shown};
 use tally_usage::{ProcChoice, UserNames};
 use tally_zones::clock_of;
 
@@ -25,6 +25,7 @@ pub(crate) struct Asked<'a> {
     pub(crate) job: &'a Job,
     pub(crate) times: &'a Times,
     pub(crate) usage: &'a UsageAsked,
+    pub(crate) apart: FilesAsked,
     pub(crate) now: i64,
     pub(crate) zone: Option<&'a String>,
     pub(crate) files: &'a [FileArg],
@@ -96,14 +97,13 @@ where
     }
 }
 
-/// The files of the command line, where it asks for each by itself.
-pub(crate) fn files_by_file<'a>(asked: Asked<'a>) -> Option<&'a [FileArg]>
-    ensures { result ≡ if asked.entry.usage.now.by_file then Some asked.entry.files else None }
+/// The files of the command line, told apart as it asks.
+pub(crate) fn files_apart<'a>(asked: Asked<'a>) -> FilesApart<'a>
+    ensures { result ≡ record { files = asked.entry.files; asked = asked.entry.apart } }
 {
-    if asked.usage.by_file {
-        Some(asked.files)
-    } else {
-        None
+    FilesApart {
+        files: asked.files,
+        asked: asked.apart,
     }
 }
 

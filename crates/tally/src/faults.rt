@@ -5,13 +5,13 @@ ghost use Rattle.tally.specs.Faults.{is_other_login};
 ghost use Rattle.tally_cli.specs.Runs.{IsNamed};
 ghost use Rattle.tally_cli.specs.Usages.{IsNamedFile};
 
-use crate::shown::{ErrorsTo, Shown};
 use std::fmt::Display;
 use std::process::ExitCode;
 use tally_cli::{FileArg, RunFault, UsageFault};
 use tally_desk::FeedFault;
 use tally_line::TimesFault;
 use tally_records::{Memory, RecordFault};
+use tally_terminal::{ErrorsTo, Shown};
 use tally_zones::{ZoneFault, hint_on};
 
 /// The status of a fault.

@@ -1,14 +1,13 @@
 //! Hints on a terminal, after a fault line or a report.
 
-use crate::about::{About, FileHint, about_looks};
 use crate::faults::not_opened;
 use crate::looking::{about_unread, looks_of};
-use crate::shown::{ErrorsTo, Shown};
 use crate::subject::{Cause, Subject};
 use std::process::ExitCode;
 use std::rt::Files;
 use tally_cli::{FileArg, Report};
 use tally_kinds::Looks;
+use tally_terminal::{About, ErrorsTo, FileHint, Shown, about_looks};
 
 /// Prints a hint on a file, where there is one.
 fn hint<R: Eprint>(rt: &R, path: Shown<'_>, about: Option<About>) {

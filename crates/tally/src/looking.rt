@@ -2,7 +2,6 @@
 ghost use Rattle.std.specs.Prelude.{◌≡◌, IfSome, take};
 ghost use Rattle.tally_kinds.specs.Kinds.{looks_of};
 
-use crate::about::About;
 use crate::limited::read_up_to;
 use crate::opened::STANDARD_INPUT;
 use std::alloc::Global;
@@ -10,6 +9,7 @@ use std::fs;
 use std::io::{ErrorKind, Read};
 use std::rt::Files;
 use tally_kinds::{FRONT_SIZE, Looks, looks_like};
+use tally_terminal::About;
 
 /// What the file that a reader has left looks like, where its first bytes can be read.
 fn look_at<F: Read + Drop>(alloc: Global, file: F, size: u64) -> Option<Looks>

@@ -1,7 +1,6 @@
 //! `tally`: reports of login and process accounting files, as last(1), lastb(8), ac(1) and sa(8) give them.
 #![tactic(auto)]
 
-mod about;
 mod asked;
 mod defaults;
 mod faults;
@@ -10,19 +9,16 @@ mod limited;
 mod looking;
 mod now;
 mod opened;
-mod output;
 mod program;
-mod progress;
 mod reporting;
 mod running;
-mod shown;
 mod subject;
 mod users;
 mod words;
 
-use crate::shown::ErrorsTo;
 use std::io::IsTerminal;
 use std::process::ExitCode;
+use tally_terminal::ErrorsTo;
 
 fn main(rt: HostRuntime) -> ExitCode {
     let to = if rt.stderr().is_terminal() {

@@ -6,7 +6,6 @@ ghost use Rattle.tally.specs.Faults.{Names, NamesOneOf};
 ghost use Rattle.tally.specs.declared.opened.OpenFault.TheVariants.{Memory};
 ghost use Rattle.tally_cli.specs.Runs.{IsReadable};
 
-use crate::progress::{Followed, Progress};
 use std::alloc::{AllocFailed, Global};
 use std::fs;
 use std::io::{self, Read};
@@ -14,6 +13,7 @@ use std::os::fd::AsRawFd;
 use std::rt::{Clock, Files};
 use tally_cli::{FileArg, Source};
 use tally_desk::Reading;
+use tally_terminal::{Followed, Progress};
 
 /// The path of the program's own standard input.
 pub(crate) const STANDARD_INPUT: &str = "/dev/stdin";

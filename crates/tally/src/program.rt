@@ -5,7 +5,6 @@ use crate::asked::Asked;
 use crate::faults::{FAULT, REFUSED, fault, file_fault, times_fault, usage};
 use crate::now::now_for;
 use crate::reporting::hold_and_report;
-use crate::shown::{ErrorsTo, Shown, printable};
 use crate::words::{WordsFault, words};
 use std::io;
 use std::os::fd::AsRawFd;
@@ -14,9 +13,10 @@ use std::random::RandomSource;
 use std::rt::{Clock as MachineClock, Env, Files};
 use std::sync::Wait;
 use std::thread::Threads;
-use tally_cli::{FileArg, Job, Line, LineFault, RunFault, file_word, job_of};
+use tally_cli::{FileArg, FilesAsked, Job, Line, LineFault, RunFault, file_word, job_of};
 use tally_line::{Times, UsageAsked, known_fault};
 use tally_records::Memory;
+use tally_terminal::{ErrorsTo, Shown, printable};
 
 /// Runs the program, and says how it went.
 pub(crate) fn tally<R>(rt: &R, to: ErrorsTo) -> ExitCode
@@ -46,6 +46,7 @@ where
                 job,
                 times,
                 usage,
+                apart,
                 zone,
                 files,
             },
@@ -55,6 +56,7 @@ where
             &job,
             &times,
             &usage,
+            apart,
             zone.as_ref(),
             files.as_slice(),
         ),
@@ -116,6 +118,7 @@ fn report_at<R>(
     job: &Job,
     times: &Times,
     usage: &UsageAsked,
+    apart: FilesAsked,
     zone: Option<&String>,
     files: &[FileArg],
 ) -> ExitCode
@@ -145,6 +148,7 @@ where
         job,
         times,
         usage,
+        apart,
         now,
         zone,
         files,

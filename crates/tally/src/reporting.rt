@@ -1,14 +1,12 @@
 //! The way to a report: its files, its clock and its names, and then the run.
 ghost use Rattle.tally_line.specs.Jobs.{IsRunnable, TakesUntil};
 
-use crate::asked::{Asked, choice_for, clock_for, files_by_file, job_for, names_for};
+use crate::asked::{Asked, choice_for, clock_for, files_apart, job_for, names_for};
 use crate::defaults::default_files;
 use crate::faults::{FAULT, fault, not_opened};
 use crate::hints::hinted_not_opened;
 use crate::opened::{OpenFault, ROOT, hold_closed_streams, open_all};
-use crate::progress::Progress;
 use crate::running::run_over;
-use crate::shown::{ErrorsTo, Shown};
 use std::hash::RandomState;
 use std::os::fd::AsRawFd;
 use std::process::ExitCode;
@@ -19,6 +17,7 @@ use std::thread::Threads;
 use tally_cli::{FileArg, Job, UsageWanted};
 use tally_clock::Clock;
 use tally_records::Memory;
+use tally_terminal::{ErrorsTo, Progress, Shown};
 
 /// Opens all files, and then reads them and prints the report in the time of a clock.
 fn report_on<R>(
@@ -69,7 +68,7 @@ where
             let wanted = UsageWanted {
                 choice,
                 names: names.as_ref(),
-                by_file: files_by_file(asked),
+                apart: files_apart(asked),
             };
             report_on(rt, to, job, wanted, keys, clock, asked.files)
         }

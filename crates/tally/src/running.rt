@@ -7,9 +7,6 @@ ghost use Rattle.tally_line.specs.Jobs.{IsRunnable};
 
 use crate::faults::{run_fault, usage_fault};
 use crate::hints::{hint_after, hint_on};
-use crate::output::Watched;
-use crate::progress::Progress;
-use crate::shown::ErrorsTo;
 use crate::subject::{run_subject, usage_subject};
 use std::hash::RandomState;
 use std::io;
@@ -17,10 +14,11 @@ use std::process::ExitCode;
 use std::rt::{Clock as MachineClock, Files};
 use std::sync::Wait;
 use std::thread::Threads;
-use tally_cli::{FileArg, Job, Source, UsageWanted, is_usage_run, run, run_usage};
+use tally_cli::{FileArg, FilesApart, Job, Source, UsageWanted, is_usage_run, run, run_usage};
 use tally_clock::Clock;
 use tally_desk::{Input, OpenGate};
 use tally_print::Writing;
+use tally_terminal::{ErrorsTo, Progress, Watched};
 
 /// Counts the chosen processes of the files, and prints the report on them. It stays apart, so that its stack is not that of
 /// other reports.
@@ -65,6 +63,7 @@ fn read_files<R, I: Input + Send>(
     rt: &R,
     to: ErrorsTo,
     job: &Job,
+    apart: FilesApart<'_>,
     keys: RandomState,
     clock: &Clock,
     files: &[FileArg],
@@ -80,7 +79,9 @@ where
 {
     let mut out = Writing::new(Watched::new(io::writer(rt), progress));
     let alloc = rt.alloc();
-    let done = run(rt, alloc, keys, clock, job, sources, &OpenGate, &mut out);
+    let done = run(
+        rt, alloc, keys, clock, job, apart, sources, &OpenGate, &mut out,
+    );
     out.writer().erase();
     match done {
         Ok(()) => {
@@ -118,6 +119,7 @@ where
     if is_usage_run(job, sources.as_slice()) {
         count_files(rt, to, job, wanted, keys, clock, files, progress, sources)
     } else {
-        read_files(rt, to, job, keys, clock, files, progress, sources)
+        let apart = wanted.apart;
+        read_files(rt, to, job, apart, keys, clock, files, progress, sources)
     }
 }

@@ -11,7 +11,7 @@ use std::alloc::{AllocError, Global};
 use std::hash::RandomState;
 use std::sync::Wait;
 use std::thread::Threads;
-use tally_cli::{Form, Job, Source, UsageWanted, is_usage_run, run, run_usage};
+use tally_cli::{FilesApart, Form, Job, Source, UsageWanted, is_usage_run, run, run_usage};
 use tally_clock::Clock;
 use tally_desk::OpenGate;
 use tally_records::Kind;
@@ -144,6 +144,7 @@ fn run_once<R: AllocGlobal + Threads + Wait + Sync>(
         bench.keys,
         clock,
         job,
+        FilesApart::together(),
         sources,
         &OpenGate,
         &mut bench.digest,

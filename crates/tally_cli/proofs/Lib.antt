@@ -1,4 +1,5 @@
 pub mod Asked
+pub mod ByFile
 pub mod Calls
 pub mod Carried
 pub mod Counted
@@ -14,6 +15,7 @@ pub mod Lists
 pub mod Numbered
 pub mod Outcomes
 pub mod Parts
+pub mod PathTables
 pub mod Posted
 pub mod Reported
 pub mod Shares
@@ -24,5 +26,6 @@ pub mod Texts
 pub mod TooMany
 pub mod Turns
 pub mod UsageRuns
+pub mod WorkedApart
 pub mod WorkedCounts
 pub mod WorkedRows

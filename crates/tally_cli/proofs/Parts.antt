@@ -1,14 +1,12 @@
 -- The parts of a report by file, and its output.
-use Rattle.std.proofs.Common.{◌≡◌, ◌∙◌, ◌+◌, ◌++◌, ◌<◌, ◌≤◌, ℕ, zero, suc, ℤ, List, [], ◌∷◌, Option, None, Some, length, map, get_or, ap, sym, subst, refl, arith, append-nil, inl, inr, length-append}
+use Rattle.std.proofs.Common.{◌≡◌, ◌∙◌, ◌+◌, ◌++◌, ◌<◌, ◌≤◌, ℕ, zero, suc, List, [], ◌∷◌, Option, None, Some, length, map, get_or, ap, sym, subst, refl, arith, append-nil, inl, inr, length-append}
 use Rattle.std.proofs.lemmas.Bool.{cases_lt}
 use Rattle.std.proofs.Math.ListN.{get_or-append}
 use Rattle.std.proofs.Math.Seq.{get_or-append_seam}
 use Rattle.std.proofs.lemmas.List.{get_or-map}
 use Rattle.std.specs.List.{All, enumerate_from, flat_map}
 use Rattle.tally_book.specs.Answers.{HasDays}
-use Rattle.tally_book.specs.declared.question.Answer.{Answer}
 use Rattle.tally_clock.specs.Rows.{ClockRows}
-use Rattle.tally_line.specs.declared.job.Form.{Form}
 use Rattle.tally_line.specs.declared.job.Form.TheVariants.{Text, Csv}
 use Rattle.tally_line.specs.declared.job.Job.{Job}
 use Rattle.tally_line.specs.declared.job.Report.{Report}
@@ -19,7 +17,8 @@ use Rattle.tally_usage.specs.Sums.{AreSumsOf}
 use Rattle.tally_usage.specs.declared.choice.ProcChoice.{ProcChoice}
 use Rattle.tally_cli.specs.Output.{login_entries, proc_entries}
 use Rattle.tally_cli.specs.Runs.{Told, records_told}
-use Rattle.tally_cli.specs.UsageOutput.{Names, Wanted, answers_on, by_file_output, chosen_entries, file_table, file_text, files_head, files_tail, usage_output}
+use Rattle.tally_cli.specs.Apart.{file_table, file_text, files_head, files_tail}
+use Rattle.tally_cli.specs.UsageOutput.{Wanted, answers_on, by_file_output, chosen_entries, usage_output}
 use Rattle.tally_cli.specs.Usages.{procs_told}
 use Rattle.tally_cli.specs.declared.running.counting.Count.{Count}
 use Rattle.tally_cli.specs.declared.running.counting.Count.TheVariants as count
@@ -88,22 +87,22 @@ are_answered choice (Some r) files at inputs parts same sums are = record {
 
 -- ---- the output
 
-module _ (clock : ClockRows) (job : Job) (wanted : Wanted) (paths : List (List ℕ)) where
+module _ (clock : ClockRows) (job : Job) (wanted : Wanted) where
   abbrev one : ℕ × Told → List ℕ
-  one numbered = file_text clock job wanted.names paths numbered.0 (answers_on clock job wanted.choice (numbered.1 ∷ []))
+  one numbered = file_text clock job wanted.names wanted.apart numbered.0 (answers_on clock job wanted.choice (numbered.1 ∷ []))
 
   -- a part is what is printed of its file alone
-  alone : (file : ℕ) (input : Told) (part : FilePart) → part.file ≡ file → IsAnswerAbout job.report (procs_told wanted.choice input) part.answer → part_text clock job wanted.names paths part ≡ one (file, input)
+  alone : (file : ℕ) (input : Told) (part : FilePart) → part.file ≡ file → IsAnswerAbout job.report (procs_told wanted.choice input) part.answer → part_text clock job wanted.names wanted.apart part ≡ one (file, input)
   alone file input part own answer =
       let only : List Told = input ∷ [] in
       let same = answer clock job.offset (map (λ (i : Told). i.kind) only) job.until (login_entries (map records_told only)) (chosen_entries wanted.choice (proc_entries (map records_told only)))
       (chosen_records wanted.choice only ∙ append-nil (procs_told wanted.choice input)) in
-      λ j. file_text clock job wanted.names paths (own j) (sym same j)
+      λ j. file_text clock job wanted.names wanted.apart (own j) (sym same j)
 
   parts_from : (n : ℕ) (inputs : List Told) (parts : List FilePart) → length parts ≡ length inputs
       → ((k : ℕ) (d : FilePart) → k < length inputs → (get_or parts k d).file ≡ n + k)
       → ((k : ℕ) (i : Told) (d : FilePart) → k < length inputs → IsAnswerAbout job.report (procs_told wanted.choice (get_or inputs k i)) (get_or parts k d).answer)
-      → flat_map (part_text clock job wanted.names paths) parts ≡ flat_map one (enumerate_from n inputs)
+      → flat_map (part_text clock job wanted.names wanted.apart) parts ≡ flat_map one (enumerate_from n inputs)
   parts_from n [] [] same own answer = refl
   parts_from n [] (p ∷ ps) same own answer = absurd (omega (arith, same))
   parts_from n (i ∷ is) [] same own answer = absurd (omega (arith, same))
@@ -113,15 +112,15 @@ module _ (clock : ClockRows) (job : Job) (wanted : Wanted) (paths : List (List �
       λ j. first j ++ rest j
 
   module _ (inputs : List Told) (parts : List FilePart) (are : AreAnswered wanted.choice job.report inputs parts) where
-    pub parts_are : flat_map (part_text clock job wanted.names paths) parts ≡ flat_map one (enumerate_from 0 inputs)
+    pub parts_are : flat_map (part_text clock job wanted.names wanted.apart) parts ≡ flat_map one (enumerate_from 0 inputs)
     parts_are = parts_from 0 inputs parts are.count (λ k d l. are.own k d l ∙ omega arith) are.answer
 
     -- in text the report on all stands below the parts
-    pub in_text : job.form ≡ Text → flat_map (part_text clock job wanted.names paths) parts ++ usage_output clock job wanted inputs ≡ by_file_output clock job wanted paths inputs
-    in_text is = λ j. files_head (sym is j) (file_table job.report wanted.names) ++ (parts_are j ++ files_tail (sym is j) (usage_output clock job wanted inputs))
+    pub in_text : job.form ≡ Text → flat_map (part_text clock job wanted.names wanted.apart) parts ++ usage_output clock job wanted inputs ≡ by_file_output clock job wanted inputs
+    in_text is = λ j. files_head (sym is j) wanted.apart.paths (file_table job.report wanted.names) ++ (parts_are j ++ files_tail (sym is j) (usage_output clock job wanted inputs))
 
     -- and in a table the names of the columns above them
-    pub in_table : job.form ≡ Csv → csv_text (file_header (file_table job.report wanted.names) ∷ []) ++ flat_map (part_text clock job wanted.names paths) parts ≡ by_file_output clock job wanted paths inputs
+    pub in_table : job.form ≡ Csv → csv_text (file_header wanted.apart.paths (file_table job.report wanted.names) ∷ []) ++ flat_map (part_text clock job wanted.names wanted.apart) parts ≡ by_file_output clock job wanted inputs
     in_table is =
-        ap (λ l. csv_text (file_header (file_table job.report wanted.names) ∷ []) ++ l) (sym (append-nil (flat_map (part_text clock job wanted.names paths) parts)))
-        ∙ (λ j. files_head (sym is j) (file_table job.report wanted.names) ++ (parts_are j ++ files_tail (sym is j) (usage_output clock job wanted inputs)))
+        ap (λ l. csv_text (file_header wanted.apart.paths (file_table job.report wanted.names) ∷ []) ++ l) (sym (append-nil (flat_map (part_text clock job wanted.names wanted.apart) parts)))
+        ∙ (λ j. files_head (sym is j) wanted.apart.paths (file_table job.report wanted.names) ++ (parts_are j ++ files_tail (sym is j) (usage_output clock job wanted inputs)))

@@ -1,11 +1,13 @@
 -- The output of a run is that of its job and files.
-use Rattle.std.proofs.Common.{◌≡◌, ℕ, zero, suc, ◌+◌, Bool, true, IsTrue, List, [], ◌∷◌, ◌++◌, Option, Result, Ok, Err, inl, inr, length, map, refl, sym, subst, ap, ◌∙◌, append-nil, add-zero, arith}
-use Rattle.std.specs.Prelude.{IfErr, OnOk, slice_index_or}
-use Rattle.std.specs.List.{All}
+use Rattle.std.proofs.Common.{◌≡◌, ℕ, zero, suc, ◌+◌, Bool, true, false, cond, IsTrue, List, [], ◌∷◌, ◌++◌, Option, Result, Ok, Err, inl, inr, length, map, refl, sym, subst, ap, ◌∙◌, append-nil, add-zero, arith}
+use Rattle.std.proofs.lemmas.Bool.{eqb-true}
+use Rattle.std.specs.Prelude.{IfErr, None, OnOk, if◌then◌else◌, slice_index_or, ◌==◌}
+use Rattle.std.specs.List.{All, flat_map, range_with_len}
 use Rattle.tally_clock.specs.Rows.{ClockRows}
 use Rattle.tally_book.specs.Contents.{Contents}
 use Rattle.tally_book.specs.Answers.{answer_of}
 use Rattle.tally_book.specs.Deeds.{SameOfEachHost}
+use Rattle.tally_book.specs.declared.question.Answer.{Answer}
 use Rattle.tally_book.specs.declared.question.Question.{Question}
 use Rattle.tally_desk.specs.declared.fault.FeedFault.TheVariants as feed
 use Rattle.tally_print.specs.Output.{AppendsPrefix, OutputNow, Prints, failed_calls}
@@ -14,10 +16,12 @@ use Rattle.tally_print.specs.declared.output.PrintFault.TheVariants as print
 use Rattle.tally_records.specs.declared.batch.Kind.{Kind}
 use Rattle.tally_sessions.specs.declared.entry.Entry.{Entry}
 use Rattle.tally_sessions.specs.Days.{local}
+use Rattle.tally_sessions.specs.Hosts.{entries_of_host, of_host, posted_by}
 use Rattle.tally_usage.specs.declared.entry.ProcEntry.{ProcEntry}
 use Rattle.tally_line.specs.declared.job.Job.{Job}
 use Rattle.tally_cli.specs.declared.running.source.Source.{Source}
-use Rattle.tally_cli.specs.Output.{form_text, login_entries, proc_entries, questions_of, report_text}
+use Rattle.tally_cli.specs.Apart.{Apart, apart_text, file_table, file_text, files_text, has_paths, is_by_file, path_csv_of}
+use Rattle.tally_cli.specs.Output.{answers_of, form_text, login_entries, proc_entries, questions_of, table_of}
 use Rattle.tally_cli.specs.declared.fault.RunFault.{RunFault}
 use Rattle.tally_cli.specs.declared.fault.RunFault.TheVariants.{Asker, Callers, File, Memory, Write}
 use Rattle.tally_cli.specs.Runs.{IsAllowed, IsCause, IsFailedRun, IsFullList, IsGood, IsNamed, IsUnwrittenBefore, Tell, Told, failed_writes, fault_from, output_told, records_told}
@@ -30,16 +34,37 @@ kinds_told to_come [] (i ∷ is) h = absurd (omega (arith, h.0))
 kinds_told to_come (s ∷ ss) [] h = absurd (omega (arith, h.0))
 kinds_told to_come (s ∷ ss) (i ∷ is) h = λ j. (h.1 zero s i (omega arith)).kind j ∷ kinds_told to_come ss is (omega (arith, h.0), λ k x y l. h.1 (suc k) x y (omega (arith, l))) j
 
+one_entry : (host : ℕ) (e : Entry) (es : List Entry) (b : Bool) → (e.host == host) ≡ b → entries_of_host host es ≡ posted_by host (of_host host es)
+    → cond b (e ∷ entries_of_host host es) (entries_of_host host es) ≡ posted_by host (map (λ (x : Entry). x.item) (cond b (e ∷ entries_of_host host es) (entries_of_host host es)))
+one_entry host e es true is rest = let same : e.host ≡ host = eqb-true e.host host is in λ j. record { host = same j; item = e.item } ∷ rest j
+one_entry host e es false is rest = rest
+
+-- the entries of a host are its records under its number
+host_entries : (host : ℕ) (entries : List Entry) → entries_of_host host entries ≡ posted_by host (of_host host entries)
+host_entries host [] = refl
+host_entries host (e ∷ es) = one_entry host e es (e.host == host) refl (host_entries host es)
+
 -- the report of a book over the files' records is the output of what the sources tell
-pub output_is : {I : Type 0} (to_come : I → Option (List ℕ)) (clock : ClockRows) (job : Job) (sources : List (Source I)) (inputs : List Told) (b : Contents) {kinds shown : List Kind} {lent : List (Source I)}
+pub output_is : {I : Type 0} (to_come : I → Option (List ℕ)) (clock : ClockRows) (apart : Apart) (job : Job) (sources : List (Source I)) (inputs : List Told) (b : Contents) {kinds shown : List Kind} {lent : List (Source I)}
     → shown ≡ kinds → kinds ≡ map (λ (s : Source I). s.kind) lent → lent ≡ sources
     → ((logins others : List Entry) (procs rest : List ProcEntry) → SameOfEachHost logins others procs rest → (clock : ClockRows) (q : Question) → answer_of clock q logins procs ≡ answer_of clock q others rest)
     → Tell to_come sources inputs → AreRead inputs b
-    → report_text clock job shown b.logins b.procs ≡ output_told clock job inputs
-output_is {I} to_come clock job sources inputs b {shown = shown} e f h order tell read =
-    let same = order b.logins (login_entries (map records_told inputs)) b.procs (proc_entries (map records_told inputs)) read.same clock in
-    (λ j. form_text job.form job.report (local clock job.offset) job.until (map (λ q. same q j) (questions_of job.report job.offset shown job.until)))
-    ∙ ap (λ ks. report_text clock job ks (login_entries (map records_told inputs)) (proc_entries (map records_told inputs)))
+    → apart_text clock apart job shown b.logins b.procs ≡ output_told clock apart job inputs
+output_is {I} to_come clock apart job sources inputs b {shown = shown} e f h order tell read =
+    let logins : List Entry = login_entries (map records_told inputs) in
+    let procs : List ProcEntry = proc_entries (map records_told inputs) in
+    let same = order b.logins logins b.procs procs read.same clock in
+    let asked : List Question = questions_of job.report job.offset shown job.until in
+    let alone : (file : ℕ) → entries_of_host file b.logins ≡ entries_of_host file logins = λ file. host_entries file b.logins ∙ ap (posted_by file) (read.same.same_logins file) ∙ sym (host_entries file logins) in
+    let text : apart_text clock apart job shown b.logins b.procs ≡ apart_text clock apart job shown logins procs = λ j.
+    let given : List Answer = map (λ q. same q j) asked in
+    let all : List ℕ = form_text job.form job.report (local clock job.offset) job.until given in
+    if is_by_file apart job.report then files_text job.form apart.paths (file_table job.report None)
+    (flat_map (λ file. file_text clock job None apart file (answers_of clock job shown (alone file j) [])) (range_with_len 0 (length shown))) all
+    else if has_paths apart job then path_csv_of (table_of job.report) (local clock job.offset) apart.files given
+    else all in
+    text
+    ∙ ap (λ ks. apart_text clock apart job ks logins procs)
     (e ∙ f ∙ ap (map (λ (s : Source I). s.kind)) h ∙ kinds_told to_come sources inputs tell)
 
 no_front : (front rest : List ℕ) → [] ≡ front ++ rest → front ≡ []
@@ -117,11 +142,11 @@ unwritten now (Asker caller fault) = λ told. refl
 unwritten now Write = tt
 
 -- a run that failed before it wrote
-pub failed_unwritten : {I : Type 0} {to_come : I → Option (List ℕ)} {can_fail : I → Bool} {clock : ClockRows} {job : Job} {sources : List (Source I)} {now : OutputNow} {fault : RunFault}
+pub failed_unwritten : {I : Type 0} {to_come : I → Option (List ℕ)} {can_fail : I → Bool} {clock : ClockRows} {apart : Apart} {job : Job} {sources : List (Source I)} {now : OutputNow} {fault : RunFault}
     → IsAllowed (length sources + job.askers) fault → IsNamed (length sources) (length sources + job.askers) fault → IsFullList sources fault
     → ((host : ℕ) → fault ≡ File host feed.Read → (s : Source I) → can_fail (slice_index_or sources host s).input ≡ true)
-    → ((inputs : List Told) → Tell to_come sources inputs → IsReadCause inputs fault) → IsFailedRun to_come can_fail clock job sources now now fault
-failed_unwritten {clock = clock} {job = job} {now = now} {fault = fault} allowed named full read cause = record {
+    → ((inputs : List Told) → Tell to_come sources inputs → IsReadCause inputs fault) → IsFailedRun to_come can_fail clock apart job sources now now fault
+failed_unwritten {clock = clock} {apart = apart} {job = job} {now = now} {fault = fault} allowed named full read cause = record {
   allowed = allowed;
   named = named;
   full = full;
@@ -129,14 +154,14 @@ failed_unwritten {clock = clock} {job = job} {now = now} {fault = fault} allowed
   unwritten = unwritten now fault;
   told = λ inputs tell. record {
     cause = read_cause inputs now fault (cause inputs tell);
-    prefix = λ told. record { front = []; rest = output_told clock job inputs; appended = sym (append-nil now.written); whole = refl };
+    prefix = λ told. record { front = []; rest = output_told clock apart job inputs; appended = sym (append-nil now.written); whole = refl };
   };
 }
 
 -- a run that failed in printing, of files that are good
-pub failed_printing : {I : Type 0} {to_come : I → Option (List ℕ)} {can_fail : I → Bool} {clock : ClockRows} {job : Job} {sources : List (Source I)} {old new : OutputNow} (fault : RunFault)
-    → IsPrintFault fault → ((inputs : List Told) → Tell to_come sources inputs → All IsGood inputs × (IsTrue old.tells → AppendsPrefix old.written new.written (output_told clock job inputs)))
-    → IsFailedRun to_come can_fail clock job sources old new fault
+pub failed_printing : {I : Type 0} {to_come : I → Option (List ℕ)} {can_fail : I → Bool} {clock : ClockRows} {apart : Apart} {job : Job} {sources : List (Source I)} {old new : OutputNow} (fault : RunFault)
+    → IsPrintFault fault → ((inputs : List Told) → Tell to_come sources inputs → All IsGood inputs × (IsTrue old.tells → AppendsPrefix old.written new.written (output_told clock apart job inputs)))
+    → IsFailedRun to_come can_fail clock apart job sources old new fault
 failed_printing Memory printing told = record {
   allowed = tt;
   named = tt;

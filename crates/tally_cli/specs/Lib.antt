@@ -1,3 +1,4 @@
+pub mod Apart
 pub mod Output
 pub mod Runs
 pub mod UsageOutput

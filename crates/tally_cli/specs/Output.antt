@@ -1,4 +1,4 @@
--- The output of a job, as a function of the job and the files alone.
+-- The text of a report, as a function of the job and the entries alone.
 use Rattle.std.specs.Prelude.{◌++◌, ◌∷◌, [], ℕ, ℤ, Bool, List, Option, Some, None, false, true, if◌then◌else◌, length, map, filter}
 use Rattle.std.specs.List.{enumerate_from, flat_map, range_with_len}
 use Rattle.tally_clock.specs.Rows.{ClockRows}
@@ -92,7 +92,3 @@ answers_of clock job kinds logins procs =
 abbrev pub report_text : ClockRows → Job → List Kind → List Entry → List ProcEntry → List ℕ
 report_text clock job kinds logins procs =
     form_text job.form job.report (local clock job.offset) job.until (answers_of clock job kinds logins procs)
-
--- the output of a job over files, each a kind and its records
-abbrev pub output : ClockRows → Job → List Kind → List Records → List ℕ
-output clock job kinds files = report_text clock job kinds (login_entries files) (proc_entries files)

@@ -12,7 +12,7 @@ use Rattle.tally_records.specs.Records.{Records, logins_in, procs_in}
 use Rattle.tally_records.specs.declared.batch.TheConstants.{BATCH_LIMIT}
 use Rattle.tally_records.specs.declared.batch.Kind.{Kind}
 use Rattle.tally_records.specs.declared.batch.Kind.TheVariants.{Login, Proc}
-use Rattle.tally_cli.specs.Output.{output}
+use Rattle.tally_cli.specs.Apart.{Apart, output_apart}
 use Rattle.tally_cli.specs.declared.fault.RunFault.{RunFault}
 use Rattle.tally_cli.specs.declared.fault.RunFault.TheVariants.{Memory, Callers, File, Asker, Write}
 use Rattle.tally_line.specs.declared.job.Job.{Job}
@@ -54,9 +54,9 @@ IsGood input = fault_of input ≡ None
 abbrev pub records_told : Told → Records
 records_told input = records_in input.kind input.bytes
 
--- the output of a job over what its sources tell, in the time of a clock
-abbrev pub output_told : ClockRows → Job → List Told → List ℕ
-output_told clock job inputs = output clock job (map (λ i. i.kind) inputs) (map records_told inputs)
+-- the output of a job over what its sources tell, in the time of a clock, told apart as they are to be
+abbrev pub output_told : ClockRows → Apart → Job → List Told → List ℕ
+output_told clock apart job inputs = output_apart clock apart job (map (λ i. i.kind) inputs) (map records_told inputs)
 
 -- how many login records the good blocks of the inputs hold
 abbrev pub good_logins : List Told → ℕ
@@ -144,26 +144,26 @@ failed_writes (Err Write) = 1
 failed_writes (Err fault) = 0
 
 -- a whole run over sources that tell their bytes
-pub record IsReported (clock : ClockRows) (job : Job) (old new : OutputNow) (inputs : List Told) : Type 0 where
+pub record IsReported (clock : ClockRows) (apart : Apart) (job : Job) (old new : OutputNow) (inputs : List Told) : Type 0 where
   pub good : All IsGood inputs
-  pub written : IsTrue old.tells → new.written ≡ old.written ++ output_told clock job inputs
+  pub written : IsTrue old.tells → new.written ≡ old.written ++ output_told clock apart job inputs
 
 -- what is so of a run that answers `Ok`, by the output before and after it
-pub record IsWholeRun {I : Type 0} (to_come : I → Option (List ℕ)) (clock : ClockRows) (job : Job) (sources : List (Source I)) (old new : OutputNow) : Type 0 where
+pub record IsWholeRun {I : Type 0} (to_come : I → Option (List ℕ)) (clock : ClockRows) (apart : Apart) (job : Job) (sources : List (Source I)) (old new : OutputNow) : Type 0 where
   pub some : 0 < length sources + job.askers
   pub few : length sources + job.askers ≤ sessions.HOST_LIMIT
-  pub told : (inputs : List Told) → Tell to_come sources inputs → IsReported clock job old new inputs
+  pub told : (inputs : List Told) → Tell to_come sources inputs → IsReported clock apart job old new inputs
 
 -- a failed run over sources that tell their bytes
-pub record IsCutShort (clock : ClockRows) (job : Job) (old new : OutputNow) (fault : RunFault) (inputs : List Told) : Type 0 where
+pub record IsCutShort (clock : ClockRows) (apart : Apart) (job : Job) (old new : OutputNow) (fault : RunFault) (inputs : List Told) : Type 0 where
   pub cause : IsCause inputs old new fault
-  pub prefix : IsTrue old.tells → AppendsPrefix old.written new.written (output_told clock job inputs)
+  pub prefix : IsTrue old.tells → AppendsPrefix old.written new.written (output_told clock apart job inputs)
 
 -- what is so of a run that answers a fault: a read failed only where the input can fail
-pub record IsFailedRun {I : Type 0} (to_come : I → Option (List ℕ)) (can_fail : I → Bool) (clock : ClockRows) (job : Job) (sources : List (Source I)) (old new : OutputNow) (fault : RunFault) : Type 0 where
+pub record IsFailedRun {I : Type 0} (to_come : I → Option (List ℕ)) (can_fail : I → Bool) (clock : ClockRows) (apart : Apart) (job : Job) (sources : List (Source I)) (old new : OutputNow) (fault : RunFault) : Type 0 where
   pub allowed : IsAllowed (length sources + job.askers) fault
   pub named : IsNamed (length sources) (length sources + job.askers) fault
   pub full : IsFullList sources fault
   pub read : (host : ℕ) → fault ≡ File host feed.Read → (s : Source _) → can_fail (slice_index_or sources host s).input ≡ true
   pub unwritten : IsUnwrittenBefore old new fault
-  pub told : (inputs : List Told) → Tell to_come sources inputs → IsCutShort clock job old new fault inputs
+  pub told : (inputs : List Told) → Tell to_come sources inputs → IsCutShort clock apart job old new fault inputs

@@ -4,5 +4,6 @@ pub mod Counts
 pub mod Deals
 pub mod Failures
 pub mod Parts
+pub mod Paths
 pub mod RunSteps
 pub mod Tasks

@@ -5,16 +5,20 @@ ghost use Rattle.tally_book.specs.Books.{IsLegal};
 ghost use Rattle.tally_desk.specs.Passes.{HasDone, Stands, first_passes};
 ghost use Rattle.tally_desk.specs.declared.fault.FeedFault.TheVariants as feed_fault_of;
 ghost use Rattle.tally_print.specs.Output.{IsWritable};
+ghost use Rattle.tally_cli.specs.Apart.{apart_of};
 ghost use Rattle.tally_cli.specs.Runs.{IsReadable, IsAllowed, IsFailedRun, IsFullList, IsNamed, IsWholeRun, IsWrongNumber, Tell, Told, callers_fault, failed_writes};
 ghost use Rattle.tally_line.specs.Jobs.{IsRunnable};
 ghost use Rattle.tally_cli.specs.inside.RunSteps.{AreRead, AreWorkedThrough, IsReadCause, IsUnprinted, run_fault};
 
+pub(crate) mod apart;
+mod by_file;
 pub(crate) mod counting;
 mod deal;
 mod forms;
 mod gather;
 mod naming;
 mod parts;
+mod path_tables;
 mod reporting;
 mod sections;
 pub(crate) mod source;
@@ -24,6 +28,7 @@ pub(crate) mod wanted;
 mod work;
 
 use crate::fault::RunFault;
+use crate::running::apart::FilesApart;
 use crate::running::deal::{busy_feeders, deal_out};
 use crate::running::gather::{Cause, Failure, take_all};
 use crate::running::reporting::{finish, report};
@@ -180,14 +185,17 @@ fn feed_all<R: Threads + Wait + Sync, I: Input + Send, G: Gate + Sync>(
 }
 
 /// Reads each file as one caller of a desk, several at once, and then prints the job's report on
-/// all of them, in the time of a clock, with the job's offset on top. Nothing is written before every file is found to be good. A fault is that of the
-/// first file at fault, else that of the first asker.
+/// all of them, in the time of a clock, with the job's offset on top, and with the files told apart as they are to be. A report of
+/// connect time by file is in text that of each file alone and then that of all, and as a table the rows of each file alone. A table of
+/// stays or of failed logins has the paths of their files where these are asked for. Nothing is written before every file is found to be
+/// good. A fault is that of the first file at fault, else that of the first asker.
 pub fn run<R: Threads + Wait + Sync, I: Input + Send, G: Gate + Sync, O: Output>(
     rt: &R,
     alloc: Global,
     keys: RandomState,
     clock: &Clock,
     job: &Job,
+    apart: FilesApart<'_>,
     sources: Vec<Source<I>>,
     gate: &G,
     out: &mut O,
@@ -195,8 +203,8 @@ pub fn run<R: Threads + Wait + Sync, I: Input + Send, G: Gate + Sync, O: Output>
     requires runnable { IsRunnable job.now }
     requires readable { All (IsReadable I.failures) sources.items }
     requires writable { IsWritable (O.state out.old) }
-    ensures whole { OnOk result (IsWholeRun I.to_come clock.now job.now sources.items (O.state out.old) (O.state out.new)) }
-    ensures failed { IfErr result (IsFailedRun I.to_come I.can_fail clock.now job.now sources.items (O.state out.old) (O.state out.new)) }
+    ensures whole { OnOk result (IsWholeRun I.to_come clock.now (apart_of apart.entry) job.now sources.items (O.state out.old) (O.state out.new)) }
+    ensures failed { IfErr result (IsFailedRun I.to_come I.can_fail clock.now (apart_of apart.entry) job.now sources.items (O.state out.old) (O.state out.new)) }
     ensures callers { IsWrongNumber (length sources.items + job.now.askers)
         → result ≡ Err (callers_fault (length sources.items + job.now.askers)) }
     ensures counts { (O.state out.new).failures ≡ (O.state out.old).failures + failed_writes result }
@@ -206,6 +214,6 @@ pub fn run<R: Threads + Wait + Sync, I: Input + Send, G: Gate + Sync, O: Output>
     let kinds = kinds_of(alloc, sources.as_slice())?;
     let book = feed_all(rt, alloc, keys, clock, job, callers, sources, gate)?;
     host_order_is_enough();
-    report(rt, alloc, clock, job, kinds.as_slice(), book, out)?;
+    report(rt, alloc, clock, job, apart, kinds.as_slice(), book, out)?;
     finish(out)
 }

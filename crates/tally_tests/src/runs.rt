@@ -9,7 +9,7 @@ use std::hash::RandomState;
 use std::sync::Wait;
 use std::thread::Threads;
 use tally_book::AskFault;
-use tally_cli::{Form, Job, Report, RunFault, Source, run};
+use tally_cli::{FilesApart, Form, Job, Report, RunFault, Source, run};
 use tally_clock::Clock;
 use tally_desk::{Bytes, FeedFault, OpenGate};
 use tally_records::Kind;
@@ -65,7 +65,8 @@ fn run_once<R: Threads + Wait + Sync>(
 {
     let files = files(alloc)?;
     let clock = Clock::utc(alloc);
-    let outcome = run(rt, alloc, keys, &clock, &JOB, files, &OpenGate, out);
+    let apart = FilesApart::together();
+    let outcome = run(rt, alloc, keys, &clock, &JOB, apart, files, &OpenGate, out);
     drop(clock);
     outcome
 }

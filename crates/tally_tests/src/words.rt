@@ -59,6 +59,7 @@ fn print_read<R: Print + AllocGlobal>(
                 job,
                 times: _,
                 usage: _,
+                apart: _,
                 zone: _,
                 files,
             },

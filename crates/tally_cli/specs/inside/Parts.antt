@@ -1,20 +1,23 @@
 -- The parts of a report by file.
-use Rattle.std.specs.Prelude.{◌≡◌, ◌+◌, ◌++◌, ◌<◌, ◌∷◌, [], ℕ, ℤ, List, Option, Some, None, ⊤, length, map, option_map, slice_index_or}
+use Rattle.std.specs.Prelude.{◌≡◌, ◌++◌, ◌<◌, ◌∷◌, [], ℕ, ℤ, Bool, List, Option, Some, None, ⊤, length, map, if◌then◌else◌, option_map, slice_index_or}
 use Rattle.std.specs.Borrow.{Bor}
 use Rattle.tally_book.specs.Answers.{HasDays, answer_of}
 use Rattle.tally_book.specs.declared.question.Answer.{Answer}
+use Rattle.tally_book.specs.declared.question.Question.TheVariants as questions
 use Rattle.tally_clock.specs.Rows.{ClockRows}
 use Rattle.tally_line.specs.declared.job.Job.{Job}
 use Rattle.tally_line.specs.declared.job.Report.{Report}
 use Rattle.tally_records.specs.declared.batch.Kind.{Kind}
+use Rattle.tally_records.specs.declared.choice.LoginChoice.{LoginChoice}
 use Rattle.tally_records.specs.declared.process.ProcRecord.{ProcRecord}
+use Rattle.tally_sessions.specs.Hosts.{entries_of_host}
 use Rattle.tally_sessions.specs.declared.entry.Entry.{Entry}
 use Rattle.tally_usage.specs.Totals.{records_of}
 use Rattle.tally_usage.specs.declared.choice.ProcChoice.{ProcChoice}
 use Rattle.tally_usage.specs.declared.entry.ProcEntry.{ProcEntry}
 use Rattle.tally_cli.specs.Output.{questions_of}
 use Rattle.tally_cli.specs.Runs.{Told}
-use Rattle.tally_cli.specs.UsageOutput.{Names, file_text}
+use Rattle.tally_cli.specs.Apart.{Apart, Names, file_text}
 use Rattle.tally_cli.specs.Usages.{procs_told}
 use Rattle.tally_cli.specs.declared.running.counting.Count.{Count}
 use Rattle.tally_cli.specs.declared.running.counting.Count.TheVariants as count
@@ -28,7 +31,7 @@ report_lent lent = option_map (λ r. r.now) lent
 
 -- the report that each file has by itself, where that is wanted
 abbrev pub report_by_file : UsageWanted → Report → Option Report
-report_by_file wanted r = option_map (λ files. r) wanted.by_file
+report_by_file wanted r = if wanted.apart.asked.by_file then Some r else None
 
 -- a part is that of one of 128 files, and the days of its answer are within their bounds
 pub record HasPart (part : FilePart) : Type 0 where
@@ -72,5 +75,10 @@ AreAnsweredWanted choice (Some r) inputs parts = AreAnswered choice r inputs par
 AreAnsweredWanted choice None inputs parts = ⊤
 
 -- the text of a part
-abbrev pub part_text : ClockRows → Job → Names → List (List ℕ) → FilePart → List ℕ
-part_text clock job names paths part = file_text clock job names paths part.file (part.answer ∷ [])
+abbrev pub part_text : ClockRows → Job → Names → Apart → FilePart → List ℕ
+part_text clock job names apart part = file_text clock job names apart part.file (part.answer ∷ [])
+
+-- the part of a file of login entries: its number, and the connect time of its entries alone
+abbrev pub part_alone : ClockRows → Bool → Bool → LoginChoice → Job → List Entry → ℕ → FilePart
+part_alone clock by_day by_user choice job logins file =
+    record { file = file; answer = answer_of clock (questions.Connect by_day by_user job.offset choice job.until) (entries_of_host file logins) [] }

@@ -22,7 +22,7 @@ use tally_records::LoginChoice;
 use tally_sessions::{Entries, HOST_LIMIT, Sessions};
 
 /// The table that a report is as CSV, with the seconds in the period where they are asked for.
-fn table_of(report: &Report) -> Option<Table>
+pub(crate) fn table_of(report: &Report) -> Option<Table>
     ensures { result ≡ table_of report.now }
 {
     match report {

@@ -1,7 +1,7 @@
 //! Answers on processes, printed with the names of users where they are given.
 ghost use Rattle.std.specs.Prelude.{◌≡◌, ◌∷◌, []};
 ghost use Rattle.tally_book.specs.Answers.{HasDays};
-ghost use Rattle.tally_cli.specs.UsageOutput.{named_text, names_given, usage_text};
+ghost use Rattle.tally_cli.specs.Apart.{answers_text, named_text, names_given};
 ghost use Rattle.tally_print.specs.Output.{IsWritable, Prints, failed_calls};
 ghost use Rattle.tally_sessions.specs.Days.{IsOffset};
 ghost use Rattle.tally_usage.specs.Names.{names_of};
@@ -47,7 +47,7 @@ pub(crate) fn print_usage<O: Output>(
     requires offset { IsOffset job.now.offset }
     requires days { HasDays answer.now }
     ensures writes { Prints (O.state out.old) (O.state out.new) result (failed_calls result)
-        (usage_text clock.now job.now (names_given names.entry) (answer.now ∷ [])) }
+        (answers_text clock.now job.now (names_given names.entry) (answer.now ∷ [])) }
 {
     match (names, answer) {
         (Some(names), Answer::Users { rows, total }) => {

@@ -2,6 +2,7 @@
 ghost use Rattle.std.specs.Prelude.{◌≡◌, ◌<◌, ◌≤◌, [], IfErr, IfOk, OnOk, length, map};
 ghost use Rattle.std.specs.List.{All};
 ghost use Rattle.tally_book.specs.Answers.{HasDays, answer_of};
+ghost use Rattle.tally_cli.specs.Apart.{apart_of, apart_text};
 ghost use Rattle.tally_cli.specs.Output.{form_text, questions_of, report_text};
 ghost use Rattle.tally_cli.specs.Runs.{failed_writes};
 ghost use Rattle.tally_cli.specs.inside.RunSteps.{IsPrintFault};
@@ -12,7 +13,10 @@ ghost use Rattle.tally_sessions.specs.Days.{IsOffset, local};
 ghost use Rattle.tally_print.specs.Section.{NamesHostBelow, answer_in};
 
 use crate::fault::RunFault;
+use crate::running::apart::FilesApart;
+use crate::running::by_file::print_files_of;
 use crate::running::forms::{print_answers, print_attempts, print_report};
+use crate::running::path_tables::{print_attempt_paths, print_paths_of};
 use crate::running::sections::{answers_to, questions_of, sections_for};
 use std::alloc::Global;
 use std::thread::Threads;
@@ -52,7 +56,7 @@ fn has_stays(report: &Report, kinds: &[Kind]) -> bool {
 }
 
 /// The answers that the job's report prints, of a book of which each file is a host.
-fn answers_in<R: Threads + Sync>(
+pub(crate) fn answers_in<R: Threads + Sync>(
     rt: &R,
     alloc: Global,
     job: &Job,
@@ -119,7 +123,7 @@ fn sections_in<R: Threads + Sync>(
 }
 
 /// The same, and the sessions that they are of. The rest of the book is let go.
-fn sections_of<R: Threads + Sync>(
+pub(crate) fn sections_of<R: Threads + Sync>(
     rt: &R,
     alloc: Global,
     job: &Job,
@@ -165,6 +169,7 @@ fn print_attempts_of<O: Output>(
     alloc: Global,
     clock: &Clock,
     job: &Job,
+    apart: FilesApart<'_>,
     kinds: &[Kind],
     limit: Option<u32>,
     choice: &LoginChoice,
@@ -177,9 +182,22 @@ fn print_attempts_of<O: Output>(
     requires clock { book.clock ≡ clock.now }
     requires writable { IsWritable (O.state out.old) }
     ensures writes { Prints (O.state out.old) (O.state out.new) result (failed_calls result)
-        (report_text clock.now job.now kinds.now book.logins book.procs) }
+        (apart_text clock.now (apart_of apart.entry) job.now kinds.now book.logins book.procs) }
 {
     let hosts = kinds.len() as u32;
+    if apart.has_paths(job) {
+        return print_attempt_paths(
+            alloc,
+            clock,
+            job,
+            apart,
+            book.logins(),
+            hosts,
+            limit,
+            choice,
+            out,
+        );
+    }
     print_attempts(alloc, clock, job, book.logins(), hosts, limit, choice, out)
 }
 
@@ -215,13 +233,14 @@ fn print_answers_of<R: Threads + Sync, O: Output>(
     Ok(())
 }
 
-/// Prints the job's report of the book, of which each file is a host, in the time of the book's clock. Failed logins are printed from
-/// the book, with no answer that lists them.
+/// Prints the job's report of the book, of which each file is a host, in the time of the book's clock, with the files told apart as they
+/// are to be. Failed logins are printed from the book, with no answer that lists them.
 pub(crate) fn report<R: Threads + Sync, O: Output>(
     rt: &R,
     alloc: Global,
     clock: &Clock,
     job: &Job,
+    apart: FilesApart<'_>,
     kinds: &[Kind],
     book: Book,
     out: &mut O,
@@ -234,15 +253,18 @@ pub(crate) fn report<R: Threads + Sync, O: Output>(
     requires clock { book.clock ≡ clock.now }
     requires writable { IsWritable (O.state out.old) }
     ensures writes { Prints (O.state out.old) (O.state out.new) result (failed_writes result)
-        (report_text clock.now job.now kinds.now book.logins book.procs) }
+        (apart_text clock.now (apart_of apart.entry) job.now kinds.now book.logins book.procs) }
     ensures cause { IfErr result IsPrintFault }
 {
-    match &job.report {
-        Report::Attempts { limit, choice } => {
-            print_attempts_of(alloc, clock, job, kinds, *limit, choice, book, out)?;
-            Ok(())
-        }
-        _ => print_answers_of(rt, alloc, clock, job, kinds, book, out),
+    if apart.is_by_file(&job.report) {
+        print_files_of(rt, alloc, clock, job, apart, kinds, book, out)
+    } else if let Report::Attempts { limit, choice } = &job.report {
+        print_attempts_of(alloc, clock, job, apart, kinds, *limit, choice, book, out)?;
+        Ok(())
+    } else if apart.has_paths(job) {
+        print_paths_of(rt, alloc, clock, job, apart, kinds, book, out)
+    } else {
+        print_answers_of(rt, alloc, clock, job, kinds, book, out)
     }
 }
 

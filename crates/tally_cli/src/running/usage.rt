@@ -4,7 +4,8 @@ ghost use Rattle.std.specs.List.{All};
 ghost use Rattle.tally_book.specs.Answers.{HasDays};
 ghost use Rattle.tally_cli.specs.Output.{answers_of};
 ghost use Rattle.tally_cli.specs.Runs.{IsReadable, IsWrongNumber, Told};
-ghost use Rattle.tally_cli.specs.UsageOutput.{by_file_output, names_given, paths_of, usage_printed, usage_text, wanted_of};
+ghost use Rattle.tally_cli.specs.Apart.{answers_text, names_given};
+ghost use Rattle.tally_cli.specs.UsageOutput.{by_file_output, usage_printed, wanted_of};
 ghost use Rattle.tally_cli.specs.Usages.{IsFailedUsage, IsOfProcs, IsUsage, IsWholeUsage, callers_refused, unwritten_calls};
 ghost use Rattle.tally_cli.specs.inside.Counts.{AreSummed, IsAnswerOn, IsPrinting};
 ghost use Rattle.tally_cli.specs.inside.Parts.{AreAnswered, AreAnsweredWanted, HasPart, report_by_file};
@@ -29,7 +30,7 @@ use std::thread::Threads;
 use tally_book::Answer;
 use tally_clock::Clock;
 use tally_desk::Input;
-use tally_line::{FileArg, Form, Job, Report};
+use tally_line::{Form, Job, Report};
 use tally_print::{Output, print_file_header};
 use tally_records::{Kind, Memory};
 use tally_sessions::HOST_LIMIT;
@@ -86,7 +87,7 @@ fn report_sums<O: Output>(
     requires offset { IsOffset job.now.offset }
     requires writable { IsWritable (O.state out.old) }
     ensures writes { (kinds : List Kind) (logins : List Entry) (procs : List ProcEntry) → AreSumsOf sums.now (records_of procs)
-        → Prints (O.state out.old) (O.state out.new) result (unwritten_calls result) (usage_text clock.now job.now (names_given names.entry) (answers_of clock.now job.now kinds logins procs)) }
+        → Prints (O.state out.old) (O.state out.new) result (unwritten_calls result) (answers_text clock.now job.now (names_given names.entry) (answers_of clock.now job.now kinds logins procs)) }
     ensures counts { (O.state out.new).failures ≡ (O.state out.old).failures + unwritten_calls result }
     ensures tells { (O.state out.new).tells ≡ (O.state out.old).tells }
     ensures cause { IfErr result IsPrinting }
@@ -102,7 +103,6 @@ fn report_files<O: Output>(
     clock: &Clock,
     job: &Job,
     wanted: UsageWanted<'_>,
-    files: &[FileArg],
     joined: &Joined,
     out: &mut O,
 ) -> Result<(), UsageFault>
@@ -111,7 +111,7 @@ fn report_files<O: Output>(
     requires parts { All HasPart joined.now.parts.items }
     requires writable { IsWritable (O.state out.old) }
     ensures writes { (inputs : List Told) → AreSummed wanted.entry.choice inputs joined.now.total → AreAnswered wanted.entry.choice job.now.report inputs joined.now.parts.items
-        → Prints (O.state out.old) (O.state out.new) result (unwritten_calls result) (by_file_output clock.now job.now (wanted_of wanted.entry) (paths_of files.now) inputs) }
+        → Prints (O.state out.old) (O.state out.new) result (unwritten_calls result) (by_file_output clock.now job.now (wanted_of wanted.entry) inputs) }
     ensures counts { (O.state out.new).failures ≡ (O.state out.old).failures + unwritten_calls result }
     ensures tells { (O.state out.new).tells ≡ (O.state out.old).tells }
     ensures cause { IfErr result IsPrinting }
@@ -120,12 +120,13 @@ fn report_files<O: Output>(
     let parts = joined.parts.as_slice();
     match job.form {
         Form::Text => {
-            print_parts(alloc, clock, job, names, files, parts, out)?;
+            print_parts(alloc, clock, job, names, wanted.apart, parts, out)?;
             report_sums(alloc, clock, job, names, &joined.total, out)
         }
         Form::Csv => {
-            print_file_header(file_table(&job.report, names), out)?;
-            print_parts(alloc, clock, job, names, files, parts, out)?;
+            let table = file_table(&job.report, names);
+            print_file_header(table, wanted.apart.asked.paths, out)?;
+            print_parts(alloc, clock, job, names, wanted.apart, parts, out)?;
             Ok(())
         }
     }
@@ -151,9 +152,10 @@ fn report_joined<O: Output>(
     ensures tells { (O.state out.new).tells ≡ (O.state out.old).tells }
     ensures cause { IfErr result IsPrinting }
 {
-    match wanted.by_file {
-        Some(files) => report_files(alloc, clock, job, wanted, files, joined, out),
-        None => report_sums(alloc, clock, job, wanted.names, &joined.total, out),
+    if wanted.apart.asked.by_file {
+        report_files(alloc, clock, job, wanted, joined, out)
+    } else {
+        report_sums(alloc, clock, job, wanted.names, &joined.total, out)
     }
 }
 

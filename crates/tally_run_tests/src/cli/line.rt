@@ -4,6 +4,7 @@ mod answers;
 mod attempts;
 mod files;
 mod moments;
+mod paths;
 mod zones;
 
 use crate::cli::line::answers::{Wanted, expect_all, expect_each};

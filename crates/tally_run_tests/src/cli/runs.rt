@@ -11,7 +11,7 @@ use std::process::Abort;
 use std::random::RandomSource;
 use std::sync::Wait;
 use std::thread::Threads;
-use tally_cli::{Form, Job, Report, RunFault, Source, run};
+use tally_cli::{FilesApart, Form, Job, Report, RunFault, Source, run};
 use tally_clock::Clock;
 use tally_desk::{Bytes, FeedFault, Gate, Input, OpenGate};
 use tally_print::{Kept, Output};
@@ -111,7 +111,8 @@ pub(crate) fn run_over<
 {
     let keys = made(rt, RandomState::new(rt));
     let clock = Clock::utc(rt.alloc());
-    run(rt, rt.alloc(), keys, &clock, job, sources, gate, out)
+    let apart = FilesApart::together();
+    run(rt, rt.alloc(), keys, &clock, job, apart, sources, gate, out)
 }
 
 /// The end of a run whose file with this number has one byte of its second record.

@@ -3,6 +3,7 @@
 use crate::cli::expect::{expect_that, made};
 use std::process::Abort;
 use tally_cli::{FileArg, Form, Job, Line, LineFault, Report, job_of};
+use tally_line::FilesAsked;
 use tally_moments::Moment;
 use tally_records::{Kind, LoginChoice};
 use tally_usage::Order;
@@ -28,12 +29,16 @@ pub(crate) enum Wanted<'a> {
     All(u32, u32, i32),
     /// Any report as a table.
     Csv,
+    /// Any report that tells its files apart so.
+    Apart(FilesAsked),
     /// Any report in the zone of this word.
     Zone(Option<&'a str>),
     /// Any report on these files, and no other.
     Files(&'a [(Kind, &'a str)]),
     Help,
     Usage,
+    /// A refusal with this text.
+    Refused(&'a str),
     /// The first file without a prefix.
     Prefix(usize),
 }
@@ -131,12 +136,26 @@ fn is_until(until: Option<Moment>, wanted: Wanted<'_>) -> bool {
     }
 }
 
-fn is_run(job: &Job, zone: &Option<String>, files: &[FileArg], wanted: Wanted<'_>) -> bool {
+fn is_run(
+    job: &Job,
+    apart: FilesAsked,
+    zone: &Option<String>,
+    files: &[FileArg],
+    wanted: Wanted<'_>,
+) -> bool {
     match wanted {
         Wanted::Csv => job.form == Form::Csv,
+        Wanted::Apart(asked) => apart == asked,
         Wanted::Zone(word) => is_zone(zone, word),
         Wanted::Files(wanted) => are_files(files, wanted),
         _ => matches!(job_wanted(wanted), Some(wanted) if wanted == *job),
+    }
+}
+
+fn is_refusal(text: &str, wanted: Wanted<'_>) -> bool {
+    match wanted {
+        Wanted::Refused(said) => text == said,
+        _ => matches!(wanted, Wanted::Usage),
     }
 }
 
@@ -147,12 +166,13 @@ fn is_wanted(answer: &Result<Line, LineFault>, wanted: Wanted<'_>) -> bool {
                 job,
                 times,
                 usage: _,
+                apart,
                 zone,
                 files,
             },
-        ) => is_until(times.until, wanted) && is_run(job, zone, files.as_slice(), wanted),
+        ) => is_until(times.until, wanted) && is_run(job, *apart, zone, files.as_slice(), wanted),
         Ok(Line::Help { .. }) => matches!(wanted, Wanted::Help),
-        Err(LineFault::Usage { .. }) => matches!(wanted, Wanted::Usage),
+        Err(LineFault::Usage { text }) => is_refusal(text.as_str(), wanted),
         Err(LineFault::Prefix { index }) => matches!(wanted, Wanted::Prefix(at) if at == *index),
         Err(LineFault::Memory) => false,
     }

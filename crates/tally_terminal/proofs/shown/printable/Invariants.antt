@@ -1,6 +1,6 @@
 use Rattle.std.specs.Prelude.{◌≡◌, map, string_bytes, take}
 use Rattle.tally_print.specs.Text.{shown_byte}
-use Rattle.tally.proofs.shown.printable.Given as goal
+use Rattle.tally_terminal.proofs.shown.printable.Given as goal
 
 abbrev pub invariant-loop-word : goal.invariant-loop-word
 invariant-loop-word l =

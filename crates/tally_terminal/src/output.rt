@@ -8,14 +8,14 @@ use std::rt::Clock;
 /// Standard output, and whether whoever read it has gone, as `head` does when it has enough. What was shown of the run's
 /// progress is erased before anything is written.
 #[derive(Drop)]
-pub(crate) struct Watched<'a, R, W: Write + Drop> {
+pub struct Watched<'a, R, W: Write + Drop> {
     writer: W,
     progress: Option<Progress<'a, R>>,
     is_reader_gone: bool,
 }
 
 impl<'a, R: Clock + Eprint, W: Write + Drop> Watched<'a, R, W> {
-    pub(crate) fn new(writer: W, progress: Progress<'a, R>) -> Watched<'a, R, W>
+    pub fn new(writer: W, progress: Progress<'a, R>) -> Watched<'a, R, W>
         ensures { result.is_reader_gone ≡ false }
     {
         Watched {
@@ -26,7 +26,7 @@ impl<'a, R: Clock + Eprint, W: Write + Drop> Watched<'a, R, W> {
     }
 
     /// Erases what was shown of the progress, where nothing was written since.
-    pub(crate) fn erase(&self) {
+    pub fn erase(&self) {
         if let Some(progress) = &self.progress {
             progress.erase();
         }
@@ -41,7 +41,7 @@ impl<'a, R: Clock + Eprint, W: Write + Drop> Watched<'a, R, W> {
     }
 
     /// Whether a write failed since nobody reads any more.
-    pub(crate) fn is_reader_gone(&self) -> bool
+    pub fn is_reader_gone(&self) -> bool
         ensures { result ≡ self.now.is_reader_gone }
     {
         self.is_reader_gone

@@ -1,7 +1,7 @@
 use Rattle.std.specs.Prelude.{map, take}
 use Rattle.std.specs.Fmt.{HasWritten, IsPlainFormatter}
 use Rattle.tally_print.specs.Text.{shown_byte}
-use Rattle.tally.proofs.shown.ShownDisplay.fmt.Given as goal
+use Rattle.tally_terminal.proofs.shown.ShownDisplay.fmt.Given as goal
 
 abbrev pub invariant-loop-byte : goal.invariant-loop-byte
 invariant-loop-byte g l =

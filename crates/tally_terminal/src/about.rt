@@ -1,16 +1,16 @@
 //! What is said of a file after its fault line: what it looks like, and what to do with it.
 ghost use Rattle.std.specs.Prelude.{◌≡◌, is_some, not};
-ghost use Rattle.tally.specs.Hints.{is_silent};
+ghost use Rattle.tally_terminal.specs.About.{is_silent};
 
 use crate::shown::Shown;
 use std::fmt::{self, Display, Formatter};
-use tally_cli::Report;
 use tally_kinds::Looks;
+use tally_line::Report;
 use tally_records::Kind;
 
 /// What is said of a file.
 #[derive(Clone, Copy)]
-pub(crate) enum About {
+pub enum About {
     /// It is packed, and a command unpacks it.
     Packed {
         by: &'static str,
@@ -30,13 +30,13 @@ pub(crate) enum About {
 
 /// What is said of the file of a path.
 #[derive(Clone, Copy)]
-pub(crate) struct FileHint<'a> {
+pub struct FileHint<'a> {
     path: Shown<'a>,
     about: About,
 }
 
 impl<'a> FileHint<'a> {
-    pub(crate) fn new(path: Shown<'a>, about: About) -> FileHint<'a> {
+    pub fn new(path: Shown<'a>, about: About) -> FileHint<'a> {
         FileHint { path, about }
     }
 }
@@ -94,7 +94,7 @@ fn packed(report: &Report, kind: Kind, by: &'static str, unpack: &'static str) -
 }
 
 /// What is said of a file that a report was to read as one of a kind, by what it looks like.
-pub(crate) fn about_looks(report: &Report, kind: Kind, looks: Looks) -> Option<About>
+pub fn about_looks(report: &Report, kind: Kind, looks: Looks) -> Option<About>
     ensures { is_some result ≡ not (is_silent kind looks) }
 {
     let about = match looks {

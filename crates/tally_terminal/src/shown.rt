@@ -2,28 +2,28 @@
 ghost use Rattle.std.specs.Prelude.{◌≡◌, Some, IfOk, map, string_bytes};
 ghost use Rattle.std.specs.List.{list_all};
 ghost use Rattle.tally_print.specs.Text.{shown_byte};
-ghost use Rattle.tally.specs.Shown as Spec;
-ghost use Rattle.tally.specs.Shown.{shown_word};
+ghost use Rattle.tally_terminal.specs.Shown as Spec;
+ghost use Rattle.tally_terminal.specs.Shown.{shown_word};
 
 use std::alloc::{AllocError, Global};
 use std::fmt::{self, Display, Formatter};
 
 /// Where fault lines go.
 #[derive(Clone, Copy)]
-pub(crate) enum ErrorsTo {
+pub enum ErrorsTo {
     Terminal,
     Elsewhere,
 }
 
 /// A word in a fault line: as given, but for a terminal with `?` for each byte that does not print.
 #[derive(Clone, Copy)]
-pub(crate) struct Shown<'a> {
+pub struct Shown<'a> {
     word: &'a str,
     to: ErrorsTo,
 }
 
 impl<'a> Shown<'a> {
-    pub(crate) fn new(word: &'a str, to: ErrorsTo) -> Shown<'a>
+    pub fn new(word: &'a str, to: ErrorsTo) -> Shown<'a>
         ensures word { result.word.now ≡ word.now }
         ensures to { result.to ≡ to }
     {
@@ -31,7 +31,7 @@ impl<'a> Shown<'a> {
     }
 
     /// The path that the word is, for a command.
-    pub(crate) fn quoted(&self) -> Quoted<'a> {
+    pub fn quoted(&self) -> Quoted<'a> {
         Quoted { path: self.word }
     }
 }
@@ -65,7 +65,7 @@ impl Display for Shown<'_> {
 /// A path in a command that a terminal shows, as a shell reads it: in single quotes unless all of its bytes are plain, and with
 /// its folder where it begins with a dash.
 #[derive(Clone, Copy)]
-pub(crate) struct Quoted<'a> {
+pub struct Quoted<'a> {
     path: &'a str,
 }
 
@@ -111,7 +111,7 @@ impl Display for Quoted<'_> {
 }
 
 /// The words as a terminal shows them.
-pub(crate) fn printable(alloc: Global, words: &[String]) -> Result<Vec<String>, AllocError>
+pub fn printable(alloc: Global, words: &[String]) -> Result<Vec<String>, AllocError>
     ensures { IfOk result (λ shown. map string_bytes shown.items ≡ map (λ word. map shown_byte (string_bytes word)) words.now) }
 {
     let mut shown = Vec::new(alloc);

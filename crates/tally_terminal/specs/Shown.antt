@@ -1,8 +1,8 @@
 -- A word of the command line in a fault line, and a path in a command that a hint names.
 use Rattle.std.specs.Prelude.{ℕ, Bool, List, map, nat_le, ◌==◌, ◌&&◌, ◌||◌}
 use Rattle.tally_print.specs.Text.{shown_byte}
-use Rattle.tally.specs.declared.shown.ErrorsTo.{ErrorsTo}
-use Rattle.tally.specs.declared.shown.ErrorsTo.TheVariants.{Terminal, Elsewhere}
+use Rattle.tally_terminal.specs.declared.shown.ErrorsTo.{ErrorsTo}
+use Rattle.tally_terminal.specs.declared.shown.ErrorsTo.TheVariants.{Terminal, Elsewhere}
 
 -- as given, but for a terminal with `?` for each byte that does not print
 abbrev pub shown_word : ErrorsTo → List ℕ → List ℕ

@@ -1,7 +1,7 @@
 //! How far a run is, in a line on a terminal that is gone before the report is printed.
 ghost use Rattle.std.specs.Prelude.{◌≡◌, ◌+◌, ◌-◌, ◌<◌, ◌^◌, None, false, min};
-ghost use Rattle.tally.specs.Progress.{record_size};
-ghost use Rattle.tally.specs.declared.shown.ErrorsTo.TheVariants as to_where;
+ghost use Rattle.tally_terminal.specs.Progress.{record_size};
+ghost use Rattle.tally_terminal.specs.declared.shown.ErrorsTo.TheVariants as to_where;
 
 use crate::shown::{ErrorsTo, printed};
 use std::fmt::{self, Display, Formatter};
@@ -44,14 +44,14 @@ fn after<R: Clock>(rt: &R, pause: u64) -> Option<Instant> {
 
 /// The terminal on which a run is followed, and when the next line is due. Without a moment nothing is shown.
 #[derive(Drop)]
-pub(crate) struct Progress<'a, R> {
+pub struct Progress<'a, R> {
     rt: &'a R,
     due: Option<Instant>,
 }
 
 impl<'a, R: Clock + Eprint> Progress<'a, R> {
     /// That of a run that begins now. Only on a terminal is it followed.
-    pub(crate) fn new(rt: &'a R, to: ErrorsTo) -> Progress<'a, R>
+    pub fn new(rt: &'a R, to: ErrorsTo) -> Progress<'a, R>
         ensures { to ≡ to_where.Elsewhere → result.due ≡ None }
     {
         let due = match to {
@@ -72,7 +72,7 @@ impl<'a, R: Clock + Eprint> Progress<'a, R> {
     }
 
     /// Erases what was shown, where anything may have been.
-    pub(crate) fn erase(&self) {
+    pub fn erase(&self) {
         if is_over(self.rt, self.due) {
             let _ = self.rt.eprint(ERASE);
         }
@@ -123,7 +123,7 @@ impl Display for Line<'_> {
 
 /// A file that is followed as it is read.
 #[derive(Drop)]
-pub(crate) struct Followed<'a, R, F: Read + Drop> {
+pub struct Followed<'a, R, F: Read + Drop> {
     file: F,
     progress: Progress<'a, R>,
     line: Line<'a>,
@@ -131,12 +131,7 @@ pub(crate) struct Followed<'a, R, F: Read + Drop> {
 
 impl<'a, R: Clock + Eprint, F: Read + Drop> Followed<'a, R, F> {
     /// A file of which nothing was read.
-    pub(crate) fn new(
-        file: F,
-        progress: &Progress<'a, R>,
-        kind: Kind,
-        path: &'a str,
-    ) -> Followed<'a, R, F>
+    pub fn new(file: F, progress: &Progress<'a, R>, kind: Kind, path: &'a str) -> Followed<'a, R, F>
         ensures file { result.file ≡ file }
         ensures bytes { result.line.bytes ≡ 0 }
         ensures due { result.progress.due ≡ progress.now.due }

@@ -1,0 +1,3 @@
+pub mod About
+pub mod Progress
+pub mod Shown
