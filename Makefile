@@ -1,5 +1,5 @@
 # The worked rows that `make test` runs are those whose needs are all listed here.
-ROWS = ac,ac -d,ac -f,ac -p,all,askers,by-file,choice,clock,csv,feeders,files,full-device,last,last -f,last -n,lastb,lastb --sum,lastb -f,lastb -n,moment,names,offset,period,sa,sa -a,sa -m,sa -n,sa -r,uid,until,version3,zone
+ROWS = ac,ac -d,ac -f,ac -p,all,askers,by-file,choice,clock,csv,feeders,files,full-device,last,last -f,last -n,lastb,lastb --sum,lastb -f,lastb -n,moment,names,offset,paths,period,sa,sa -a,sa -m,sa -n,sa -r,uid,until,version3,zone
 PREFIX ?= /usr/local
 PROGRAM = crates/tally/out/tally
 INTO = $(DESTDIR)$(PREFIX)
@@ -41,7 +41,7 @@ test-big:
 pictures: build
 	examples/pictures/draw $(PROGRAM)
 
-# The program, its manual, and completions for bash, zsh and fish.
+# The program, its manual, completions for bash, zsh and fish, and its tables for sqlite3.
 install: build
 	install -d "$(INTO)/bin" "$(INTO)/share/man/man1" "$(INTO)/share/bash-completion/completions"
 	install -d "$(INTO)/share/zsh/site-functions" "$(INTO)/share/fish/vendor_completions.d"
@@ -50,12 +50,16 @@ install: build
 	install -m 644 completions/tally.bash "$(INTO)/share/bash-completion/completions/tally"
 	install -m 644 completions/_tally "$(INTO)/share/zsh/site-functions/_tally"
 	install -m 644 completions/tally.fish "$(INTO)/share/fish/vendor_completions.d/tally.fish"
+	install -d "$(INTO)/share/tally"
+	install -m 644 examples/tables.sql "$(INTO)/share/tally/tables.sql"
 
 uninstall:
 	rm -f "$(INTO)/bin/tally" "$(INTO)/share/man/man1/tally.1" "$(INTO)/share/bash-completion/completions/tally"
 	rm -f "$(INTO)/share/zsh/site-functions/_tally" "$(INTO)/share/fish/vendor_completions.d/tally.fish"
+	rm -f "$(INTO)/share/tally/tables.sql"
+	[ ! -d "$(INTO)/share/tally" ] || rmdir "$(INTO)/share/tally"
 
-# One archive for a machine without the kit: program, manual, completions, and SHA256SUMS of these, in out/.
+# One archive for a machine without the kit: program, manual, completions, tables, and SHA256SUMS of these, in out/.
 dist: build
 	@.ci/dist $(PROGRAM)
 

@@ -41,10 +41,10 @@ _tally() {
         return
     fi
     case ${COMP_WORDS[1]} in
-        last) options='-n --user --line -s --from -t --to --in -p --at --until --csv -f --feeders --east --west --zone -h --help' ;;
-        lastb) options='-n --sum --user --line -s --from -t --to --in --csv -f --feeders --east --west --zone -h --help' ;;
-        ac) options='-d -p --user --line --from --to --in --until --csv -f --feeders --east --west --zone -h --help' ;;
-        sa) options='-a -m -n -r --uid --from --to --in --names --by-file --csv --feeders --east --west --zone -h --help' ;;
+        last) options='-n --user --line -s --from -t --to --in -p --at --until --csv --paths -f --feeders --east --west --zone -h --help' ;;
+        lastb) options='-n --sum --user --line -s --from -t --to --in --csv --paths -f --feeders --east --west --zone -h --help' ;;
+        ac) options='-d -p --user --line --from --to --in --until --by-file --csv --paths -f --feeders --east --west --zone -h --help' ;;
+        sa) options='-a -m -n -r --uid --from --to --in --names --by-file --csv --paths --feeders --east --west --zone -h --help' ;;
         all) options='--askers --until --feeders --east --west --zone -h --help' ;;
         help)
             COMPREPLY=($(compgen -W 'last lastb ac sa all help' -- "$word"))

@@ -69,13 +69,15 @@ complete -c tally -n '__tally_report_is sa' -l from -x -a now -d 'Sum processes 
 complete -c tally -n '__tally_report_is sa' -l to -x -a now -d 'Sum processes that began before this moment'
 complete -c tally -n '__tally_report_is sa' -l in -x -d 'Sum processes that began in this year, month or day'
 complete -c tally -n '__tally_report_is sa' -l names -r -d 'With -m, name users as this file does'
-complete -c tally -n '__tally_report_is sa' -l by-file -d 'Report on each file by itself, and then on all'
 
 complete -c tally -n '__tally_report_is all' -l askers -x -d 'Ask reports with N threads meanwhile'
 complete -c tally -n '__tally_report_is all' -f -a '(__tally_records)'
 
 complete -c tally -n '__tally_report_is last ac all' -l until -x -a now -d 'Count open sessions up to a moment'
+complete -c tally -n '__tally_report_is ac sa' -l by-file -d 'Report on each file by itself, and then on all'
 complete -c tally -n '__tally_report_is last lastb ac sa' -l csv -d 'Print one table in CSV'
+complete -c tally -n '__tally_report_is last lastb' -l paths -d 'With --csv, print the path of the file of each row'
+complete -c tally -n '__tally_report_is ac sa' -l paths -d 'With --csv and --by-file, print the path of the file of each row'
 complete -c tally -n '__tally_report_is last lastb ac' -s f -r -d 'Read this file, too'
 complete -c tally -n '__tally_report_is last lastb ac sa all' -l feeders -x -d 'Read files with up to N threads'
 complete -c tally -n '__tally_report_is last lastb ac sa all' -l east -x -d 'Minutes east of UTC'

@@ -211,5 +211,5 @@ def add_faults(row, files):
     fault('names-by-file-without-users', 'Names are shown by -m alone.', ['--names', 'passwd', 'f'], needs=',names')
     fault('by-file-twice', 'An option that is said twice.', ['--by-file', 'f'])
     row('by-file-with-a-value', 'sa,by-file', 'It takes no value.', ['sa', '--by-file=1', 'f'], '', None, 2, files)
-    for report, file in (('last', 'e'), ('ac', 'e'), ('all', 'p:e')):
-        row('by-file-of-' + report, report + ',by-file', 'The option is one of sa alone.', [report, '--by-file', file], '', None, 2, files)
+    for report, file in (('last', 'e'), ('lastb', 'e'), ('all', 'p:e')):
+        row('by-file-of-' + report, report + ',by-file', 'The option is one of ac and sa alone.', [report, '--by-file', file], '', None, 2, files)

@@ -67,9 +67,25 @@ def users(generator):
     return raw + b'#' * (LARGEST - len(raw) + generator.randrange(2)) if odd < 0.04 else raw
 
 
+def choose_flag(generator, job, name, chance):
+    """Puts a flag into a job in so many of the cases, and gives its words, and whether the parser refuses them: twice, or with a value."""
+    if generator.random() >= chance:
+        return [], False
+    job[name], flag = True, '--' + name
+    flags = [flag] if generator.random() > 0.02 else generator.choice(([flag, flag], [flag + '=1']))
+    return [[flag] for flag in flags], len(flags) > 1 or '=' in flags[0]
+
+
+def choose_files(generator, command, job):
+    """Puts into a job whether it is by file, and whether its table has the paths of files: mostly where there are rows of files."""
+    words, is_refused = choose_flag(generator, job, 'by-file', 0.35 if command in ('ac', 'sa') else 0)
+    has_files = job.get('csv') and not job.get('sum') and (job.get('by-file') or command in ('last', 'lastb'))
+    paths, is_bad = choose_flag(generator, job, 'paths', 0.5 if has_files else 0.02)
+    return words + paths, is_refused or is_bad
+
+
 def choose_processes(generator, job):
-    """Puts numbers, a file of users and whether it is by file into a job of `sa`, and gives the words, and whether the parser refuses
-    them."""
+    """Puts numbers and a file of users into a job of `sa`, and gives the words, and whether the parser refuses them."""
     words, is_refused = [], False
     if generator.random() < 0.3:
         job['uid'] = some_numbers(generator)
@@ -78,18 +94,16 @@ def choose_processes(generator, job):
         job['names'] = ('names', users(generator))
         is_refused = generator.random() < 0.01
         words += [option(generator, ['--names'], 'names') for _ in range(2 if is_refused else 1)]
-    if generator.random() < 0.35:
-        job['by-file'] = True
-        flags = ['--by-file'] if generator.random() > 0.02 else generator.choice((['--by-file', '--by-file'], ['--by-file=1']))
-        is_refused = is_refused or flags != ['--by-file']
-        words += [[flag] for flag in flags]
     return words, is_refused
 
 
 def choose(generator, command, job, clock, base):
     """Puts a choice into a job, and gives its words in groups that stay together, and whether the parser refuses them: an option of a
     period that is given twice, or a flag with a value."""
-    words, is_refused = choose_processes(generator, job) if command == 'sa' else ([], False)
+    words, is_refused = choose_files(generator, command, job)
+    if command == 'sa':
+        more, is_bad = choose_processes(generator, job)
+        words, is_refused = words + more, is_refused or is_bad
     for key, texts, chance in (('user', USERS, 0.25), ('line', LINES, 0.2)) if command != 'sa' else ():
         if generator.random() < chance:
             job[key] = some_names(generator, texts)

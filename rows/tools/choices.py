@@ -10,10 +10,14 @@ NO_USER = 'error: --user takes a name of 1 to 32 bytes' + TRY_HELP
 NO_LINE = 'error: --line takes a name of 1 to 32 bytes, as tty1' + TRY_HELP
 NO_UID = 'error: --uid takes a number from 0 to 4294967295' + TRY_HELP
 NAMES_ALONE = 'error: --names cannot be used without -m' + TRY_HELP
+NO_TABLE = 'error: --paths cannot be used without --csv' + TRY_HELP
+NO_TABLE_BY_FILE = 'error: --paths cannot be used without --csv and --by-file' + TRY_HELP
+PATHS_OF_SUMS = 'error: --paths cannot be used with --sum' + TRY_HELP
 
 
 def look(job):
-    """Refuses the names and numbers of a job where they are too many, or one of them is none; and names of users where no user is shown."""
+    """Refuses the names and numbers of a job where they are too many, or one of them is none; names of users where no user is shown; and
+    paths where no row is of a file."""
     for option, many, other in (('user', MANY_USERS, NO_USER), ('line', MANY_LINES, NO_LINE)):
         names = job.get(option, [])
         if len(names) > MOST:
@@ -26,6 +30,18 @@ def look(job):
         raise Refused(NO_UID)
     if 'names' in job and not job.get('m'):
         raise Refused(NAMES_ALONE)
+    if job.get('paths'):
+        look_at_paths(job)
+
+
+def look_at_paths(job):
+    """Refuses paths where the rows are no table, or each is of all files."""
+    if job['command'] in ('ac', 'sa') and not (job.get('csv') and job.get('by-file')):
+        raise Refused(NO_TABLE_BY_FILE)
+    if not job.get('csv'):
+        raise Refused(NO_TABLE)
+    if job.get('sum'):
+        raise Refused(PATHS_OF_SUMS)
 
 
 def is_chosen(job, stay):

@@ -30,6 +30,9 @@ READ = (
     (ALL_FILES, ('sa',), COMMANDS),
     (ALL_FILES, ('sa', '-m'), SA_USERS),
     (ALL_FILES, ('sa', '--by-file'), lines('/var/log/account/pacct:', SA_TOTAL, SA_OTHER, SA_FORKED, '', SA_TOTAL, SA_OTHER, SA_FORKED)),
+    (ALL_FILES, ('ac', '--by-file'), '/var/log/wtmp:\n' + TOTAL_ONE + '\n' + TOTAL_ONE),
+    (ALL_FILES, ('ac', '--by-file', '--csv', '--paths'), lines('file,path,seconds', '1,/var/log/wtmp,3600')),
+    (ALL_FILES, ('lastb', '--csv', '--paths', '-n', '1'), lines('file,path,user,line,remote,time,at', '1,/var/log/btmp,ann,tty1,,120,1970-01-01T00:02:00+00:00')),
     ({RED_HAT: MAKE}, ('sa',), COMMANDS),
     # Of both the first is read, even if it has nothing.
     ({DEBIAN: MAKE, RED_HAT: b''}, ('sa',), COMMANDS),

@@ -18,9 +18,11 @@ from by_file_rows import add_rows as add_by_file_rows
 from choice_faults import add_rows as add_choice_faults
 from choice_rows import add_rows as add_choice_rows
 from common import ROOMS, TOP
+from connect_by_file_rows import add_rows as add_connect_by_file_rows
 from file_rows import add_rows as add_file_rows
 from moment_rows import add_rows as add_moment_rows
 from moments import NO_RANGE
+from path_rows import add_rows as add_path_rows
 from people_rows import add_example as add_people_example, add_rows as add_people_rows
 from usage_rows import add_example as add_usage_example, add_rows as add_usage_rows
 from zone_rows import BERLIN, add_rows as add_zone_rows
@@ -577,6 +579,8 @@ add_people_rows(row, lines, A, A3)
 # --- usage of each file
 
 add_by_file_rows(row, lines, A)
+add_connect_by_file_rows(row, lines, U)
+add_path_rows(row, lines, U, A)
 
 # --- failed logins
 
@@ -858,8 +862,8 @@ In a folder:
 Needs: `ac`, `last`, `lastb`, `sa`, `all` are the subcommands, with `ac -d` and the like for flags; `offset` is
 `--east` and `--west`; `clock` that clock changes move sessions; `files` several files; `feeders`, `askers`,
 `until`, `csv` and `zone` these options; `moment` that `--until` takes more than a number of seconds; `choice` reports on some users,
-some lines or a period; `uid` and `period` the same of `sa`, users by number; `names` the names of users from a file; `by-file` that `sa`
-reports on each file by itself; `version3` acct records of version 3; `big` an input of 402 MB; `full-device` /dev/full.
+some lines or a period; `uid` and `period` the same of `sa`, users by number; `names` the names of users from a file; `by-file` that `ac` and
+`sa` report on each file by itself; `paths` that a table has the paths of files; `version3` acct records of version 3; `big` an input of 402 MB; `full-device` /dev/full.
 
 What is refused with status 2 has no fixed text where it is that of the command line parser.
 

@@ -18,12 +18,12 @@ ENDS = {'Login': 'Next', 'Logout': 'Logout', 'Down': 'down', 'Boot': 'crash'}
 
 
 class Asked:
-    """What a job asks for: its clock, if it is no other, the moment up to which open stays are counted, its period, its file of users, and
-    its words."""
+    """What a job asks for: its clock, if it is no other, the moment up to which open stays are counted, its period, its file of users, its
+    words, and the paths of its files."""
 
-    def __init__(self, job, clock=None):
+    def __init__(self, job, clock=None, paths=()):
         look(job)
-        self.job, self.limit, self.clock = job, job.get('limit'), clock or clock_of(job)
+        self.job, self.limit, self.clock, self.paths = job, job.get('limit'), clock or clock_of(job), paths
         self.until, self.period = moments.settled(job, self.clock)
         self.has_within = any(name in job for name in ('from', 'to', 'in'))
         self.passwd = job['names'][1] if 'names' in job else None
@@ -239,16 +239,17 @@ def users_text(records, by_calls, reverse, passwd):
     return text + ''.join('%-10s %s\n' % (user_word(uid, passwd), columns(use)) for uid, use in rows)
 
 
-def usage_text(records, asked):
+def usage_text(parts, asked):
+    records = sum(parts, [])
     if asked.has('m'):
         return users_text(records, asked.has('n'), asked.has('r'), asked.passwd)
     return sa_text(records, asked.has('a'), asked.has('n'), asked.has('r'))
 
 
-def usage_texts(parts, paths, asked):
-    """The text of the records of all files, and by file before it that of each file alone, below its path."""
-    each = ['%s:\n%s' % (shown(path.encode()), usage_text(records, asked)) for path, records in zip(paths, parts)]
-    return each * asked.has('by-file') + [usage_text(sum(parts, []), asked)]
+def of_all_and_each(text, parts, asked):
+    """The text of all files, and by file before it that of each file alone, below its path."""
+    each = ['%s:\n%s' % (shown(path.encode()), text([part], asked)) for path, part in zip(asked.paths, parts)]
+    return each * asked.has('by-file') + [text(parts, asked)]
 
 
 # Tables
@@ -265,21 +266,37 @@ def iso(time, clock):
     return moment(time, clock).replace(' ', 'T') + zone
 
 
+def file_names(asked):
+    return 'file,' + 'path,' * asked.has('paths')
+
+
+def file_fields(number, asked):
+    """What says of which file a row is: its number, from 1, and its path where that is asked for."""
+    return (number, shown(asked.paths[number - 1].encode())) if asked.has('paths') else (number,)
+
+
+def of_all_or_each(names, fields, parts, asked):
+    """The table of the rows of all files together, or by file of those of each alone, after what says of which file they are."""
+    if not asked.has('by-file'):
+        return table(names, fields(parts, asked))
+    return table(file_names(asked) + names, [(*file_fields(number, asked), *row) for number, part in enumerate(parts, 1) for row in fields([part], asked)])
+
+
 def last_table(hosts, asked):
     rows = []
     for number, host in enumerate(hosts, 1):
         for stay in stays_shown(host, asked):
             who = ('reboot', '') if stay['is_boot'] else (shown(stay['user']), shown(stay['line']))
             within = (cut(stay, asked.period)['seconds'],) if asked.has_within else ()
-            rows.append((number, *who, shown(stay['remote']), stay['time'], iso(stay['time'], asked.clock), stay['begin'],
+            rows.append((*file_fields(number, asked), *who, shown(stay['remote']), stay['time'], iso(stay['time'], asked.clock), stay['begin'],
                          stay['end'].lower(), stay['end_time'], iso(stay['end_time'], asked.clock), stay['seconds'], *within))
-    names = 'file,user,line,remote,start,start_at,begin,end,end_time,end_at,seconds'
+    names = file_names(asked) + 'user,line,remote,start,start_at,begin,end,end_time,end_at,seconds'
     return table(names + ',within' * asked.has_within, rows)
 
 
 def attempts_table(hosts, asked):
-    return table('file,user,line,remote,time,at',
-                 [(number, shown(r['user']), shown(r['line']), shown(r['remote']), r['time'], iso(r['time'], asked.clock))
+    return table(file_names(asked) + 'user,line,remote,time,at',
+                 [(*file_fields(number, asked), shown(r['user']), shown(r['line']), shown(r['remote']), r['time'], iso(r['time'], asked.clock))
                   for number, host in enumerate(hosts, 1) for r in attempts_shown(host, asked)])
 
 
@@ -287,36 +304,36 @@ def attempt_sums_table(hosts, asked):
     return table('user,remote,attempts', [(shown(user), shown(remote), number) for user, remote, number in attempt_sums(hosts, asked)])
 
 
+def ac_fields(hosts, asked):
+    stays = sessions_of(hosts, asked)
+    if not asked.has('d') and not asked.has('p'):
+        return [(sum(stay['seconds'] for stay in stays),)]
+    return [([date_of(day)] if asked.has('d') else []) + ([shown(name)] if asked.has('p') else []) + [seconds]
+            for day, name, seconds in ac_rows(stays, asked)]
+
+
 def ac_table(hosts, asked):
-    stays, by_day, by_user = sessions_of(hosts, asked), asked.has('d'), asked.has('p')
-    if not by_day and not by_user:
-        return table('seconds', [(sum(stay['seconds'] for stay in stays),)])
-    names = 'day,' * by_day + 'user,' * by_user + 'seconds'
-    return table(names, [([date_of(day)] if by_day else []) + ([shown(name)] if by_user else []) + [seconds]
-                         for day, name, seconds in ac_rows(stays, asked)])
+    return of_all_or_each('day,' * asked.has('d') + 'user,' * asked.has('p') + 'seconds', ac_fields, hosts, asked)
 
 
 def sums(use):
     return tuple(use[key] for key in ('count', 'real', 'cpu', 'io', 'mem_cpu'))
 
 
-def command_fields(records, asked):
-    return [(shown(row[0]), int(row[1]), int(row[2]), *sums(row[3])) for row in sa_rows(records, asked.has('a'), asked.has('n'), asked.has('r'))]
+def command_fields(parts, asked):
+    rows = sa_rows(sum(parts, []), asked.has('a'), asked.has('n'), asked.has('r'))
+    return [(shown(row[0]), int(row[1]), int(row[2]), *sums(row[3])) for row in rows]
 
 
-def user_fields(records, asked):
-    rows, passwd = user_rows(records, asked.has('n'), asked.has('r')), asked.passwd
+def user_fields(parts, asked):
+    rows, passwd = user_rows(sum(parts, []), asked.has('n'), asked.has('r')), asked.passwd
     name = lambda uid: () if passwd is None else (shown(text_of(name_in(passwd, uid) or b'')),)
     return [(uid, *name(uid), *sums(use)) for uid, use in rows]
 
 
 def usage_table(parts, asked):
-    """The rows of all files together, or by file those of each alone, after the number of the file."""
     first = 'uid,' + 'name,' * (asked.passwd is not None) if asked.has('m') else 'command,forked,other,'
-    names, fields = first + 'calls,real_ticks,cpu_ticks,io,mem_cpu', user_fields if asked.has('m') else command_fields
-    if not asked.has('by-file'):
-        return table(names, fields(sum(parts, []), asked))
-    return table('file,' + names, [(number, *row) for number, records in enumerate(parts, 1) for row in fields(records, asked)])
+    return of_all_or_each(first + 'calls,real_ticks,cpu_ticks,io,mem_cpu', user_fields if asked.has('m') else command_fields, parts, asked)
 
 
 def clock_of(job):
@@ -327,7 +344,7 @@ def output(job, files):
     """Status, standard output and standard error of a job over files, each a kind, a path and bytes. A file of users is a path and bytes,
     or None where it is not there."""
     try:
-        asked = Asked(job)
+        asked = Asked(job, paths=[path for _, path, _ in files])
     except moments.Refused as refused:
         return 2, '', str(refused)
     if 'names' in job and fault_of(asked.passwd):
@@ -351,8 +368,8 @@ def output(job, files):
     sections = {
         'last': lasts,
         'lastb': lambda: [attempt_sums_text(hosts, asked)] if asked.has('sum') else [attempts_text(host, asked) for host in hosts],
-        'ac': lambda: [ac_text(hosts, asked)],
-        'sa': lambda: usage_texts(parts, [path for _, path, _ in files], asked),
+        'ac': lambda: of_all_and_each(ac_text, hosts, asked),
+        'sa': lambda: of_all_and_each(usage_text, parts, asked),
         'all': lambda: lasts() + [ac_text(hosts, asked), sa_text(sum(parts, []), False, False, False)],
     }[job['command']]()
     return 0, '\n'.join(sections), ''
