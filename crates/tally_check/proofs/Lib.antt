@@ -1,0 +1,9 @@
+pub mod BatchLemmas
+pub mod CountLemmas
+pub mod FindLemmas
+pub mod NoteLemmas
+pub mod ReadLemmas
+pub mod StayLemmas
+pub mod StepLemmas
+pub mod TallyLemmas
+pub mod WorkedFindings

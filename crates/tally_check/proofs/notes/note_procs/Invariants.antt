@@ -1,0 +1,6 @@
+use Rattle.std.proofs.Common.{◌≡◌, ◌++◌, List, ℕ, take}
+use Rattle.tally_check.specs.inside.Notes.{proc_notes}
+use Rattle.tally_check.proofs.notes.note_procs.Given as goal
+
+abbrev pub invariant-loop-bytes : goal.invariant-loop-bytes
+invariant-loop-bytes l = (before : List (List ℕ)) → l.initial.notes ≡ proc_notes before → l.notes ≡ proc_notes (before ++ take l.bytes-index l.records)
