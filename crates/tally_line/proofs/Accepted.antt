@@ -1,4 +1,4 @@
--- Words that `clap` accepts name a report, and a file where that is of all.
+-- Words that `clap` accepts name a report or `check`, and a file where one is wanted.
 use Rattle.std.proofs.Common.{◌≡◌, ◌∙◌, ◌<◌, ◌&&◌, ◌||◌, ◌⊎◌, inl, inr, ⊎_elim, Bool, cond, codes, true, false, not, ap, refl, sym, subst, true≢false, List, [], ◌∷◌, length, Option, Some, None, IfSome, is_some, find, option_map, unwrap_or}
 use Rattle.std.specs.Option.{option_map_or}
 use Rattle.std.specs.List.{list_all, list_any}
@@ -98,9 +98,12 @@ wants_files s = not s.subcommand_negates_reqs && (list_all fills s.rules && list
 abbrev names_report : Text → Bool
 names_report name = bytes_eq name (codes "last") || (bytes_eq name (codes "lastb") || (bytes_eq name (codes "ac") || (bytes_eq name (codes "sa") || bytes_eq name (codes "all"))))
 
--- a subcommand without other names: that for help, or a report's, which wants files where that is of all
+abbrev is_without_file : Text → Bool
+is_without_file name = bytes_eq name (codes "all") || bytes_eq name (codes "check")
+
+-- a subcommand without other names: that for help, or a report's or `check`, which wants files where it has none by itself
 abbrev is_known : Shape → Bool
-is_known s = is_empty s.aliases && (bytes_eq s.name (codes "help") || (names_report s.name && (not (bytes_eq s.name (codes "all")) || wants_files s)))
+is_known s = is_empty s.aliases && (bytes_eq s.name (codes "help") || ((names_report s.name || bytes_eq s.name (codes "check")) && (not (is_without_file s.name) || wants_files s)))
 
 named_report : (name : Text) → names_report name ≡ true → (r : Report) × (name ≡ name_of r)
 named_report name e = elim (either (bytes_eq name (codes "last")) _ e) [
@@ -143,15 +146,23 @@ complete_here s name words known answers other passed =
     let two = both (is_empty s.aliases) _ known in
     let bare : bytes_eq s.name name ≡ true = ⊎_elim (λ is. is) (λ alias. absurd (no_alias s.aliases (is_nil s.aliases two.0) alias)) (either (bytes_eq s.name name) _ answers) in
     let helps_not = subst (λ n. bytes_eq n (codes "help") ≡ false) (sym (same_text s.name name bare)) other in
-    let own = both (names_report s.name) _ (not_first _ _ two.1 helps_not) in
-    let r = named_report s.name own.0 in
+    let own = both (names_report s.name || bytes_eq s.name (codes "check")) _ (not_first _ _ two.1 helps_not) in
     record {
-      named = (r.0, ap Some r.1);
-      file = λ asks. files_named s words (not_first _ _ own.1 (is_all s.name (same_Some _ _ asks))) passed;
+      named = elim (either (names_report s.name) _ own.0) [
+        | inl report ↦ let r = named_report s.name report in inl (r.0, ap Some r.1)
+        | inr is ↦ inr (ap Some (same_text s.name (codes "check") is))
+      ];
+      file = λ wants. files_named s words (not_first _ _ own.1 (elim wants [
+        | inl asks ↦ is_all s.name (same_Some _ _ asks)
+        | inr asks ↦ is_check s.name (same_Some _ _ asks)
+      ])) passed;
     }
   where
-    is_all : (name : Text) → name ≡ codes "all" → not (bytes_eq name (codes "all")) ≡ false
+    is_all : (name : Text) → name ≡ codes "all" → not (is_without_file name) ≡ false
     is_all name is = rw is refl
+
+    is_check : (name : Text) → name ≡ codes "check" → not (is_without_file name) ≡ false
+    is_check name is = rw is refl
 
     no_alias : (aliases : List Text) → aliases ≡ [] → list_any (λ alias. bytes_eq alias name) aliases ≡ true → ⊥
     no_alias aliases none e = true≢false (sym (subst (λ (xs : List Text). list_any (λ alias. bytes_eq alias name) xs ≡ true) none e))

@@ -1,24 +1,27 @@
 -- Matches and the answers to them.
 use Rattle.std.proofs.Common.{◌≡◌, ◌∙◌, ◌<◌, ◌⊎◌, inl, inr, ◌≤◌, true, ℕ, List, [], Option, Some, None, Result, Err, ap, sym, subst, refl, length, arith, IfOk, IfErr}
-use Rattle.std.specs.Prelude.{String, option_map, unwrap_or, codes, slice_get, slice_index_or}
+use Rattle.std.specs.Prelude.{Box, String, option_map, unwrap_or, codes, slice_get, slice_index_or}
 use Rattle.std.specs.Borrow.{Bor}
+use Rattle.std.specs.Box.{box_value}
 use Rattle.std.proofs.lemmas.List.{length-map}
 use Rattle.std.proofs.lemmas.List.Elements.{All-nil}
 use Rattle.std.proofs.lemmas.Option.{slice_get-map, unwrap_or-slice_get}
 use Rattle.std.proofs.lemmas.Result.{IfErr-weaker, IfOk-weaker}
 use Rattle.clap.specs.Walk.{texts}
-use Rattle.clap.specs.Words.{App, HasKind, HasMatchesOf, IsAmong, Row, Text, app_of, fault_of, is_simple, is_simple_and_free, kind_of, one_of, one_text, matched_of, raw_values, rows_of, subcommand_of, subcommand_rows_of}
+use Rattle.clap.specs.Words.{App, HasKind, HasMatchesOf, IsAmong, Row, Text, app_of, fault_of, is_simple, is_simple_and_free, kind_of, one_of, one_text, matched_of, raw_values, rows_of, subcommand_of, subcommand_rows, subcommand_rows_of}
 use Rattle.clap.specs.declared.builder.command.Command.{Command}
 use Rattle.clap.specs.declared.error.Error.{Error}
 use Rattle.clap.specs.declared.error.kind.ErrorKind.TheVariants.{OutOfMemory}
 use Rattle.clap.specs.declared.parser.matches.ArgMatches.{ArgMatches}
+use Rattle.clap.specs.declared.parser.matches.ArgMatches.TheViews.{out-SubCommand}
 use Rattle.clap.specs.declared.parser.matches.Found.{Found}
+use Rattle.clap.specs.declared.parser.matches.SubCommand.{SubCommand}
 use Rattle.clap.proofs.WalkLemmas.{one_text-rows, raw_values-rows}
 use Rattle.tally_line.proofs.Accepted.{accepted_are_complete}
 use Rattle.tally_line.specs.Apart.{IsFilesAsked}
 use Rattle.tally_line.specs.CommandLine.{tally_app}
 use Rattle.tally_line.specs.FileWords.{IsFirstBare, NamesFiles, Reads}
-use Rattle.tally_line.specs.Lines.{Answers, AreAccepted, AsksFor, HasNoWord, AreSound, AsksForm, IsRunOf, Refuses, file_words, met_in, name_of, rows_met, words_in}
+use Rattle.tally_line.specs.Lines.{Answers, AreAccepted, AsksFor, HasNoWord, AreSound, AsksForm, IsCheckOf, IsRunOf, Refuses, file_words, met_in, name_of, rows_met, words_in}
 use Rattle.tally_line.specs.inside.LineSteps.{IsComplete, IsFaultFor, IsHelpFor, IsFaultOf, IsFileFault, IsLineOf, IsMemoryOrUsage}
 use Rattle.tally_line.specs.Jobs.{IsRunnable, TakesUntil}
 use Rattle.tally_line.specs.Times.{times_in}
@@ -39,6 +42,12 @@ use Rattle.tally_line.specs.declared.line.LineFault.TheVariants as fault
 use Rattle.tally_line.specs.declared.times.Times.{Times}
 
 -- ---- the matches of a subcommand
+
+-- those of a subcommand are its name and its rows
+pub met_of : (o : Option (Box SubCommand Global)) (name : Text) (rows : List Row) → Some name ≡ option_map (λ (b : Box SubCommand Global). (out-SubCommand (box_value b)).name.now) o
+    → Some rows ≡ option_map (λ (p : Text × List Row). p.1) (subcommand_rows o) → subcommand_rows o ≡ Some (name, rows)
+met_of None name rows named is = cc
+met_of (Some b) name rows named is = cc
 
 -- the file words are those that `get_raw` gives
 pub no_file_words : (f : Found) → None ≡ option_map raw_values (matched_of f (codes "file")) → words_in (rows_of f) ≡ []
@@ -127,7 +136,7 @@ module _ (words : List Text) (command : Command) (is : app_of command ≡ tally_
   accepted : (is_simple_and_free (app_of command) ≡ true → fault_of (app_of command) words ≡ []) → AreAccepted words
   accepted taken = ap (λ (a : App). fault_of a words) (sym is) ∙ taken (ap is_simple_and_free is ∙ tally_is_free)
 
-  -- what a parse found names a report, and a file where that is of all
+  -- what a parse found names a report or `check`, and a file where one is wanted
   pub complete_matches : (m : ArgMatches) → HasMatchesOf (app_of command) words m
       → (is_simple_and_free (app_of command) ≡ true → fault_of (app_of command) words ≡ []) → IsComplete (subcommand_rows_of m)
   complete_matches m has taken = subst IsComplete (sym (met_in_words m has)) (accepted_are_complete words (accepted taken))
@@ -136,6 +145,7 @@ module _ (words : List Text) (command : Command) (is : app_of command ≡ tally_
       → (is_simple_and_free (app_of command) ≡ true → fault_of (app_of command) words ≡ [])
       → IsLineOf (subcommand_rows_of m) l → Answers words l
   answers m (line.Run job times usage apart zone files) has taken found = (accepted taken, subst (λ met. IsRunOf met job times usage apart zone files.items) (met_in_words m has) found)
+  answers m (line.Check check) has taken found = (accepted taken, subst (λ met. IsCheckOf met check) (met_in_words m has) found)
   answers m (line.Help text) has taken found = absurd found
 
   pub refuses : (m : ArgMatches) (f : LineFault) → HasMatchesOf (app_of command) words m
@@ -156,6 +166,7 @@ module _ (words : List Text) (command : Command) (is : app_of command ≡ tally_
 
   as_help : (e : Error) (l : Line) → IsAmong (kind_of e) (fault_of tally_app words) → IsHelpFor (kind_of e) l → Answers words l
   as_help e (line.Run job times usage apart _ files) one h = absurd h
+  as_help e (line.Check check) one h = absurd h
   as_help e (line.Help text) one h = (kind_of e, one, h)
 
   as_fault : (e : Error) (f : LineFault) → IsAmong (kind_of e) (fault_of tally_app words) → IsFaultFor (kind_of e) f → Refuses words f

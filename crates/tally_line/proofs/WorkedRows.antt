@@ -33,8 +33,8 @@ files_in_order : file_words (met_in (codes "last" ∷ codes "b" ∷ codes "-f" �
 unfolding tally_app clap_on_literals
 files_in_order = refl
 
--- no file has to be named, except of a report of all
-unnamed : map (λ name. fault_of tally_app (name ∷ [])) (codes "last" ∷ codes "lastb" ∷ codes "ac" ∷ codes "sa" ∷ codes "all" ∷ []) ≡ [] ∷ [] ∷ [] ∷ [] ∷ (MissingRequiredArgument ∷ []) ∷ []
+-- no file has to be named, except of a report of all and to be checked
+unnamed : map (λ name. fault_of tally_app (name ∷ [])) (codes "last" ∷ codes "lastb" ∷ codes "ac" ∷ codes "sa" ∷ codes "all" ∷ codes "check" ∷ []) ≡ [] ∷ [] ∷ [] ∷ [] ∷ (MissingRequiredArgument ∷ []) ∷ (MissingRequiredArgument ∷ []) ∷ []
 unfolding tally_app clap_on_literals
 unnamed = refl
 
@@ -43,8 +43,8 @@ none_named : file_words (met_in (codes "last" ∷ [])) ≡ []
 unfolding tally_app clap_on_literals
 none_named = refl
 
--- neither `sa` nor a report of all has `-f`
-letters : map (λ name. fault_of tally_app (name ∷ codes "-f" ∷ codes "w:a" ∷ [])) (codes "ac" ∷ codes "sa" ∷ codes "all" ∷ []) ≡ [] ∷ (UnknownArgument ∷ []) ∷ (UnknownArgument ∷ []) ∷ []
+-- `sa`, a report of all and `check` have no `-f`
+letters : map (λ name. fault_of tally_app (name ∷ codes "-f" ∷ codes "w:a" ∷ [])) (codes "ac" ∷ codes "sa" ∷ codes "all" ∷ codes "check" ∷ []) ≡ [] ∷ (UnknownArgument ∷ []) ∷ (UnknownArgument ∷ []) ∷ (UnknownArgument ∷ []) ∷ []
 unfolding tally_app clap_on_literals
 letters = refl
 
@@ -66,6 +66,17 @@ flags_apart : map (fault_of tally_app) ((codes "last" ∷ codes "--by-file" ∷ 
 unfolding tally_app clap_on_literals
 flags_apart = refl
 
+-- `check` has paths, and nothing that chooses what a report is over
+flags_of_a_check : map (λ flag. fault_of tally_app (codes "check" ∷ codes "f" ∷ flag)) ((codes "--csv" ∷ codes "--paths" ∷ []) ∷ (codes "--by-file" ∷ []) ∷ (codes "--feeders" ∷ codes "2" ∷ []) ∷ (codes "--user" ∷ codes "ann" ∷ []) ∷ (codes "--in" ∷ codes "2026" ∷ []) ∷ [])
+    ≡ [] ∷ (UnknownArgument ∷ []) ∷ (UnknownArgument ∷ []) ∷ (UnknownArgument ∷ []) ∷ (UnknownArgument ∷ []) ∷ []
+unfolding tally_app clap_on_literals
+flags_of_a_check = refl
+
+-- the prefixes of a report of all are parts of the paths that are checked
+checked_words : file_words (met_in (codes "check" ∷ codes "w:a" ∷ codes "--csv" ∷ codes "b" ∷ [])) ≡ codes "w:a" ∷ codes "b" ∷ []
+unfolding tally_app clap_on_literals
+checked_words = refl
+
 -- a listing in CSV has paths
 rows_of_files : HasRowsOfFiles (matches_of (codes "lastb" ∷ codes "--csv" ∷ codes "--paths" ∷ []))
 unfolding tally_app clap_on_literals
@@ -75,6 +86,11 @@ rows_of_files asked = record { csv = refl; no_sum = refl; by_file = λ given. ab
 rows_by_file : HasRowsOfFiles (matches_of (codes "ac" ∷ codes "--by-file" ∷ codes "--csv" ∷ codes "--paths" ∷ []))
 unfolding tally_app clap_on_literals
 rows_by_file asked = record { csv = refl; no_sum = refl; by_file = λ given. refl }
+
+-- so has a check
+rows_of_a_check : HasRowsOfFiles (matches_of (codes "check" ∷ codes "--csv" ∷ codes "--paths" ∷ codes "f" ∷ []))
+unfolding tally_app clap_on_literals
+rows_of_a_check asked = record { csv = refl; no_sum = refl; by_file = λ given. absurd (true≢false (sym given)) }
 
 -- lines for the eye have none
 no_rows : ¬ HasRowsOfFiles (matches_of (codes "last" ∷ codes "--paths" ∷ []))

@@ -103,7 +103,7 @@ file_rule = record (new_rule (codes "file")) {
   range = Some (record { start_inclusive = 1; end_inclusive = usize_max });
 }
 
--- those of a report of all: one has to be named
+-- those of `all` and of `check`: one has to be named
 abbrev pub some_file_rule : Rule
 some_file_rule = record file_rule { required = true }
 
@@ -111,10 +111,13 @@ some_file_rule = record file_rule { required = true }
 abbrev pub more_files_rule : Rule
 more_files_rule = record file_rule { short = Some 102; action = Some Append }
 
--- the options that each subcommand has after its own, and its files
+-- the clock that times are shown by
+abbrev pub with_clock : App → App
+with_clock app = with_rule (with_rule (with_rule app east_rule) west_rule) zone_rule
+
+-- the options that each report has after its own, and its files
 abbrev pub with_files : Rule → App → App
-with_files files app =
-    with_rule (with_rule (with_rule (with_rule (with_rule app feeders_rule) east_rule) west_rule) zone_rule) files
+with_files files app = with_rule (with_clock (with_rule app feeders_rule)) files
 
 -- the same where none has to be named, and `-f` names some, too
 abbrev pub with_more_files : App → App
@@ -182,6 +185,10 @@ usage_app = with_files file_rule (with_file_table (with_rule (with_period (with_
 abbrev pub all_app : App
 all_app = with_files some_file_rule (with_rule (with_rule (new_app (codes "all")) askers_rule) until_rule)
 
+-- `check`
+abbrev pub check_app : App
+check_app = with_rule (with_clock (with_table (new_app (codes "check")))) some_file_rule
+
 -- words without a program's name, of which one names a subcommand; `--version` is taken too
 abbrev pub top_app : App
 top_app = on_top (λ s. record s { no_binary_name = true; subcommand_required = true; has_version = true })
@@ -189,5 +196,5 @@ top_app = on_top (λ s. record s { no_binary_name = true; subcommand_required = 
 
 -- the whole command line
 unfoldable pub tally_app : App
-tally_app = with_subcommand (with_subcommand (with_subcommand (with_subcommand (with_subcommand top_app
-    last_app.top) attempts_app.top) connect_app.top) usage_app.top) all_app.top
+tally_app = with_subcommand (with_subcommand (with_subcommand (with_subcommand (with_subcommand (with_subcommand top_app
+    last_app.top) attempts_app.top) connect_app.top) usage_app.top) all_app.top) check_app.top

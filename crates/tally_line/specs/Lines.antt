@@ -1,6 +1,6 @@
 -- What a command line asks for.
 use Rattle.std.specs.Prelude.{◌≡◌, ◌⊎◌, ◌≤◌, ◌<◌, List, [], Option, Some, None, String, ⊤, codes, length}
-use Rattle.std.specs.Prelude.{option_map, unwrap_or}
+use Rattle.std.specs.Prelude.{map, option_map, string_bytes, unwrap_or}
 use Rattle.clap.specs.Words.{IsAmong, Row, Text, all_of, fault_of, one_of, subcommand_of}
 use Rattle.clap.specs.declared.error.kind.ErrorKind.{ErrorKind}
 use Rattle.clap.specs.declared.error.kind.ErrorKind.TheVariants as kind
@@ -10,11 +10,13 @@ use Rattle.tally_line.specs.FileWords.{IsFirstBare, NamesFiles}
 use Rattle.tally_line.specs.Jobs.{IsRunnable, TakesUntil}
 use Rattle.tally_line.specs.Named.{AreNamed}
 use Rattle.tally_line.specs.Offsets.{HasPlainOffsets}
-use Rattle.tally_line.specs.Options.{SetsJob}
+use Rattle.tally_line.specs.Options.{IsOffsetOf, SetsJob, is_set}
 use Rattle.tally_line.specs.Times.{AreMoments, times_in}
 use Rattle.tally_line.specs.UsageWords.{AreUsageWords, IsUsageAsked}
 use Rattle.tally_line.specs.Zones.{HasOneClock, IsZoneOf}
+use Rattle.tally_sessions.specs.Days.{IsOffset}
 use Rattle.std.specs.declared.alloc.Global.{Global}
+use Rattle.tally_line.specs.declared.line.Check.{Check}
 use Rattle.tally_line.specs.declared.line.FileArg.{FileArg}
 use Rattle.tally_line.specs.declared.line.FilesAsked.{FilesAsked}
 use Rattle.tally_line.specs.declared.job.Form.{Form}
@@ -103,6 +105,22 @@ pub record IsRunOf (met : Met) (job : Job) (times : Times) (usage : UsageAsked) 
   pub some_file : job.report ≡ report.All → 0 < length files
   pub names_files : NamesFiles job.report (file_words met) files
 
+-- the matches are of `check`
+abbrev pub AsksCheck : Met → Type 0
+AsksCheck met = option_map (λ found. found.0) met ≡ Some (codes "check")
+
+-- a check that the matches ask for: each file word is a path
+pub record IsCheckOf (met : Met) (check : Check) : Type 0 where
+  pub named : AsksCheck met
+  pub form : IsFormOf (rows_met met) check.form
+  pub paths : check.paths ≡ is_set (codes "paths") (rows_met met)
+  pub offset : IsOffsetOf (rows_met met) check.offset
+  pub in_range : IsOffset check.offset
+  pub zone_word : IsZoneOf (rows_met met) check.zone
+  pub sound : AreSound (rows_met met)
+  pub some_file : 0 < length check.files.items
+  pub names_files : map string_bytes check.files.items ≡ file_words met
+
 -- `clap` answers with a text of its own: help, or the version
 abbrev pub IsShown : ErrorKind → Type 0
 IsShown k = (k ≡ kind.DisplayHelp) ⊎ (k ≡ kind.DisplayVersion)
@@ -126,6 +144,7 @@ AreAccepted words = fault_of tally_app words ≡ []
 -- the answer to words
 abbrev pub Answers : List Text → Line → Type 0
 Answers words (line.Run job times usage apart zone files) = AreAccepted words × IsRunOf (met_in words) job times usage apart zone files.items
+Answers words (line.Check check) = AreAccepted words × IsCheckOf (met_in words) check
 Answers words (line.Help text) = AskForHelp words
 
 -- why words are refused

@@ -1,7 +1,7 @@
 //! The command line as `clap` reads it.
 ghost use Rattle.std.specs.Prelude.{◌≡◌, IfOk, false};
 ghost use Rattle.clap.specs.Words.{App, Rule, new_app, rule_of, with_rule, with_subcommand};
-ghost use Rattle.tally_line.specs.CommandLine.{all_app, attempts_app, connect_app, last_app, tally_app, top_app, usage_app, with_file_table, with_files, with_lettered_period, with_more_files, with_names, with_period, with_table, with_usage_flags};
+ghost use Rattle.tally_line.specs.CommandLine.{all_app, attempts_app, connect_app, check_app, last_app, tally_app, top_app, usage_app, with_clock, with_file_table, with_files, with_lettered_period, with_more_files, with_names, with_period, with_table, with_usage_flags};
 ghost use Rattle.tally_line.specs.inside.Commands.{IsCommand};
 
 use crate::args::{
@@ -40,7 +40,8 @@ pub(crate) fn tally<'a>(alloc: Global) -> Made<'a>
     let command = with_under(command, attempts(alloc));
     let command = with_under(command, connect(alloc));
     let command = with_under(command, usage(alloc));
-    with_under(command, all(alloc))
+    let command = with_under(command, all(alloc));
+    with_under(command, check(alloc))
 }
 
 /// The command with a subcommand.
@@ -173,6 +174,23 @@ fn all<'a>(alloc: Global) -> Made<'a>
     with_options(alloc, command, some_file(alloc, help))
 }
 
+#[inline(never)]
+fn check<'a>(alloc: Global) -> Made<'a>
+    ensures { IfOk result (IsCommand check_app) }
+{
+    let about =
+        "Check files before a report is believed: what they have, and what is doubtful in them";
+    let command = with_table(alloc, Ok(named(alloc, "check", about)));
+    let command = with_clock(
+        alloc,
+        command,
+        "Show times M minutes east of UTC, 0 to 1439; 60 for +0100",
+        "Show times M minutes west of UTC, 0 to 1439; 300 for -0500",
+    );
+    let help = "Check FILE, of login or process records or of any other kind";
+    with(command, some_file(alloc, help))
+}
+
 /// The flags of `sa`.
 #[inline(never)]
 fn with_usage_flags<'a>(alloc: Global, command: Made<'a>) -> Made<'a>
@@ -245,30 +263,29 @@ fn with_file_table<'a>(alloc: Global, command: Made<'a>) -> Made<'a>
     with_table(alloc, command)
 }
 
-/// The options that each subcommand has, and its files.
+/// The clock that times are shown by.
+#[inline(never)]
+fn with_clock<'a>(alloc: Global, command: Made<'a>, east: &'a str, west: &'a str) -> Made<'a>
+    ensures { (app : App) → IfOk command.entry (IsCommand app) → IfOk result (IsCommand (with_clock app)) }
+{
+    let command = with(command, minutes(alloc, "east", east));
+    let command = with(command, minutes(alloc, "west", west));
+    with(command, zone(alloc))
+}
+
+/// The options that each report has, and its files.
 #[inline(never)]
 fn with_options<'a>(alloc: Global, command: Made<'a>, files: Arg<'a>) -> Made<'a>
     ensures { (app : App) (rule : Rule) → IfOk command.entry (IsCommand app) → rule_of files.entry ≡ rule
         → files.entry.global ≡ false → IfOk result (IsCommand (with_files rule app)) }
 {
     let command = with(command, feeders(alloc));
-    let command = with(
+    let command = with_clock(
+        alloc,
         command,
-        minutes(
-            alloc,
-            "east",
-            "Show times, cut days and read moments M minutes east of UTC, 0 to 1439; 60 for +0100",
-        ),
+        "Show times, cut days and read moments M minutes east of UTC, 0 to 1439; 60 for +0100",
+        "Show times, cut days and read moments M minutes west of UTC, 0 to 1439; 300 for -0500",
     );
-    let command = with(
-        command,
-        minutes(
-            alloc,
-            "west",
-            "Show times, cut days and read moments M minutes west of UTC, 0 to 1439; 300 for -0500",
-        ),
-    );
-    let command = with(command, zone(alloc));
     with(command, files)
 }
 

@@ -2,7 +2,7 @@
 ghost use Rattle.std.specs.Prelude.{◌≡◌};
 ghost use Rattle.tally_line.specs.declared.line.LineFault.TheVariants.{Memory};
 
-use crate::job::Job;
+use crate::job::{Form, Job};
 use crate::times::Times;
 use std::alloc::{AllocError, AllocFailed};
 use tally_records::Kind;
@@ -34,6 +34,20 @@ pub struct FilesAsked {
     pub paths: bool,
 }
 
+/// Files to be checked, and how what is found of them is written.
+#[derive(Debug, Drop)]
+pub struct Check {
+    pub form: Form,
+    /// `--paths`: whether a row of the table that has the number of a file has its path, too.
+    pub paths: bool,
+    /// Minutes east of UTC.
+    pub offset: i32,
+    /// The word that names the zone, as it was given.
+    pub zone: Option<String>,
+    /// The path of each file.
+    pub files: Vec<String>,
+}
+
 /// What a command line asks for.
 #[derive(Debug, Drop)]
 pub enum Line {
@@ -46,6 +60,8 @@ pub enum Line {
         zone: Option<String>,
         files: Vec<FileArg>,
     },
+    /// A check of files, each of any kind.
+    Check(Check),
     /// The text of a request for help.
     Help {
         text: String,

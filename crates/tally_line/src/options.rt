@@ -123,7 +123,7 @@ fn form_of(report: Report, matches: &ArgMatches<'_>) -> Form
 
 /// The form that the flag asks for.
 #[tactic(auto, using(crate::proofs::LineLemmas::flag_in_rows))]
-fn form_by(matches: &ArgMatches<'_>) -> Form
+pub(crate) fn form_by(matches: &ArgMatches<'_>) -> Form
     ensures { IsFormOf (rows_of (found_of matches.now)) result }
 {
     if matches.get_flag("csv") {
@@ -134,7 +134,7 @@ fn form_by(matches: &ArgMatches<'_>) -> Form
 }
 
 /// Minutes east of UTC.
-fn offset_of(matches: &ArgMatches<'_>) -> i32
+pub(crate) fn offset_of(matches: &ArgMatches<'_>) -> i32
     ensures low { (pos 0 -ℤ pos 1439) ≤ℤ result }
     ensures high { result ≤ℤ pos 1439 }
     ensures value { IsOffsetOf (rows_of (found_of matches.now)) result }

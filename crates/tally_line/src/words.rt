@@ -3,9 +3,10 @@ ghost use Rattle.std.specs.Prelude.{◌≡◌, [], Some, IfErr, IfNone, IfOk, If
 ghost use Rattle.clap.specs.Words.{found_of, rows_of, subcommand_rows_of};
 ghost use Rattle.tally_line.specs.FileWords.{NamesFiles};
 ghost use Rattle.tally_line.specs.Lines.{Answers, AreSound, HasNoWord, Refuses, file_words, met_in, words_in};
-ghost use Rattle.tally_line.specs.inside.LineSteps.{IsComplete, IsFaultOf, IsFileFault, IsLineOf};
+ghost use Rattle.tally_line.specs.inside.LineSteps.{AsksReport, IsComplete, IsFaultOf, IsFileFault, IsLineOf};
 
 use crate::apart::{files_asked, mistake_in_paths};
+use crate::check::check_of;
 use crate::command;
 use crate::files::files_of;
 use crate::job::Report;
@@ -68,7 +69,7 @@ fn word_under<'a>(matches: &ArgMatches<'a>, index: usize) -> &'a str
     }
 }
 
-/// The run that the matches of a whole command line ask for.
+/// What the matches of a whole command line ask for.
 #[inline(never)]
 fn run_of(alloc: Global, matches: &ArgMatches<'_>) -> Result<Line, LineFault>
     requires { IsComplete (subcommand_rows_of matches.now) }
@@ -81,7 +82,7 @@ fn run_of(alloc: Global, matches: &ArgMatches<'_>) -> Result<Line, LineFault>
     }
 }
 
-/// The run that a subcommand asks for.
+/// What a subcommand asks for.
 fn run_under(alloc: Global, name: &str, matches: &ArgMatches<'_>) -> Result<Line, LineFault>
     requires { IsComplete (Some (name.now, rows_of (found_of matches.now))) }
     ensures ok { IfOk result (IsLineOf (Some (name.now, rows_of (found_of matches.now)))) }
@@ -91,6 +92,20 @@ fn run_under(alloc: Global, name: &str, matches: &ArgMatches<'_>) -> Result<Line
         let text = String::from_str(alloc, mistake)?;
         return Err(LineFault::Usage { text });
     }
+    match name {
+        "check" => Ok(Line::Check(check_of(alloc, matches)?)),
+        _ => report_under(alloc, name, matches),
+    }
+}
+
+/// The run that a report's subcommand asks for.
+fn report_under(alloc: Global, name: &str, matches: &ArgMatches<'_>) -> Result<Line, LineFault>
+    requires complete { IsComplete (Some (name.now, rows_of (found_of matches.now))) }
+    requires report { AsksReport (Some (name.now, rows_of (found_of matches.now))) }
+    requires sound { AreSound (rows_of (found_of matches.now)) }
+    ensures ok { IfOk result (IsLineOf (Some (name.now, rows_of (found_of matches.now)))) }
+    ensures err { IfErr result (IsFaultOf (Some (name.now, rows_of (found_of matches.now)))) }
+{
     let Some(report) = report_of(name, matches) else {
         unreachable!()
     };

@@ -1,12 +1,12 @@
 -- What each step answers to the words of a command line.
-use Rattle.std.specs.Prelude.{◌≡◌, ◌<◌, List, ⊤, length}
+use Rattle.std.specs.Prelude.{◌≡◌, ◌<◌, ◌⊎◌, List, ⊤, length}
 use Rattle.clap.specs.Words.{Text}
 use Rattle.clap.specs.declared.error.kind.ErrorKind.{ErrorKind}
 use Rattle.tally_line.specs.FileWords.{IsFirstBare}
 use Rattle.tally_line.specs.declared.job.Report.{Report}
 use Rattle.tally_line.specs.declared.line.Line.{Line}
 use Rattle.tally_line.specs.declared.line.LineFault.{LineFault}
-use Rattle.tally_line.specs.Lines.{Met, file_words, rows_met, AsksFor, AreSound, IsRunOf, IsShown}
+use Rattle.tally_line.specs.Lines.{Met, file_words, rows_met, AsksCheck, AsksFor, AreSound, IsCheckOf, IsRunOf, IsShown}
 use Rattle.tally_line.specs.declared.job.Report.TheVariants as report
 use Rattle.tally_line.specs.declared.line.Line.TheVariants as line
 use Rattle.tally_line.specs.declared.line.LineFault.TheVariants as fault
@@ -14,6 +14,7 @@ use Rattle.tally_line.specs.declared.line.LineFault.TheVariants as fault
 -- the answer to matches
 abbrev pub IsLineOf : Met → Line → Type 0
 IsLineOf met (line.Run job times usage apart zone files) = IsRunOf met job times usage apart zone files.items
+IsLineOf met (line.Check check) = IsCheckOf met check
 IsLineOf met (line.Help text) = ⊥
 
 -- why complete matches are refused
@@ -31,6 +32,7 @@ IsFileFault r words (fault.Prefix index) = (r ≡ report.All) × IsFirstBare wor
 -- the answer where `clap` ends the words with a kind
 abbrev pub IsHelpFor : ErrorKind → Line → Type 0
 IsHelpFor k (line.Run job times usage apart _ files) = ⊥
+IsHelpFor k (line.Check check) = ⊥
 IsHelpFor k (line.Help text) = IsShown k
 
 -- why there is none then
@@ -45,7 +47,15 @@ IsMemoryOrUsage fault.Memory = ⊤
 IsMemoryOrUsage (fault.Usage text) = ⊤
 IsMemoryOrUsage (fault.Prefix index) = ⊥
 
--- the matches name a report, and a file where that is of all
+-- the matches are of a report
+abbrev pub AsksReport : Met → Type 0
+AsksReport met = (r : Report) × AsksFor r met
+
+-- the matches are of a subcommand that has no file where none is named
+abbrev pub WantsFile : Met → Type 0
+WantsFile met = AsksFor report.All met ⊎ AsksCheck met
+
+-- the matches are of a report or of `check`, and name a file where one is wanted
 pub record IsComplete (met : Met) : Type 0 where
-  pub named : (r : Report) × AsksFor r met
-  pub file : AsksFor report.All met → 0 < length (file_words met)
+  pub named : AsksReport met ⊎ AsksCheck met
+  pub file : WantsFile met → 0 < length (file_words met)

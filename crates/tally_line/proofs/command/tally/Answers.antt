@@ -8,4 +8,5 @@ returns c =
     let with_attempts = c.with_under-command-2.ensures _ _ with_last c.attempts.ensures in
     let with_connect = c.with_under-command-3.ensures _ _ with_attempts c.connect.ensures in
     let with_usage = c.with_under-command-4.ensures _ _ with_connect c.usage.ensures in
-    c.with_under.ensures _ _ with_usage c.all.ensures
+    let with_all = c.with_under-command-5.ensures _ _ with_usage c.all.ensures in
+    c.with_under.ensures _ _ with_all c.check.ensures
