@@ -31,6 +31,7 @@ pub(crate) fn check_of(alloc: Global, matches: &ArgMatches<'_>) -> Result<Check,
 }
 
 /// The words of files, each of which is a path.
+#[tactic(auto, using(crate::proofs::LineLemmas::some_file_words, crate::proofs::LineLemmas::no_file_words))]
 fn paths_in(alloc: Global, matches: &ArgMatches<'_>) -> Result<Vec<String>, AllocError>
     ensures { IfOk result (λ files. map string_bytes files.items ≡ words_in (rows_of (found_of matches.now))) }
 {
