@@ -60,12 +60,19 @@ pub(crate) fn hinted_not_opened<R: Files + Eprint>(rt: &R, to: ErrorsTo, path: &
 where
     R::File: Drop,
 {
-    let shown = Shown::new(path, to);
-    let status = not_opened(rt, shown);
-    if let ErrorsTo::Terminal = to {
-        hint(rt, shown, about_unread(rt, path));
-    }
+    let status = not_opened(rt, Shown::new(path, to));
+    hint_unread(rt, to, path);
     status
+}
+
+/// Prints on a terminal why a file could not be read, where the system says it.
+pub(crate) fn hint_unread<R: Files + Eprint>(rt: &R, to: ErrorsTo, path: &str)
+where
+    R::File: Drop,
+{
+    if let ErrorsTo::Terminal = to {
+        hint(rt, Shown::new(path, to), about_unread(rt, path));
+    }
 }
 
 /// Prints a hint on a file that was read as one of logins, where it seems to have failed logins.

@@ -130,7 +130,7 @@ where
     let Some(opened) = open(rt, path) else {
         return Err(OpenFault::NotOpened(path));
     };
-    let followed = Followed::new(opened, progress, file.kind, path);
+    let followed = Followed::new(opened, progress, Some(file.kind), path);
     Ok(Source {
         kind: file.kind,
         input: Reading::new(followed),

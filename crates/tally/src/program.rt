@@ -2,6 +2,7 @@
 ghost use Rattle.tally_line.specs.Jobs.{IsRunnable, TakesUntil};
 
 use crate::asked::Asked;
+use crate::check::hold_and_check;
 use crate::faults::{FAULT, REFUSED, fault, file_fault, times_fault, usage};
 use crate::now::now_for;
 use crate::reporting::hold_and_report;
@@ -60,6 +61,7 @@ where
             zone.as_ref(),
             files.as_slice(),
         ),
+        Ok(Line::Check(asked)) => hold_and_check(rt, to, &asked),
         Ok(Line::Help { text }) => help(rt, text.as_str()),
         Err(LineFault::Memory) => fault(rt, FAULT, Memory),
         Err(LineFault::Usage { text }) => refused(rt, to, words.as_slice(), text.as_str()),

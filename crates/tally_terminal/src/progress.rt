@@ -89,11 +89,11 @@ impl<'a, R: Clock + Eprint> Progress<'a, R> {
     }
 }
 
-/// How much was read of a file of records of a kind.
+/// How much was read of a file, of records of a kind or of any.
 #[derive(Clone, Copy)]
 struct Line<'a> {
     path: &'a str,
-    kind: Kind,
+    kind: Option<Kind>,
     bytes: u64,
 }
 
@@ -116,8 +116,11 @@ impl Display for Line<'_> {
         for byte in &path[left_out..] {
             f.write_char(printed(*byte) as char)?;
         }
-        let records = self.bytes / size_of(self.kind);
-        write!(f, ": {} bytes, {} records", self.bytes, records)
+        write!(f, ": {} bytes", self.bytes)?;
+        let Some(kind) = self.kind else {
+            return Ok(());
+        };
+        write!(f, ", {} records", self.bytes / size_of(kind))
     }
 }
 
@@ -130,8 +133,13 @@ pub struct Followed<'a, R, F: Read + Drop> {
 }
 
 impl<'a, R: Clock + Eprint, F: Read + Drop> Followed<'a, R, F> {
-    /// A file of which nothing was read.
-    pub fn new(file: F, progress: &Progress<'a, R>, kind: Kind, path: &'a str) -> Followed<'a, R, F>
+    /// A file of which nothing was read, of records of a kind or of any.
+    pub fn new(
+        file: F,
+        progress: &Progress<'a, R>,
+        kind: Option<Kind>,
+        path: &'a str,
+    ) -> Followed<'a, R, F>
         ensures file { result.file ≡ file }
         ensures bytes { result.line.bytes ≡ 0 }
         ensures due { result.progress.due ≡ progress.now.due }

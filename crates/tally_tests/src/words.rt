@@ -64,6 +64,7 @@ fn print_read<R: Print + AllocGlobal>(
                 files,
             },
         ) => stop(println!(rt; "words: {} files, {} feeders", files.len(), job.feeders)),
+        Ok(Line::Check(check)) => stop(println!(rt; "words: {} files to check", check.files.len())),
         Ok(Line::Help { text: _ }) => stop(println!(rt; "words: help")),
         Err(LineFault::Usage { text: _ }) => stop(println!(rt; "words: refused")),
         Err(LineFault::Prefix { index }) => print_prefix(rt, words, *index),

@@ -1,0 +1,21 @@
+-- What a check prints.
+use Rattle.std.specs.Prelude.{ℕ, ℤ, Bool, List, [], ◌∷◌, ◌++◌, None, Some, codes, nat_lt, if◌then◌else◌}
+use Rattle.tally_check.specs.declared.findings.Findings.{Findings}
+use Rattle.tally_check_text.specs.CheckTable.{check_header, check_row}
+use Rattle.tally_check_text.specs.SectionText.{section_text}
+use Rattle.tally_line.specs.declared.job.Form.{Form}
+use Rattle.tally_line.specs.declared.job.Form.TheVariants.{Csv, Text}
+use Rattle.tally_print.specs.FileColumns.{file_columns}
+use Rattle.tally_print.specs.Tables.{csv_text}
+
+-- before what is found of the first file: the names of the columns of a table
+abbrev pub head_text : Form → Bool → List ℕ
+head_text Csv paths = csv_text (check_header paths ∷ [])
+head_text Text paths = []
+
+-- what is found of a file by its number and its path: a row of the table, or a section, after an empty line where it is not the first
+abbrev pub found_text : Form → Bool → (ℤ → ℤ) → ℕ → List ℕ → Findings → List ℕ
+found_text Csv paths clock number path found =
+    csv_text (check_row clock (file_columns number (if paths then Some path else None)) found ∷ [])
+found_text Text paths clock number path found =
+    (if nat_lt 1 number then codes "\n" else []) ++ section_text clock path found

@@ -1,0 +1,228 @@
+//! The check of files before a report of them is believed.
+ghost use Rattle.std.specs.Prelude.{◌≡◌, ◌++◌, OnOk};
+ghost use Rattle.tally.specs.Checks.{found_text, head_text};
+ghost use Rattle.tally_sessions.specs.Days.{IsOffset, local};
+
+use crate::asked::clock_for;
+use crate::faults::{FAULT, fault, file_fault, not_opened};
+use crate::hints::{hint_unread, hinted_not_opened};
+use crate::opened::{ROOT, hold_closed_streams, open};
+use std::alloc::AllocError;
+use std::hash::RandomState;
+use std::io::{self, Write};
+use std::os::fd::AsRawFd;
+use std::process::ExitCode;
+use std::random::RandomSource;
+use std::rt::{Clock as MachineClock, Files};
+use tally_check::{CheckFault, Findings, check};
+use tally_check_text::{push_header, push_row, push_section};
+use tally_cli::RunFault;
+use tally_clock::Clock;
+use tally_line::{Check, Form};
+use tally_print::FileColumns;
+use tally_records::Memory;
+use tally_terminal::{ErrorsTo, Followed, Progress, Shown, Watched};
+
+/// The status where something is doubtful.
+const DOUBTFUL: u8 = 3;
+
+/// Why a file was not checked.
+enum NotChecked {
+    NotOpened,
+    Fault(CheckFault),
+}
+
+/// What is found of the file of a path.
+fn check_path<R>(
+    rt: &R,
+    progress: &Progress<'_, R>,
+    keys: RandomState,
+    path: &str,
+) -> Result<Findings, NotChecked>
+where
+    R: Files + Input + Eprint + MachineClock + AllocGlobal,
+    R::File: Drop,
+    R::Reader: Drop,
+{
+    let Some(opened) = open(rt, path) else {
+        return Err(NotChecked::NotOpened);
+    };
+    let followed = Followed::new(opened, progress, None, path);
+    match check(rt.alloc(), keys, followed) {
+        Ok(findings) => Ok(findings),
+        Err(found) => Err(NotChecked::Fault(found)),
+    }
+}
+
+/// Prints why a file was not checked.
+fn not_checked<R: Files + Eprint>(rt: &R, to: ErrorsTo, path: &str, found: NotChecked) -> ExitCode
+where
+    R::File: Drop,
+{
+    let shown = Shown::new(path, to);
+    match found {
+        NotChecked::NotOpened => hinted_not_opened(rt, to, path),
+        NotChecked::Fault(CheckFault::Memory) => fault(rt, FAULT, Memory),
+        NotChecked::Fault(CheckFault::Read) => {
+            let status = file_fault(rt, FAULT, shown, CheckFault::Read);
+            hint_unread(rt, to, path);
+            status
+        }
+        NotChecked::Fault(found) => file_fault(rt, FAULT, shown, found),
+    }
+}
+
+/// The text before what is found of the first file.
+fn push_head(text: &mut Vec<u8>, asked: &Check) -> Result<(), AllocError>
+    ensures { OnOk result (text.new.items ≡ text.old.items ++ head_text asked.now.form asked.now.paths) }
+{
+    match asked.form {
+        Form::Csv => push_header(text, asked.paths),
+        Form::Text => Ok(()),
+    }
+}
+
+/// Appends what is found of the file of a path: its row, or its section, after an empty line where it is not the first.
+fn push_found(
+    text: &mut Vec<u8>,
+    asked: &Check,
+    clock: &Clock,
+    number: u32,
+    path: &str,
+    findings: &Findings,
+) -> Result<(), AllocError>
+    requires { IsOffset asked.now.offset }
+    ensures { OnOk result (text.new.items ≡ text.old.items
+        ++ found_text asked.now.form asked.now.paths (local clock.now asked.now.offset) number path.now findings.now) }
+{
+    match asked.form {
+        Form::Csv => {
+            let path = if asked.paths { Some(path) } else { None };
+            let file = FileColumns { number, path };
+            push_row(text, clock, file, findings, asked.offset)
+        }
+        Form::Text => {
+            if number > 1 {
+                text.push(b'\n')?;
+            }
+            push_section(text, clock, path, findings, asked.offset)
+        }
+    }
+}
+
+/// Checks the file of a path and appends what is found of it, and says whether it is doubtful.
+fn check_file<R>(
+    rt: &R,
+    to: ErrorsTo,
+    progress: &Progress<'_, R>,
+    keys: RandomState,
+    asked: &Check,
+    clock: &Clock,
+    number: u32,
+    path: &str,
+    text: &mut Vec<u8>,
+) -> Result<bool, ExitCode>
+where
+    R: Files + Input + Eprint + MachineClock + AllocGlobal,
+    R::File: Drop,
+    R::Reader: Drop,
+    requires { IsOffset asked.now.offset }
+{
+    let findings = match check_path(rt, progress, keys, path) {
+        Ok(findings) => findings,
+        Err(found) => {
+            progress.erase();
+            return Err(not_checked(rt, to, path, found));
+        }
+    };
+    match push_found(text, asked, clock, number, path, &findings) {
+        Ok(()) => Ok(findings.is_doubtful()),
+        Err(_) => {
+            progress.erase();
+            Err(fault(rt, FAULT, Memory))
+        }
+    }
+}
+
+/// Checks all files and appends what is found of them, and says whether one is doubtful.
+fn check_all<R>(
+    rt: &R,
+    to: ErrorsTo,
+    progress: &Progress<'_, R>,
+    keys: RandomState,
+    asked: &Check,
+    clock: &Clock,
+    text: &mut Vec<u8>,
+) -> Result<bool, ExitCode>
+where
+    R: Files + Input + Eprint + MachineClock + AllocGlobal,
+    R::File: Drop,
+    R::Reader: Drop,
+    requires { IsOffset asked.now.offset }
+{
+    if push_head(text, asked).is_err() {
+        return Err(fault(rt, FAULT, Memory));
+    }
+    let mut is_doubtful = false;
+    let mut number = 0u32;
+    for path in &asked.files {
+        number = number.wrapping_add(1);
+        let path = path.as_str();
+        let found = check_file(rt, to, progress, keys, asked, clock, number, path, text)?;
+        is_doubtful = is_doubtful || found;
+    }
+    Ok(is_doubtful)
+}
+
+/// Prints what was found. Where whoever read the output has gone, nothing is said of it.
+fn print_found<R>(rt: &R, progress: Progress<'_, R>, text: &[u8], is_doubtful: bool) -> ExitCode
+where
+    R: Print + Eprint + MachineClock,
+{
+    let mut out = Watched::new(io::writer(rt), progress);
+    match out.write_all(text) {
+        Ok(()) if is_doubtful => ExitCode::from(DOUBTFUL),
+        Ok(()) => ExitCode::SUCCESS,
+        Err(_) if out.is_reader_gone() => ExitCode::from(FAULT),
+        Err(_) => fault(rt, FAULT, RunFault::Write),
+    }
+}
+
+/// Checks the files, and prints what is found once all are read. It stays apart, so that help needs no stack for it.
+#[inline(never)]
+fn check_files<R>(rt: &R, to: ErrorsTo, asked: &Check) -> ExitCode
+where
+    R: Files + Input + Print + Eprint + MachineClock + AllocGlobal + RandomSource,
+    R::File: Drop,
+    R::Reader: Drop,
+    requires { IsOffset asked.now.offset }
+{
+    let keys = match RandomState::new(rt) {
+        Ok(keys) => keys,
+        Err(_) => return fault(rt, FAULT, "no random bytes"),
+    };
+    let clock = match clock_for(rt, to, asked.zone.as_ref()) {
+        Ok(clock) => clock,
+        Err(status) => return status,
+    };
+    let progress = Progress::new(rt, to);
+    let mut text = Vec::new(rt.alloc());
+    match check_all(rt, to, &progress, keys, asked, &clock, &mut text) {
+        Ok(is_doubtful) => print_found(rt, progress, text.as_slice(), is_doubtful),
+        Err(status) => status,
+    }
+}
+
+/// Checks with the closed standard streams held, so that no file takes the place of one.
+pub(crate) fn hold_and_check<R>(rt: &R, to: ErrorsTo, asked: &Check) -> ExitCode
+where
+    R: Files + Input + Print + Eprint + MachineClock + AllocGlobal + RandomSource,
+    R::File: AsRawFd + Drop,
+    R::Reader: Drop,
+    requires { IsOffset asked.now.offset }
+{
+    match hold_closed_streams(rt) {
+        Ok(_held) => check_files(rt, to, asked),
+        Err(_) => not_opened(rt, Shown::new(ROOT, to)),
+    }
+}
