@@ -1,0 +1,4 @@
+pub mod CivilLemmas
+pub mod FieldLemmas
+pub mod RowLemmas
+pub mod TypeLemmas
