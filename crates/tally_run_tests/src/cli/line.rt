@@ -2,6 +2,7 @@
 
 mod answers;
 mod attempts;
+mod check;
 mod files;
 mod moments;
 mod paths;
@@ -116,6 +117,7 @@ fn help_is_an_answer(rt: HostRuntime) {
 ac -h
 all --help f
 lastb -h
+check -h
 help
 help ac
 help lastb

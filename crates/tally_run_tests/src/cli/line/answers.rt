@@ -3,10 +3,20 @@
 use crate::cli::expect::{expect_that, made};
 use std::process::Abort;
 use tally_cli::{FileArg, Form, Job, Line, LineFault, Report, job_of};
-use tally_line::FilesAsked;
+use tally_line::{Check, FilesAsked};
 use tally_moments::Moment;
 use tally_records::{Kind, LoginChoice};
 use tally_usage::Order;
+
+/// A check that a command line is to ask for.
+#[derive(Clone, Copy)]
+pub(crate) struct Checked<'a> {
+    pub form: Form,
+    pub paths: bool,
+    pub offset: i32,
+    pub zone: Option<&'a str>,
+    pub files: &'a [&'a str],
+}
 
 /// What a command line is to ask for. A report has the default of each option but of those named.
 #[derive(Clone, Copy)]
@@ -35,6 +45,7 @@ pub(crate) enum Wanted<'a> {
     Zone(Option<&'a str>),
     /// Any report on these files, and no other.
     Files(&'a [(Kind, &'a str)]),
+    Check(Checked<'a>),
     Help,
     Usage,
     /// A refusal with this text.
@@ -152,6 +163,27 @@ fn is_run(
     }
 }
 
+fn are_paths(files: &[String], wanted: &[&str]) -> bool {
+    let mut same = files.len() == wanted.len();
+    for (path, wanted) in files.iter().zip(wanted) {
+        same = same && path.as_str() == *wanted;
+    }
+    same
+}
+
+fn is_check(check: &Check, wanted: Wanted<'_>) -> bool {
+    match wanted {
+        Wanted::Check(wanted) => {
+            check.form == wanted.form
+                && check.paths == wanted.paths
+                && check.offset == wanted.offset
+                && is_zone(&check.zone, wanted.zone)
+                && are_paths(check.files.as_slice(), wanted.files)
+        }
+        _ => false,
+    }
+}
+
 fn is_refusal(text: &str, wanted: Wanted<'_>) -> bool {
     match wanted {
         Wanted::Refused(said) => text == said,
@@ -171,6 +203,7 @@ fn is_wanted(answer: &Result<Line, LineFault>, wanted: Wanted<'_>) -> bool {
                 files,
             },
         ) => is_until(times.until, wanted) && is_run(job, *apart, zone, files.as_slice(), wanted),
+        Ok(Line::Check(check)) => is_check(check, wanted),
         Ok(Line::Help { .. }) => matches!(wanted, Wanted::Help),
         Err(LineFault::Usage { text }) => is_refusal(text.as_str(), wanted),
         Err(LineFault::Prefix { index }) => matches!(wanted, Wanted::Prefix(at) if at == *index),

@@ -35,6 +35,7 @@ fn paths_are_refused_where_a_row_has_no_file(rt: HostRuntime) {
     let rows = [
         ("last --paths f", Wanted::Refused(NO_TABLE)),
         ("lastb --paths f", Wanted::Refused(NO_TABLE)),
+        ("check --paths f", Wanted::Refused(NO_TABLE)),
         ("lastb --paths --sum f", Wanted::Refused(NO_TABLE)),
         ("lastb --csv --paths --sum f", Wanted::Refused(SUMS)),
         ("ac --paths f", Wanted::Refused(NO_FILES)),
