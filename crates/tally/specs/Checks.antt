@@ -13,9 +13,13 @@ abbrev pub head_text : Form → Bool → List ℕ
 head_text Csv paths = csv_text (check_header paths ∷ [])
 head_text Text paths = []
 
--- what is found of a file by its number and its path: a row of the table, or a section, after an empty line where it is not the first
-abbrev pub found_text : Form → Bool → (ℤ → ℤ) → ℕ → List ℕ → Findings → List ℕ
-found_text Csv paths clock number path found =
-    csv_text (check_row clock (file_columns number (if paths then Some path else None)) found ∷ [])
-found_text Text paths clock number path found =
-    (if nat_lt 1 number then codes "\n" else []) ++ section_text clock path found
+-- an empty line, unless a file is the first
+abbrev pub gap_text : ℕ → List ℕ
+gap_text number = if nat_lt 1 number then codes "\n" else []
+
+-- a text, and then what is found of a file by its number and its path: a row of the table, or a section, after an empty line where it is
+-- not the first
+abbrev pub with_found : Form → Bool → (ℤ → ℤ) → ℕ → List ℕ → Findings → List ℕ → List ℕ
+with_found Csv paths clock number path found text =
+    text ++ csv_text (check_row clock (file_columns number (if paths then Some path else None)) found ∷ [])
+with_found Text paths clock number path found text = (text ++ gap_text number) ++ section_text clock path found

@@ -1,6 +1,6 @@
 //! The check of files before a report of them is believed.
 ghost use Rattle.std.specs.Prelude.{◌≡◌, ◌++◌, OnOk};
-ghost use Rattle.tally.specs.Checks.{found_text, head_text};
+ghost use Rattle.tally.specs.Checks.{gap_text, head_text, with_found};
 ghost use Rattle.tally_sessions.specs.Days.{IsOffset, local};
 
 use crate::asked::clock_for;
@@ -9,17 +9,17 @@ use crate::hints::{hint_unread, hinted_not_opened};
 use crate::opened::{ROOT, hold_closed_streams, open};
 use std::alloc::AllocError;
 use std::hash::RandomState;
-use std::io::{self, Write};
+use std::io;
 use std::os::fd::AsRawFd;
 use std::process::ExitCode;
 use std::random::RandomSource;
 use std::rt::{Clock as MachineClock, Files};
 use tally_check::{CheckFault, Findings, check};
-use tally_check_text::{push_header, push_row, push_section};
+use tally_check_text::{print_text, push_header, push_row, push_section};
 use tally_cli::RunFault;
 use tally_clock::Clock;
 use tally_line::{Check, Form};
-use tally_print::FileColumns;
+use tally_print::{FileColumns, Writing};
 use tally_records::Memory;
 use tally_terminal::{ErrorsTo, Followed, Progress, Shown, Watched};
 
@@ -82,6 +82,16 @@ fn push_head(text: &mut Vec<u8>, asked: &Check) -> Result<(), AllocError>
     }
 }
 
+/// Appends an empty line, unless a file is the first.
+fn push_gap(text: &mut Vec<u8>, number: u32) -> Result<(), AllocError>
+    ensures { OnOk result (text.new.items ≡ text.old.items ++ gap_text number) }
+{
+    if number > 1 {
+        text.push(b'\n')?;
+    }
+    Ok(())
+}
+
 /// Appends what is found of the file of a path: its row, or its section, after an empty line where it is not the first.
 fn push_found(
     text: &mut Vec<u8>,
@@ -92,8 +102,8 @@ fn push_found(
     findings: &Findings,
 ) -> Result<(), AllocError>
     requires { IsOffset asked.now.offset }
-    ensures { OnOk result (text.new.items ≡ text.old.items
-        ++ found_text asked.now.form asked.now.paths (local clock.now asked.now.offset) number path.now findings.now) }
+    ensures { OnOk result (text.new.items
+        ≡ with_found asked.now.form asked.now.paths (local clock.now asked.now.offset) number path.now findings.now text.old.items) }
 {
     match asked.form {
         Form::Csv => {
@@ -102,9 +112,7 @@ fn push_found(
             push_row(text, clock, file, findings, asked.offset)
         }
         Form::Text => {
-            if number > 1 {
-                text.push(b'\n')?;
-            }
+            push_gap(text, number)?;
             push_section(text, clock, path, findings, asked.offset)
         }
     }
@@ -179,11 +187,11 @@ fn print_found<R>(rt: &R, progress: Progress<'_, R>, text: &[u8], is_doubtful: b
 where
     R: Print + Eprint + MachineClock,
 {
-    let mut out = Watched::new(io::writer(rt), progress);
-    match out.write_all(text) {
+    let mut out = Writing::new(Watched::new(io::writer(rt), progress));
+    match print_text(text, &mut out) {
         Ok(()) if is_doubtful => ExitCode::from(DOUBTFUL),
         Ok(()) => ExitCode::SUCCESS,
-        Err(_) if out.is_reader_gone() => ExitCode::from(FAULT),
+        Err(_) if out.writer().is_reader_gone() => ExitCode::from(FAULT),
         Err(_) => fault(rt, FAULT, RunFault::Write),
     }
 }
