@@ -1,5 +1,5 @@
 # The worked rows that `make test` runs are those whose needs are all listed here.
-ROWS = ac,ac -d,ac -f,ac -p,all,askers,by-file,choice,clock,csv,feeders,files,full-device,last,last -f,last -n,lastb,lastb --sum,lastb -f,lastb -n,moment,names,offset,paths,period,sa,sa -a,sa -m,sa -n,sa -r,uid,until,version3,zone
+ROWS = ac,ac -d,ac -f,ac -p,all,askers,by-file,check,choice,clock,csv,feeders,files,full-device,last,last -f,last -n,lastb,lastb --sum,lastb -f,lastb -n,moment,names,offset,paths,period,sa,sa -a,sa -m,sa -n,sa -r,uid,until,version3,zone
 PREFIX ?= /usr/local
 PROGRAM = crates/tally/out/tally
 INTO = $(DESTDIR)$(PREFIX)

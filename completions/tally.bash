@@ -37,7 +37,7 @@ _tally() {
     local word=${COMP_WORDS[COMP_CWORD]} before=${COMP_WORDS[COMP_CWORD - 1]} options=
     COMPREPLY=()
     if [ "$COMP_CWORD" -eq 1 ]; then
-        COMPREPLY=($(compgen -W 'last lastb ac sa all help -h --help -V --version' -- "$word"))
+        COMPREPLY=($(compgen -W 'last lastb ac sa all check help -h --help -V --version' -- "$word"))
         return
     fi
     case ${COMP_WORDS[1]} in
@@ -46,8 +46,9 @@ _tally() {
         ac) options='-d -p --user --line --from --to --in --until --by-file --csv --paths -f --feeders --east --west --zone -h --help' ;;
         sa) options='-a -m -n -r --uid --from --to --in --names --by-file --csv --paths --feeders --east --west --zone -h --help' ;;
         all) options='--askers --until --feeders --east --west --zone -h --help' ;;
+        check) options='--csv --paths --east --west --zone -h --help' ;;
         help)
-            COMPREPLY=($(compgen -W 'last lastb ac sa all help' -- "$word"))
+            COMPREPLY=($(compgen -W 'last lastb ac sa all check help' -- "$word"))
             return
             ;;
         *) return ;;

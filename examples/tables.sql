@@ -154,3 +154,23 @@ CREATE TABLE IF NOT EXISTS sa_user_names_by_file_paths (
   file INTEGER, path TEXT, uid INTEGER, name TEXT, calls INTEGER, real_ticks INTEGER, cpu_ticks INTEGER, io INTEGER,
   mem_cpu INTEGER
 );
+
+-- check --csv; what a file of its kind has not is an empty text
+CREATE TABLE IF NOT EXISTS "check" (
+  file INTEGER, kind TEXT, size INTEGER, records INTEGER, empty INTEGER, run_lvl INTEGER, boot_time INTEGER,
+  new_time INTEGER, old_time INTEGER, init_process INTEGER, login_process INTEGER, user_process INTEGER,
+  dead_process INTEGER, accounting INTEGER, version_2 INTEGER, version_3 INTEGER, first INTEGER, first_at TEXT,
+  last INTEGER, last_at TEXT, open INTEGER, open_seconds INTEGER, crashed INTEGER, crashed_seconds INTEGER, zeros INTEGER,
+  zeros_at_end INTEGER, first_zeros INTEGER, unknown INTEGER, first_unknown INTEGER, steps_back INTEGER,
+  greatest_step INTEGER, rest INTEGER, doubtful INTEGER
+);
+
+-- check --csv --paths
+CREATE TABLE IF NOT EXISTS check_paths (
+  file INTEGER, path TEXT, kind TEXT, size INTEGER, records INTEGER, empty INTEGER, run_lvl INTEGER, boot_time INTEGER,
+  new_time INTEGER, old_time INTEGER, init_process INTEGER, login_process INTEGER, user_process INTEGER,
+  dead_process INTEGER, accounting INTEGER, version_2 INTEGER, version_3 INTEGER, first INTEGER, first_at TEXT,
+  last INTEGER, last_at TEXT, open INTEGER, open_seconds INTEGER, crashed INTEGER, crashed_seconds INTEGER, zeros INTEGER,
+  zeros_at_end INTEGER, first_zeros INTEGER, unknown INTEGER, first_unknown INTEGER, steps_back INTEGER,
+  greatest_step INTEGER, rest INTEGER, doubtful INTEGER
+);

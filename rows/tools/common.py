@@ -8,7 +8,7 @@ HERE = os.path.dirname(os.path.abspath(__file__))
 
 # The folder of all rows, and those of the rows of one report or one purpose in it.
 TOP = os.path.dirname(HERE)
-ROOMS = ('ac', 'last', 'lastb', 'sa', 'all', 'faults', 'help', 'examples')
+ROOMS = ('ac', 'last', 'lastb', 'sa', 'all', 'check', 'faults', 'help', 'examples')
 
 
 def places():

@@ -15,6 +15,7 @@ import sys
 sys.dont_write_bytecode = True
 from attempt_rows import add_example as add_attempt_example, add_rows as add_attempt_rows
 from by_file_rows import add_rows as add_by_file_rows
+from check_rows import add_rows as add_check_rows
 from choice_faults import add_rows as add_choice_faults
 from choice_rows import add_rows as add_choice_rows
 from common import ROOMS, TOP
@@ -586,6 +587,10 @@ add_path_rows(row, lines, U, A)
 
 add_attempt_rows(row, lines, U)
 
+# --- checks of files
+
+add_check_rows(row, lines, U, A, A3)
+
 # --- files of an option
 
 add_file_rows(row, lines, U)
@@ -814,7 +819,7 @@ row('negative-count', 'last,last -n', 'A negative number is refused.', ['last', 
 
 def room(r):
     """The folder of rows in which a row stands: that of its report, where it has none of its own."""
-    if r['status'] != 0:
+    if r['status'] in (1, 2):
         return 'faults'
     if r['name'].startswith('example-'):
         return 'examples'
@@ -826,7 +831,7 @@ def room(r):
 README_HEAD = '''# Worked rows
 
 Each row is one run of the program: a folder with its input files, its words and what it must write. They stand by report, `ac/`, `last/`,
-`lastb/`, `sa/` and `all/`; apart from these the runs that end with a fault, `faults/`, those that ask for help, `help/`, and those that README and manual
+`lastb/`, `sa/`, `all/` and `check/`; apart from these the runs that end with a fault, `faults/`, those that ask for help, `help/`, and those that README and manual
 show, `examples/`. No two have one name.
 
     tools/run TALLY_BINARY                    every row
@@ -835,6 +840,7 @@ show, `examples/`. No two have one name.
     tools/run --list                          names and needs
     tools/refusals TALLY_BINARY NAME..        these rows, with each allocation, read, write and call for random bytes or the time refused in turn
     tools/fuzz TALLY_BINARY                   random files and words, beside the slow definitions of slow.py
+    tools/fuzz_check TALLY_BINARY             random files, whole and damaged, beside the slow definitions of slow_check.py
     tools/sizes TALLY_BINARY                  every report over files of many sizes, with ample memory
     tools/volume TALLY_BINARY                 `sa` over more records than a book holds, and the memory that it takes
     tools/thresholds TALLY_BINARY             users on days, and named users, over files at and over each size at which `ac` goes another way
@@ -859,7 +865,7 @@ In a folder:
 | `stdout_to` | a device that takes the place of standard output |
 | `closed` | the standard streams that are closed, by number |
 
-Needs: `ac`, `last`, `lastb`, `sa`, `all` are the subcommands, with `ac -d` and the like for flags; `offset` is
+Needs: `ac`, `last`, `lastb`, `sa`, `all`, `check` are the subcommands, with `ac -d` and the like for flags; `offset` is
 `--east` and `--west`; `clock` that clock changes move sessions; `files` several files; `feeders`, `askers`,
 `until`, `csv` and `zone` these options; `moment` that `--until` takes more than a number of seconds; `choice` reports on some users,
 some lines or a period; `uid` and `period` the same of `sa`, users by number; `names` the names of users from a file; `by-file` that `ac` and
