@@ -6,11 +6,10 @@ use Rattle.std.proofs.lemmas.List.Elements.{filter_map-append}
 use Rattle.std.proofs.lemmas.List.Sums.{count_by-le-length, fold-append, suffix_len-le-length}
 use Rattle.std.specs.List.{count_by, filter_map, position, position_or_len, prefix_len, suffix_len}
 use Rattle.std.specs.Option.{option_or}
-use Rattle.std.specs.Prelude.{nat_lt, option_map, reverse}
-use Rattle.tally_check.specs.Counts.{counts_of, found_in, span_in, span_of, time_of, times_of, widened, zeros_in}
+use Rattle.std.specs.Prelude.{nat_lt, option_map}
+use Rattle.tally_check.specs.Counts.{counts_of, span_in, span_of, time_of, times_of, widened}
 use Rattle.tally_check.specs.Findings.{types_in}
 use Rattle.tally_check.specs.Seen.{is_of_kind, is_unknown, is_zeros}
-use Rattle.tally_check.specs.declared.counts.Found.{Found}
 use Rattle.tally_check.specs.declared.counts.Span.{Span}
 use Rattle.tally_check.specs.declared.seen.Seen.{Seen}
 use Rattle.tally_check.specs.declared.seen.Seen.TheVariants.{Zeros, Unknown, Known}

@@ -1,5 +1,5 @@
 -- What was counted of a file's bytes is what is found of them.
-use Rattle.std.proofs.Common.{◌≡◌, ◌∙◌, ℕ, ◌%◌, ◌<◌, ◌≤◌, Bool, true, false, cond, List, [], ◌++◌, inl, inr, Option, Some, None, IfSome, length, take, ap, sym, refl, subst, arith, append-nil, length-take-le}
+use Rattle.std.proofs.Common.{◌≡◌, ◌∙◌, ℕ, ◌%◌, ◌<◌, ◌≤◌, true, cond, List, ◌++◌, inl, inr, Option, Some, None, Result, Ok, Err, IfErr, IfSome, length, take, ap, sym, refl, subst, arith, append-nil, length-take-le}
 use Rattle.std.proofs.Math.Seq.{take-append_seam}
 use Rattle.std.proofs.lemmas.Bool.{cases_lt}
 use Rattle.std.proofs.lemmas.List.{take_all}
@@ -7,13 +7,11 @@ use Rattle.std.specs.Io.KnownBytes.{Consumes, IsAtEnd, prepend_known}
 use Rattle.std.specs.Fmt.{option_append}
 use Rattle.std.specs.Prelude.{nat_lt}
 use Rattle.tally_check.specs.Findings.{content_of, findings_of, logins_found, procs_found}
-use Rattle.tally_check.specs.Kinds.{IsCheckFault, damaged_kind, guess_of, has_logins, has_procs, kind_by, login_kind, most_bytes, most_of, too_many}
+use Rattle.tally_check.specs.Kinds.{IsCheckFault, damaged_kind, guess_of, has_logins, has_procs, kind_by, login_kind}
 use Rattle.tally_check.specs.Stays.{stays_among, weighed}
 use Rattle.tally_check.specs.declared.fault.CheckFault.{CheckFault}
 use Rattle.tally_check.specs.declared.fault.CheckFault.TheVariants.{Memory, Read, TooManyBytes, TooManyRecords}
-use Rattle.tally_check.specs.declared.findings.Content.{Content}
 use Rattle.tally_check.specs.declared.findings.Content.TheVariants as content
-use Rattle.tally_check.specs.declared.findings.Findings.{Findings}
 use Rattle.tally_check.specs.declared.findings.LoginFindings.{LoginFindings}
 use Rattle.tally_check.specs.declared.findings.ProcFindings.{ProcFindings}
 use Rattle.tally_check.specs.declared.kind.FileKind.{FileKind}
@@ -24,7 +22,7 @@ use Rattle.tally_check.specs.declared.notes.LoginNotes.{LoginNotes}
 use Rattle.tally_check.specs.declared.notes.ProcNotes.{ProcNotes}
 use Rattle.tally_check.specs.declared.tally.Tally.{Tally}
 use Rattle.tally_check.specs.inside.Endings.{content_counted, damaged_counted, found, kind_counted_by, logins_counted, procs_counted}
-use Rattle.tally_check.specs.inside.Reading.{IsStop, IsWhole}
+use Rattle.tally_check.specs.inside.Reading.{IsWhole}
 use Rattle.tally_check.specs.inside.Tallies.{IsTallyOf}
 use Rattle.tally_kinds.specs.Kinds.{looks_of}
 use Rattle.tally_kinds.specs.declared.kinds.Looks.{Looks}
@@ -115,3 +113,20 @@ front-is (Some ys) block n size within end = elim (cases_lt n 4096) [
       (let long : length (take n block) ≡ 4096 = omega (arith, full, size, within, length-take-le n block within) in
       sym (ap (λ (m : ℕ). take m (take n block ++ ys)) (sym long) ∙ take-append_seam (take n block) ys))
 ]
+
+pub full-is : (b : Option (List ℕ)) (block : List ℕ) → length block ≡ 4096 → IfSome (prepend_known block b) (λ bytes. block ≡ take 4096 bytes)
+full-is None block size = tt
+full-is (Some ys) block size = sym (ap (λ (m : ℕ). take m (block ++ ys)) (sym size) ∙ take-append_seam block ys)
+
+-- the fault of what is left after a front is that of the whole
+pub fault-whole : (a b : Option (List ℕ)) (front : List ℕ) (fault : CheckFault) → Consumes a b front → IsCheckFault (prepend_known front b) fault → IsCheckFault a fault
+fault-whole None b front Memory taken is = tt
+fault-whole None b front Read taken is = tt
+fault-whole None b front (TooManyRecords most) taken is = tt
+fault-whole None b front (TooManyBytes most) taken is = tt
+fault-whole (Some bytes) None front fault taken is = absurd taken
+fault-whole (Some bytes) (Some ys) front fault taken is = subst (λ (xs : List ℕ). IsCheckFault (Some xs) fault) (sym taken) is
+
+pub if_err : {T E : Type 0} {P Q : E → Type 0} (r : Result T E) → ((fault : E) → P fault → Q fault) → IfErr r P → IfErr r Q
+if_err (Ok value) f is = tt
+if_err (Err fault) f is = f fault is

@@ -1,15 +1,11 @@
 -- A file that is read by blocks.
-use Rattle.std.proofs.Common.{◌≡◌, ◌∙◌, ℕ, ◌+◌, ◌-◌, ◌*◌, ◌%◌, ◌<◌, ◌≤◌, Bool, true, false, List, [], ◌++◌, Option, Some, None, IfSome, length, take, drop, slice_range, ap, sym, refl, subst, arith, append-nil, length-take-le, drop_at}
+use Rattle.std.proofs.Common.{◌≡◌, ◌∙◌, ℕ, ◌+◌, ◌-◌, ◌%◌, ◌≤◌, Bool, true, false, List, [], ◌++◌, Option, Some, None, IfSome, length, take, slice_range, ap, sym, refl, arith, append-nil, length-take-le, drop_at}
 use Rattle.std.proofs.KnownBytes.{Consumes-trans}
-use Rattle.std.proofs.lemmas.List.{length-append}
 use Rattle.std.specs.Io.KnownBytes.{Consumes, IsAtEnd}
 use Rattle.tally_check.specs.Kinds.{most_bytes}
-use Rattle.tally_check.specs.declared.fault.CheckFault.{CheckFault}
-use Rattle.tally_check.specs.declared.fault.CheckFault.TheVariants.{Memory, Read, TooManyBytes, TooManyRecords}
-use Rattle.tally_check.specs.declared.kind.Guess.{Guess}
 use Rattle.tally_check.specs.declared.tally.Tally.{Tally}
 use Rattle.tally_check.specs.declared.tally.TheConstants.{BLOCK_SIZE}
-use Rattle.tally_check.specs.inside.Reading.{IsCounted, IsStop, IsStopAfter, IsWhole}
+use Rattle.tally_check.specs.inside.Reading.{IsCounted, IsWhole}
 use Rattle.tally_check.specs.inside.Tallies.{IsTallyOf}
 use Rattle.tally_sessions.specs.State.{State}
 use borrow.Rule.Slice.PartMut.{put_mid, post_of}

@@ -1,5 +1,5 @@
 -- What is counted of bytes, a block more.
-use Rattle.std.proofs.Common.{◌≡◌, ◌∙◌, ℕ, zero, suc, ◌+◌, ◌-◌, ◌*◌, ◌/◌, ◌%◌, ◌^◌, ◌<◌, ◌≤◌, Bool, true, List, [], ◌∷◌, ◌++◌, Result, Ok, Err, OnOk, length, take, drop, ap, sym, refl, subst, arith}
+use Rattle.std.proofs.Common.{◌≡◌, ◌∙◌, ℕ, zero, suc, ◌+◌, ◌-◌, ◌*◌, ◌/◌, ◌%◌, ◌≤◌, true, List, ◌∷◌, ◌++◌, Result, Ok, Err, OnOk, length, take, drop, ap, sym, refl, arith}
 use Rattle.std.proofs.Math.Nat.{suc-mul}
 use Rattle.std.proofs.Math.Seq.{drop-append_seam, take-append_seam}
 use Rattle.std.proofs.lemmas.List.{drop-drop, drop-take, length-append, length-map, map-append, take-take}
@@ -11,7 +11,6 @@ use Rattle.tally_check.specs.Logins.{good_login, logins_in}
 use Rattle.tally_check.specs.declared.kind.Guess.{Guess}
 use Rattle.tally_check.specs.declared.kind.Guess.TheVariants as guess
 use Rattle.tally_check.specs.declared.notes.LoginNotes.{LoginNotes}
-use Rattle.tally_check.specs.inside.Notes.{login_notes}
 use Rattle.tally_check.specs.inside.Tallies.{AreLoginsOf, IsKept, kept_of}
 use Rattle.tally_kinds.specs.Records.{records}
 use Rattle.tally_records.specs.declared.login.LoginRecord.{LoginRecord}

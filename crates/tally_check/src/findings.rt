@@ -14,7 +14,7 @@ use crate::steps::Steps;
 use crate::tally::{Tally, no_tally};
 use std::alloc::Global;
 use std::hash::RandomState;
-use std::io::Read;
+use std::io::{self, Read};
 use tally_kinds::{FRONT_SIZE, Looks};
 use tally_records::{LOGIN_SIZE, PROC_SIZE};
 use tally_sessions::{ENTRY_LIMIT, Sessions as Kept};
@@ -167,7 +167,10 @@ pub fn check<R: Read + Drop>(
 {
     let mut front = [0u8; FRONT_SIZE];
     let filled = fill(&mut reader, &mut front)?;
-    check_front(alloc, keys, &front[..filled], reader)
+    if filled < FRONT_SIZE {
+        return check_front(alloc, keys, &front[..filled], io::empty());
+    }
+    check_front(alloc, keys, &front, reader)
 }
 
 fn are_doubtful(counts: &Counts) -> bool

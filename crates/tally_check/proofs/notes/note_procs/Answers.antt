@@ -1,4 +1,4 @@
-use Rattle.std.proofs.Common.{◌≡◌, ◌∙◌, [], ap, arith}
+use Rattle.std.proofs.Common.{[], arith}
 use Rattle.tally_check.proofs.NoteLemmas.{proc-next, procs-so-far}
 use Rattle.tally_check.proofs.notes.note_procs.Goals as goal
 
