@@ -1,0 +1,5 @@
+//! Tests of what a check finds, as it is printed.
+#![tactic(auto)]
+
+#[cfg(test)]
+mod text;

@@ -1,0 +1,252 @@
+//! Sections and rows of findings, whose texts were worked out by hand.
+use std::alloc::{AllocError, Global};
+use std::process::Abort;
+use tally_check::{
+    Content, Counts, Findings, Found, LoginFindings, ProcFindings, Sessions, Span, Stayed, Steps,
+    Zeros,
+};
+use tally_check_text::{print_text, push_header, push_row, push_section};
+use tally_clock::Clock;
+use tally_kinds::Looks;
+use tally_print::{FileColumns, Kept};
+
+/// Nothing that is not normal.
+const SOUND: Counts = Counts {
+    records: 1,
+    zeros: Zeros {
+        all: Found {
+            count: 0,
+            first: None,
+        },
+        at_end: 0,
+    },
+    unknown: Found {
+        count: 0,
+        first: None,
+    },
+    span: None,
+};
+
+const NO_STAY: Stayed = Stayed {
+    count: 0,
+    seconds: 0,
+};
+
+/// A log with something of everything.
+fn night() -> Findings {
+    let counts = Counts {
+        records: 9,
+        zeros: Zeros {
+            all: Found {
+                count: 3,
+                first: Some(1),
+            },
+            at_end: 1,
+        },
+        unknown: Found {
+            count: 1,
+            first: Some(3),
+        },
+        span: Some(Span {
+            first: 1000,
+            last: 9600,
+        }),
+    };
+    let sessions = Sessions {
+        still_open: Stayed {
+            count: 1,
+            seconds: 3600,
+        },
+        crashed: Stayed {
+            count: 2,
+            seconds: 90_061,
+        },
+    };
+    Findings {
+        size: 3458,
+        content: Content::Logins(LoginFindings {
+            counts,
+            types: [0, 0, 1, 0, 0, 0, 1, 2, 1, 0],
+            steps: Steps {
+                count: 2,
+                greatest: 3600,
+            },
+            sessions,
+            rest: 2,
+        }),
+    }
+}
+
+/// A log of one record at some time.
+fn log_at(first: i64, last: i64) -> Findings {
+    let counts = Counts {
+        span: Some(Span { first, last }),
+        ..SOUND
+    };
+    Findings {
+        size: 384,
+        content: Content::Logins(LoginFindings {
+            counts,
+            types: [1, 0, 0, 0, 0, 0, 0, 0, 0, 0],
+            steps: Steps {
+                count: 0,
+                greatest: 0,
+            },
+            sessions: Sessions {
+                still_open: NO_STAY,
+                crashed: NO_STAY,
+            },
+            rest: 0,
+        }),
+    }
+}
+
+/// The latest process that there can be.
+fn process() -> Findings {
+    let last = 4_294_967_295;
+    let counts = Counts {
+        span: Some(Span { first: 0, last }),
+        ..SOUND
+    };
+    Findings {
+        size: 64,
+        content: Content::Processes(ProcFindings {
+            counts,
+            version_2: 0,
+            version_3: 1,
+            rest: 0,
+        }),
+    }
+}
+
+fn other(size: u64, looks: Looks) -> Findings {
+    Findings {
+        size,
+        content: Content::Other(looks),
+    }
+}
+
+/// Asserts that all of a text was appended; where a growth was refused, a first part of it.
+fn expect(rt: &impl Abort, appended: Result<(), AllocError>, text: Vec<u8>, wanted: &[u8]) {
+    if appended.is_ok() {
+        assert_eq!(rt; text.as_slice(), wanted);
+    } else {
+        assert!(rt; wanted.starts_with(text.as_slice()));
+    }
+    drop(text);
+}
+
+/// Asserts which section a file has, an hour east of UTC.
+fn expect_section(rt: &impl Abort, alloc: Global, path: &str, findings: &Findings, wanted: &[u8]) {
+    let utc = Clock::utc(alloc);
+    let mut text = Vec::new(alloc);
+    let appended = push_section(&mut text, &utc, path, findings, 60);
+    drop(utc);
+    expect(rt, appended, text, wanted);
+}
+
+#[test]
+fn a_section_names_each_thing_that_is_doubtful(rt: HostRuntime) {
+    let rt = &rt;
+    let wanted = b"\
+f?: login records
+size            3458
+records         9
+types           1 BOOT_TIME, 1 LOGIN_PROCESS, 2 USER_PROCESS, 1 DEAD_PROCESS
+first           1970-01-01 01:16:40
+last            1970-01-01 03:40:00
+span            2:23:20
+still open      1 session, 1:00:00
+ended by a boot 2 sessions, 25:01:01
+doubtful        2 records of zeros before other records: the first is record 1
+doubtful        1 record of zeros at the end: record 8
+doubtful        1 record of no known type: record 3
+doubtful        2 steps back in time without a clock change, 1:00:00 at most
+doubtful        2 bytes after the last whole record
+";
+    expect_section(rt, rt.alloc(), "f\t", &night(), wanted);
+}
+
+#[test]
+fn a_packed_file_is_named_as_a_shell_reads_it(rt: HostRuntime) {
+    let rt = &rt;
+    let alloc = rt.alloc();
+    let wanted = b"\
+-it's: packed by xz
+size            7
+doubtful        no records that are read: try xzcat ./'-it'\\''s' | tally check /dev/stdin
+";
+    expect_section(rt, alloc, "-it's", &other(7, Looks::Xz), wanted);
+    let wanted = b"f: empty\nsize            0\ndoubtful        nothing\n";
+    expect_section(rt, alloc, "f", &other(0, Looks::Nothing), wanted);
+}
+
+#[test]
+fn a_time_that_no_record_has_is_shown_as_the_nearest(rt: HostRuntime) {
+    let rt = &rt;
+    let wanted = b"\
+f: login records
+size            384
+records         1
+types           1 EMPTY
+first           1901-12-13 21:45:52
+last            2106-02-07 07:28:15
+span            5124095576030431:00:15
+still open      0 sessions
+ended by a boot 0 sessions
+doubtful        nothing
+";
+    expect_section(rt, rt.alloc(), "f", &log_at(i64::MIN, i64::MAX), wanted);
+}
+
+/// Asserts which row a file has, after the header, an hour east of UTC.
+fn expect_row(
+    rt: &impl Abort,
+    alloc: Global,
+    file: FileColumns<'_>,
+    findings: &Findings,
+    wanted: &[u8],
+) {
+    let utc = Clock::utc(alloc);
+    let mut text = Vec::new(alloc);
+    let mut appended = push_header(&mut text, file.path.is_some());
+    if appended.is_ok() {
+        appended = push_row(&mut text, &utc, file, findings, 60);
+    }
+    drop(utc);
+    expect(rt, appended, text, wanted);
+}
+
+#[test]
+fn rows_have_a_field_for_each_column(rt: HostRuntime) {
+    let rt = &rt;
+    let alloc = rt.alloc();
+    let named = FileColumns {
+        number: 2,
+        path: Some("a,\"b\x1B"),
+    };
+    let wanted = b"\
+file,path,kind,size,records,empty,run_lvl,boot_time,new_time,old_time,init_process,login_process,user_process,dead_process,accounting,version_2,version_3,first,first_at,last,last_at,open,open_seconds,crashed,crashed_seconds,zeros,zeros_at_end,first_zeros,unknown,first_unknown,steps_back,greatest_step,rest,doubtful
+2,\"a,\"\"b?\",login,3458,9,0,0,1,0,0,0,1,2,1,0,,,1000,1970-01-01T01:16:40+01:00,9600,1970-01-01T03:40:00+01:00,1,3600,2,90061,3,1,1,1,3,2,3600,2,1
+";
+    expect_row(rt, alloc, named, &night(), wanted);
+    let numbered = FileColumns {
+        number: 1,
+        path: None,
+    };
+    let wanted = b"\
+file,kind,size,records,empty,run_lvl,boot_time,new_time,old_time,init_process,login_process,user_process,dead_process,accounting,version_2,version_3,first,first_at,last,last_at,open,open_seconds,crashed,crashed_seconds,zeros,zeros_at_end,first_zeros,unknown,first_unknown,steps_back,greatest_step,rest,doubtful
+1,process,64,1,,,,,,,,,,,0,1,0,1970-01-01T01:00:00+01:00,4294967295,2106-02-07T07:28:15+01:00,,,,,0,0,,0,,,,0,0
+";
+    expect_row(rt, alloc, numbered, &process(), wanted);
+}
+
+#[test]
+fn a_text_is_printed_whole(rt: HostRuntime) {
+    let rt = &rt;
+    let mut out = Kept::new(rt.alloc());
+    if print_text(b"f: empty\n", &mut out).is_ok() {
+        assert_eq!(rt; out.bytes(), b"f: empty\n".as_slice());
+    }
+    drop(out);
+}
