@@ -221,6 +221,19 @@ def add_tables(checks, U, A3):
                ['--csv', '--west', '300'], {'csv': True, 'west': 300})
 
 
+def add_example(row, lines, example):
+    row('example-check-of-a-morning', 'check', 'What a log has: nothing is doubtful in it.', ['check', 'morning.wtmp'],
+        lines('morning.wtmp: login records', 'size            4608', 'records         12',
+              'types           2 RUN_LVL, 2 BOOT_TIME, 2 LOGIN_PROCESS, 4 USER_PROCESS, 2 DEAD_PROCESS',
+              'first           2026-03-02 07:55:00', 'last            2026-03-02 12:10:00', 'span            4:15:00', *NO_STAYS, NOTHING),
+        files={'morning.wtmp': example('morning.wtmp')})
+    row('example-check-of-a-torn-morning', 'check', 'The first 4,000 bytes of it: ten records, and a part of one.', ['check', '/dev/stdin'],
+        lines('/dev/stdin: login records', 'size            4000', 'records         10',
+              'types           2 RUN_LVL, 2 BOOT_TIME, 2 LOGIN_PROCESS, 3 USER_PROCESS, 1 DEAD_PROCESS',
+              'first           2026-03-02 07:55:00', 'last            2026-03-02 11:50:00', 'span            3:55:00', *NO_STAYS,
+              'doubtful        160 bytes after the last whole record'), status=3, stdin=example('morning.wtmp')[:4000])
+
+
 def add_refused(row, lines, U):
     row('check-of-a-file-that-is-not-there', 'check,files', 'Then nothing is printed of the others.', ['check', 'f', 'g'], '', lines('tally: g: cannot be opened'), 1,
         files={'f': night(U)})
@@ -231,6 +244,8 @@ def add_refused(row, lines, U):
     row('prefix-of-check', 'check', 'A file of check has no prefix: it is of any kind.', ['check', 'w:f'], '', lines('tally: w:f: cannot be opened'), 1, files={'f': b''})
     row('zone-and-offset-of-check', 'check,zone,offset', 'Local time is by one of them.', ['check', '--zone', 'UTC', '--east', '60', 'f'], '', TWO_CLOCKS, 2, files={'f': b''})
     row('paths-of-check-without-a-table', 'check,paths', 'The lines of a check are below the path of their file.', ['check', '--paths', 'f'], '', NO_TABLE, 2, files={'f': b''})
+    row('check-of-a-closed-input', 'check', 'No file stands in for it.', ['check', '/dev/stdin'], '', lines('tally: /dev/stdin: read failed'), 1, closed='0')
+    row('check-to-a-closed-output', 'check', 'Nor for a closed output.', ['check', 'f'], '', lines('tally: write failed'), 1, files={'f': b''}, closed='1')
     row('check-to-a-full-device', 'check,full-device', 'What could not be written is a fault.', ['check', 'f'], '', lines('tally: write failed'), 1,
         files={'f': b''}, stdout_to='/dev/full')
     row('help-of-check', 'check', 'Help goes to standard output, with status 0.', ['check', '--help'], None, '', 0)

@@ -56,6 +56,9 @@ REFUSED = (
     (('sa', 'processes', 'absent/p'), 'absent/p is not there'),
     (('sa', '-m', '--names', 'absent', 'processes'), 'absent is not there'),
     (('last', '.'), '. is a folder'),
+    (('check', 'absent'), 'absent is not there'),
+    (('check', '--csv', 'gzip', 'absent/p'), 'absent/p is not there'),
+    (('check', 'logins', '.'), '. is a folder'),
 )
 
 # Files that are read.
@@ -69,4 +72,11 @@ READ = (
     (('ac', 'zeros'), None),
     (('last', 'nothing'), None),
     (('sa', 'processes'), None),
+    (('check', 'logins', 'failed', 'processes', 'nothing'), None),
+)
+
+# Checks that find something doubtful say so on standard output alone.
+DOUBTFUL = (
+    (('check', 'gzip'), None),
+    (('check', 'savacct', 'torn'), None),
 )

@@ -15,7 +15,7 @@ import sys
 sys.dont_write_bytecode = True
 from attempt_rows import add_example as add_attempt_example, add_rows as add_attempt_rows
 from by_file_rows import add_rows as add_by_file_rows
-from check_rows import add_rows as add_check_rows
+from check_rows import add_example as add_check_example, add_rows as add_check_rows
 from choice_faults import add_rows as add_choice_faults
 from choice_rows import add_rows as add_choice_rows
 from common import ROOMS, TOP
@@ -696,6 +696,7 @@ row('example-users-of-a-build', 'sa,sa -m', 'The usage of each user of a small b
 add_usage_example(row, lines, example)
 add_people_example(row, lines, example)
 add_attempt_example(row, lines, example)
+add_check_example(row, lines, example)
 
 # --- CSV
 

@@ -7,7 +7,9 @@ import re
 import threading
 import time
 
-from hints import READ, REFUSED
+import slow_check
+from clocks import fixed
+from hints import DOUBTFUL, READ, REFUSED
 from kinds import KINDS
 from make import MAKE, ONE_HOUR, ONE_HOUR_LAST, SA_FORKED, SA_OTHER, SA_TOTAL, TOTAL_ONE, lines
 from places import other_user, same
@@ -64,6 +66,8 @@ def hints_on_a_terminal(place):
         hinted(place, words, hint, 1)
     for words, hint in READ:
         hinted(place, words, hint, 0)
+    for words, hint in DOUBTFUL:
+        hinted(place, words, hint, 3)
 
 
 def hint_on_a_path(place):
@@ -139,6 +143,18 @@ def followed_on_a_terminal(place):
         assert re.fullmatch(rb'(%s\?q{39}: %s)+%s' % (ERASE, read, ERASE), said), '%s: %r' % (words, said)
 
 
+def followed_check_on_a_terminal(place):
+    """A check, whose files may be of any kind, says how many bytes it has read."""
+    for raw in (ONE_HOUR, MAKE, KINDS['gzip']):
+        writer = pipe_of(place, 'slow', raw[:64], raw[64:])
+        done, said = place.on_terminal('check', 'slow')
+        writer.join()
+        os.remove(place.path('slow'))
+        wanted, is_doubtful = slow_check.section('slow', raw, fixed(0))
+        same((done.returncode, done.stdout), (3 if is_doubtful else 0, wanted.encode()))
+        assert re.fullmatch(rb'(%sslow: %d bytes)+%s' % (ERASE, len(raw), ERASE), said), said
+
+
 def followed_up_to_the_report(place):
     """The line is gone before the report is printed, and before a fault line."""
     for pieces, status, last in (((ONE_HOUR[:384], ONE_HOUR[384:]), 0, ONE),
@@ -162,5 +178,5 @@ def followed_nowhere_else(place):
 
 
 CASES = (path_on_a_terminal, faulty_file_on_a_terminal, refused_word_on_a_terminal, report_on_a_terminal, hints_on_a_terminal,
-         hint_on_a_path, no_hint_on_what_is_read_once, hint_on_a_file_of_another_user, followed_on_a_terminal, followed_up_to_the_report,
-         followed_nowhere_else)
+         hint_on_a_path, no_hint_on_what_is_read_once, hint_on_a_file_of_another_user, followed_on_a_terminal, followed_check_on_a_terminal,
+         followed_up_to_the_report, followed_nowhere_else)
