@@ -2,7 +2,7 @@
 ghost use Rattle.std.specs.Prelude.{◌≡◌, ◌<◌, []};
 ghost use Rattle.tally_check.specs.Counts as Spec;
 ghost use Rattle.tally_check.specs.inside.Notes as Inside;
-ghost use Rattle.tally_check.specs.inside.Spans as Inside_spans;
+ghost use Rattle.tally_check.specs.inside.Spans.{with_one};
 
 use crate::seen::{Seen, is_unknown, is_zeros};
 
@@ -105,7 +105,7 @@ fn widened(span: Option<Span>, time: i64) -> Span
 
 /// The span with the second that one record more names.
 fn with_one(span: Option<Span>, one: &Seen) -> Option<Span>
-    ensures { result ≡ Inside_spans.with_one span one.now }
+    ensures { result ≡ with_one span one.now }
 {
     match one {
         Seen::Known { time, .. } => Some(widened(span, *time)),

@@ -1,13 +1,13 @@
 //! The kind of a file, which may be damaged.
 ghost use Rattle.std.specs.Prelude.{◌≡◌};
 ghost use Rattle.tally_check.specs.Kinds as Spec;
-ghost use Rattle.tally_kinds.specs.Kinds as Of_looks;
+ghost use Rattle.tally_kinds.specs.Kinds.{looks_of};
 
 use crate::fault::CheckFault;
 use tally_kinds::{Looks, looks_like};
 
 /// What a file may be, as its front shows.
-#[derive(Clone, Copy, Debug, PartialEq, Eq)]
+#[derive(Clone, Copy)]
 pub(crate) enum Guess {
     /// Login records.
     Logins,
@@ -20,7 +20,7 @@ pub(crate) enum Guess {
 }
 
 /// The kinds of files.
-#[derive(Clone, Copy, Debug, PartialEq, Eq)]
+#[derive(Clone, Copy)]
 pub(crate) enum FileKind {
     Logins,
     Processes,
@@ -42,7 +42,7 @@ pub(crate) fn guess_of(front: &[u8]) -> Guess
 
 /// The kind of a file of this size that begins as login records do.
 pub(crate) fn login_kind(front: &[u8], size: u64) -> FileKind
-    ensures { result ≡ Spec.login_kind (Of_looks.looks_of front.now size) }
+    ensures { result ≡ Spec.login_kind (looks_of front.now size) }
 {
     match looks_like(front, size) {
         Looks::Logins400 => FileKind::Other(Looks::Logins400),

@@ -9,7 +9,7 @@ use crate::steps::{Walk, after_if, no_walk};
 use tally_records::{LOGIN_SIZE, PROC_SIZE};
 
 /// What is noted of login records.
-#[derive(Clone, Copy, Debug)]
+#[derive(Clone, Copy)]
 pub(crate) struct LoginNotes {
     pub counts: Counts,
     /// Those of a type other than 0.
@@ -20,7 +20,7 @@ pub(crate) struct LoginNotes {
 }
 
 /// What is noted of process records.
-#[derive(Clone, Copy, Debug)]
+#[derive(Clone, Copy)]
 pub(crate) struct ProcNotes {
     pub counts: Counts,
     /// Those of a version other than 0.

@@ -6,7 +6,7 @@ ghost use Rattle.tally_check.specs.Seen as Spec;
 use tally_records::{LOGIN_SIZE, LoginRecord, PROC_SIZE, read_proc};
 
 /// What is seen of a record.
-#[derive(Clone, Copy, Debug, PartialEq, Eq)]
+#[derive(Clone, Copy)]
 pub enum Seen {
     /// It is of zeros alone, as a crash leaves records that were never written.
     Zeros,

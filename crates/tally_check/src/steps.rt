@@ -16,7 +16,7 @@ pub struct Steps {
 }
 
 /// What is kept on a walk over login records.
-#[derive(Clone, Copy, Debug)]
+#[derive(Clone, Copy)]
 pub(crate) struct Walk {
     /// The time of the last record.
     last: Option<i32>,

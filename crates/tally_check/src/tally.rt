@@ -16,7 +16,7 @@ use tally_sessions::{ENTRY_LIMIT, Sessions};
 pub(crate) const BLOCK_SIZE: usize = 393_216;
 
 /// What is counted of a file, beside the sessions of its login records.
-#[derive(Clone, Copy, Debug)]
+#[derive(Clone, Copy)]
 pub(crate) struct Tally {
     /// What the file may be.
     pub guess: Guess,
