@@ -5,7 +5,7 @@ use tally_check::{
     Content, Counts, Findings, Found, LoginFindings, ProcFindings, Sessions, Span, Stayed, Steps,
     Zeros,
 };
-use tally_check_text::{print_text, push_header, push_row, push_section};
+use tally_check_text::{Origin, print_text, push_header, push_row, push_section};
 use tally_clock::Clock;
 use tally_kinds::Looks;
 use tally_print::{FileColumns, Kept};
@@ -101,6 +101,37 @@ fn log_at(first: i64, last: i64) -> Findings {
     }
 }
 
+/// The login record that was made of a database of one open session.
+fn made() -> Findings {
+    let time = 1000;
+    let counts = Counts {
+        span: Some(Span {
+            first: time,
+            last: time,
+        }),
+        ..SOUND
+    };
+    Findings {
+        size: 8192,
+        content: Content::Logins(LoginFindings {
+            counts,
+            types: [0, 0, 0, 0, 0, 0, 0, 1, 0, 0],
+            steps: Steps {
+                count: 0,
+                greatest: 0,
+            },
+            sessions: Sessions {
+                still_open: Stayed {
+                    count: 1,
+                    seconds: 0,
+                },
+                crashed: NO_STAY,
+            },
+            rest: 0,
+        }),
+    }
+}
+
 /// The latest process that there can be.
 fn process() -> Findings {
     let last = 4_294_967_295;
@@ -137,10 +168,17 @@ fn expect(rt: &impl Abort, appended: Result<(), AllocError>, text: Vec<u8>, want
 }
 
 /// Asserts which section a file has, an hour east of UTC.
-fn expect_section(rt: &impl Abort, alloc: Global, path: &str, findings: &Findings, wanted: &[u8]) {
+fn expect_section(
+    rt: &impl Abort,
+    alloc: Global,
+    path: &str,
+    origin: Origin<'_>,
+    findings: &Findings,
+    wanted: &[u8],
+) {
     let utc = Clock::utc(alloc);
     let mut text = Vec::new(alloc);
-    let appended = push_section(&mut text, &utc, path, findings, 60);
+    let appended = push_section(&mut text, &utc, path, origin, findings, 60);
     drop(utc);
     expect(rt, appended, text, wanted);
 }
@@ -164,7 +202,7 @@ doubtful        1 record of no known type: record 3
 doubtful        2 steps back in time without a clock change, 1:00:00 at most
 doubtful        2 bytes after the last whole record
 ";
-    expect_section(rt, rt.alloc(), "f\t", &night(), wanted);
+    expect_section(rt, rt.alloc(), "f\t", Origin::File, &night(), wanted);
 }
 
 #[test]
@@ -176,9 +214,11 @@ fn a_packed_file_is_named_as_a_shell_reads_it(rt: HostRuntime) {
 size            7
 doubtful        no records that are read: try xzcat ./'-it'\\''s' | tally check /dev/stdin
 ";
-    expect_section(rt, alloc, "-it's", &other(7, Looks::Xz), wanted);
+    let packed = other(7, Looks::Xz);
+    expect_section(rt, alloc, "-it's", Origin::File, &packed, wanted);
     let wanted = b"f: empty\nsize            0\ndoubtful        nothing\n";
-    expect_section(rt, alloc, "f", &other(0, Looks::Nothing), wanted);
+    let empty = other(0, Looks::Nothing);
+    expect_section(rt, alloc, "f", Origin::File, &empty, wanted);
 }
 
 #[test]
@@ -196,7 +236,39 @@ still open      0 sessions
 ended by a boot 0 sessions
 doubtful        nothing
 ";
-    expect_section(rt, rt.alloc(), "f", &log_at(i64::MIN, i64::MAX), wanted);
+    let log = log_at(i64::MIN, i64::MAX);
+    expect_section(rt, rt.alloc(), "f", Origin::File, &log, wanted);
+}
+
+#[test]
+fn a_database_has_the_login_records_made_of_it(rt: HostRuntime) {
+    let rt = &rt;
+    let wanted = b"\
+w.db: login records of a database
+size            8192
+records         1
+types           1 USER_PROCESS
+first           1970-01-01 01:16:40
+last            1970-01-01 01:16:40
+span            0:00:00
+still open      1 session, 0:00:00
+ended by a boot 0 sessions
+doubtful        nothing
+";
+    expect_section(rt, rt.alloc(), "w.db", Origin::Database, &made(), wanted);
+}
+
+#[test]
+fn a_database_without_login_records_says_why(rt: HostRuntime) {
+    let rt = &rt;
+    let wanted = b"\
+w.db: an SQLite database, as of wtmpdb
+size            1024
+doubtful        no records that are read: no table of wtmpdb
+";
+    let refused = Origin::Refused("no table of wtmpdb");
+    let database = other(1024, Looks::Sqlite);
+    expect_section(rt, rt.alloc(), "w.db", refused, &database, wanted);
 }
 
 /// Asserts which row a file has, after the header, an hour east of UTC.
@@ -204,6 +276,7 @@ fn expect_row(
     rt: &impl Abort,
     alloc: Global,
     file: FileColumns<'_>,
+    origin: Origin<'_>,
     findings: &Findings,
     wanted: &[u8],
 ) {
@@ -211,7 +284,7 @@ fn expect_row(
     let mut text = Vec::new(alloc);
     let mut appended = push_header(&mut text, file.path.is_some());
     if appended.is_ok() {
-        appended = push_row(&mut text, &utc, file, findings, 60);
+        appended = push_row(&mut text, &utc, file, origin, findings, 60);
     }
     drop(utc);
     expect(rt, appended, text, wanted);
@@ -229,7 +302,7 @@ fn rows_have_a_field_for_each_column(rt: HostRuntime) {
 file,path,kind,size,records,empty,run_lvl,boot_time,new_time,old_time,init_process,login_process,user_process,dead_process,accounting,version_2,version_3,first,first_at,last,last_at,open,open_seconds,crashed,crashed_seconds,zeros,zeros_at_end,first_zeros,unknown,first_unknown,steps_back,greatest_step,rest,doubtful
 2,\"a,\"\"b?\",login,3458,9,0,0,1,0,0,0,1,2,1,0,,,1000,1970-01-01T01:16:40+01:00,9600,1970-01-01T03:40:00+01:00,1,3600,2,90061,3,1,1,1,3,2,3600,2,1
 ";
-    expect_row(rt, alloc, named, &night(), wanted);
+    expect_row(rt, alloc, named, Origin::File, &night(), wanted);
     let numbered = FileColumns {
         number: 1,
         path: None,
@@ -238,7 +311,29 @@ file,path,kind,size,records,empty,run_lvl,boot_time,new_time,old_time,init_proce
 file,kind,size,records,empty,run_lvl,boot_time,new_time,old_time,init_process,login_process,user_process,dead_process,accounting,version_2,version_3,first,first_at,last,last_at,open,open_seconds,crashed,crashed_seconds,zeros,zeros_at_end,first_zeros,unknown,first_unknown,steps_back,greatest_step,rest,doubtful
 1,process,64,1,,,,,,,,,,,0,1,0,1970-01-01T01:00:00+01:00,4294967295,2106-02-07T07:28:15+01:00,,,,,0,0,,0,,,,0,0
 ";
-    expect_row(rt, alloc, numbered, &process(), wanted);
+    expect_row(rt, alloc, numbered, Origin::File, &process(), wanted);
+}
+
+#[test]
+fn rows_have_the_kind_of_a_database(rt: HostRuntime) {
+    let rt = &rt;
+    let alloc = rt.alloc();
+    let file = FileColumns {
+        number: 1,
+        path: None,
+    };
+    let wanted = b"\
+file,kind,size,records,empty,run_lvl,boot_time,new_time,old_time,init_process,login_process,user_process,dead_process,accounting,version_2,version_3,first,first_at,last,last_at,open,open_seconds,crashed,crashed_seconds,zeros,zeros_at_end,first_zeros,unknown,first_unknown,steps_back,greatest_step,rest,doubtful
+1,wtmpdb,8192,1,0,0,0,0,0,0,0,1,0,0,,,1000,1970-01-01T01:16:40+01:00,1000,1970-01-01T01:16:40+01:00,1,0,0,0,0,0,,0,,0,0,0,0
+";
+    expect_row(rt, alloc, file, Origin::Database, &made(), wanted);
+    let wanted = b"\
+file,kind,size,records,empty,run_lvl,boot_time,new_time,old_time,init_process,login_process,user_process,dead_process,accounting,version_2,version_3,first,first_at,last,last_at,open,open_seconds,crashed,crashed_seconds,zeros,zeros_at_end,first_zeros,unknown,first_unknown,steps_back,greatest_step,rest,doubtful
+1,sqlite,1024,,,,,,,,,,,,,,,,,,,,,,,,,,,,,,1
+";
+    let refused = Origin::Refused("no table of wtmpdb");
+    let database = other(1024, Looks::Sqlite);
+    expect_row(rt, alloc, file, refused, &database, wanted);
 }
 
 #[test]

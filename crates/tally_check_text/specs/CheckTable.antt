@@ -12,6 +12,7 @@ use Rattle.tally_check.specs.declared.findings.ProcFindings.{ProcFindings}
 use Rattle.tally_check.specs.declared.stays.Sessions.{Sessions}
 use Rattle.tally_check_text.specs.Kinds.{kind_word}
 use Rattle.tally_check_text.specs.Moments.{iso_moment}
+use Rattle.tally_check_text.specs.declared.origin.Origin.{Origin}
 use Rattle.tally_print.specs.FileColumns.{file_names}
 use Rattle.tally_print.specs.Tables.{Row}
 
@@ -86,16 +87,16 @@ content_fields clock (content.Other looks) = empty 29
 abbrev pub doubt_field : Content → List ℕ
 doubt_field content = decimal (if is_doubtful content then 1 else 0)
 
-abbrev pub kind_fields : Findings → Row
-kind_fields found = kind_word found.content ∷ decimal found.size ∷ []
+abbrev pub kind_fields : Origin → Findings → Row
+kind_fields origin found = kind_word origin found.content ∷ decimal found.size ∷ []
 
 -- the fields of a file but the last
-abbrev pub check_fields : (ℤ → ℤ) → Row → Findings → Row
-check_fields clock columns found = columns ++ kind_fields found ++ content_fields clock found.content
+abbrev pub check_fields : (ℤ → ℤ) → Row → Origin → Findings → Row
+check_fields clock columns origin found = columns ++ kind_fields origin found ++ content_fields clock found.content
 
--- the row of a file with these columns
-abbrev pub check_row : (ℤ → ℤ) → Row → Findings → Row
-check_row clock columns found = check_fields clock columns found ++ doubt_field found.content ∷ []
+-- the row of a file with these columns and records of an origin
+abbrev pub check_row : (ℤ → ℤ) → Row → Origin → Findings → Row
+check_row clock columns origin found = check_fields clock columns origin found ++ doubt_field found.content ∷ []
 
 -- the names of the columns, with that of the path where it is asked for
 abbrev pub check_header : Bool → Row

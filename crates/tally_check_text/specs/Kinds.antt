@@ -5,6 +5,8 @@ use Rattle.tally_check.specs.declared.findings.Content.{Content}
 use Rattle.tally_check.specs.declared.findings.Content.TheVariants as content
 use Rattle.tally_check.specs.declared.findings.LoginFindings.{LoginFindings}
 use Rattle.tally_check.specs.declared.findings.ProcFindings.{ProcFindings}
+use Rattle.tally_check_text.specs.declared.origin.Origin.{Origin}
+use Rattle.tally_check_text.specs.declared.origin.Origin.TheVariants as origin
 use Rattle.tally_kinds.specs.declared.kinds.Looks.{Looks}
 use Rattle.tally_kinds.specs.declared.kinds.Looks.TheVariants as looks
 
@@ -60,11 +62,17 @@ versions_name false false = codes "process records"
 abbrev pub procs_name : ProcFindings → List ℕ
 procs_name found = versions_name (nat_lt 0 found.version_2) (nat_lt 0 found.version_3)
 
--- what a file has
-abbrev pub kind_name : Content → List ℕ
-kind_name (content.Logins found) = logins_name found
-kind_name (content.Processes found) = procs_name found
-kind_name (content.Other looks) = other_name looks
+-- what a file has, by its bytes
+abbrev pub content_name : Content → List ℕ
+content_name (content.Logins found) = logins_name found
+content_name (content.Processes found) = procs_name found
+content_name (content.Other looks) = other_name looks
+
+-- what a file has; of records that were made of a database it is these, whatever their types
+abbrev pub kind_name : Origin → Content → List ℕ
+kind_name origin.File content = content_name content
+kind_name origin.Database content = codes "login records of a database"
+kind_name (origin.Refused why) content = content_name content
 
 abbrev pub looks_word : Looks → List ℕ
 looks_word looks.Nothing = codes "empty"
@@ -85,8 +93,14 @@ looks_word looks.Usracct = codes "usracct"
 looks_word looks.Text = codes "text"
 looks_word looks.Unknown = codes "unknown"
 
--- the same in one word
-abbrev pub kind_word : Content → List ℕ
-kind_word (content.Logins found) = codes "login"
-kind_word (content.Processes found) = codes "process"
-kind_word (content.Other looks) = looks_word looks
+-- what a file has, by its bytes, in one word
+abbrev pub content_word : Content → List ℕ
+content_word (content.Logins found) = codes "login"
+content_word (content.Processes found) = codes "process"
+content_word (content.Other looks) = looks_word looks
+
+-- what a file has, or what was made of it, in one word
+abbrev pub kind_word : Origin → Content → List ℕ
+kind_word origin.File content = content_word content
+kind_word origin.Database content = codes "wtmpdb"
+kind_word (origin.Refused why) content = content_word content

@@ -15,6 +15,8 @@ use Rattle.tally_check.specs.declared.steps.Steps.{Steps}
 use Rattle.tally_check_text.specs.Kinds.{kind_name, unpacker}
 use Rattle.tally_check_text.specs.Moments.{length_text, moment}
 use Rattle.tally_check_text.specs.Quoted.{quoted}
+use Rattle.tally_check_text.specs.declared.origin.Origin.{Origin}
+use Rattle.tally_check_text.specs.declared.origin.Origin.TheVariants as origin
 use Rattle.tally_kinds.specs.declared.kinds.Looks.{Looks}
 use Rattle.tally_kinds.specs.declared.kinds.Looks.TheVariants as looks
 use Rattle.tally_print.specs.Text.{shown}
@@ -140,15 +142,25 @@ abbrev pub remedy : List ℕ → Option (List ℕ) → List ℕ
 remedy path None = []
 remedy path (Some unpacker) = unpacking path unpacker
 
+-- why no login records were made of a database
+abbrev pub refusal : List ℕ → List ℕ
+refusal why = codes ": " ++ why
+
+-- why a database has no records that are read, or what reads a packed file
+abbrev pub reason : List ℕ → Origin → Looks → List ℕ
+reason path origin.File looks = remedy path (unpacker looks)
+reason path origin.Database looks = remedy path (unpacker looks)
+reason path (origin.Refused why) looks = refusal why.now
+
 abbrev pub is_nothing : Looks → Bool
 is_nothing looks.Nothing = true
 is_nothing other = false
 
 -- a file without records that are read; an empty one is not doubtful
-abbrev pub other_text : List ℕ → Looks → List ℕ
-other_text path looks =
+abbrev pub other_text : List ℕ → Origin → Looks → List ℕ
+other_text path origin looks =
     if is_nothing looks then []
-    else codes "doubtful        no records that are read" ++ remedy path (unpacker looks) ++ codes "\n"
+    else codes "doubtful        no records that are read" ++ reason path origin looks ++ codes "\n"
 
 -- ---- the section
 
@@ -181,19 +193,19 @@ proc_doubts found = zeros_text found.counts ++ no_version_text found.counts.unkn
 abbrev pub procs_text : (ℤ → ℤ) → ProcFindings → List ℕ
 procs_text clock found = proc_lines clock found ++ proc_doubts found
 
-abbrev pub content_text : (ℤ → ℤ) → List ℕ → Content → List ℕ
-content_text clock path (content.Logins found) = logins_text clock found
-content_text clock path (content.Processes found) = procs_text clock found
-content_text clock path (content.Other looks) = other_text path looks
+abbrev pub content_text : (ℤ → ℤ) → List ℕ → Origin → Content → List ℕ
+content_text clock path origin (content.Logins found) = logins_text clock found
+content_text clock path origin (content.Processes found) = procs_text clock found
+content_text clock path origin (content.Other looks) = other_text path origin looks
 
 -- that nothing is doubtful
 abbrev pub verdict_text : Content → List ℕ
 verdict_text content = if is_doubtful content then [] else codes "doubtful        nothing\n"
 
-abbrev pub head_text : List ℕ → Content → List ℕ
-head_text path content = shown path ++ codes ": " ++ kind_name content ++ codes "\n"
+abbrev pub head_text : List ℕ → Origin → Content → List ℕ
+head_text path origin content = shown path ++ codes ": " ++ kind_name origin content ++ codes "\n"
 
--- the section of the file of a path, with moments by a clock
-abbrev pub section_text : (ℤ → ℤ) → List ℕ → Findings → List ℕ
-section_text clock path found =
-    head_text path found.content ++ size_text found.size ++ content_text clock path found.content ++ verdict_text found.content
+-- the section of the file of a path, with records of an origin and moments by a clock
+abbrev pub section_text : (ℤ → ℤ) → List ℕ → Origin → Findings → List ℕ
+section_text clock path origin found =
+    head_text path origin found.content ++ size_text found.size ++ content_text clock path origin found.content ++ verdict_text found.content

@@ -6,6 +6,7 @@ ghost use Rattle.tally_check_text.specs.SectionText as Spec;
 use crate::kinds::unpacker;
 use crate::lines::push_number_of;
 use crate::numbers::{push_length, push_number};
+use crate::origin::Origin;
 use crate::paths::push_quoted;
 use std::alloc::AllocError;
 use tally_check::{Counts, Found, Steps};
@@ -187,6 +188,29 @@ fn push_remedy(text: &mut Vec<u8>, path: &[u8], looks: Looks) -> Result<(), Allo
     }
 }
 
+/// Appends why no login records were made of a database.
+fn push_refusal(text: &mut Vec<u8>, why: &str) -> Result<(), AllocError>
+    ensures { OnOk result (text.new.items ≡ text.old.items ++ Spec.refusal why.now) }
+{
+    text.extend_from_slice(b": ")?;
+    text.extend_from_slice(why.as_bytes())
+}
+
+/// Appends why a database has no records that are read, or what reads a packed file.
+fn push_reason(
+    text: &mut Vec<u8>,
+    path: &[u8],
+    origin: Origin<'_>,
+    looks: Looks,
+) -> Result<(), AllocError>
+    ensures { OnOk result (text.new.items ≡ text.old.items ++ Spec.reason path.now origin.entry looks) }
+{
+    match origin {
+        Origin::File | Origin::Database => push_remedy(text, path, looks),
+        Origin::Refused(why) => push_refusal(text, why),
+    }
+}
+
 fn is_nothing(looks: Looks) -> bool
     ensures { result ≡ Spec.is_nothing looks }
 {
@@ -194,14 +218,19 @@ fn is_nothing(looks: Looks) -> bool
 }
 
 /// Appends the line on a file without records that are read.
-pub(crate) fn push_other(text: &mut Vec<u8>, path: &[u8], looks: Looks) -> Result<(), AllocError>
-    ensures { OnOk result (text.new.items ≡ text.old.items ++ Spec.other_text path.now looks) }
+pub(crate) fn push_other(
+    text: &mut Vec<u8>,
+    path: &[u8],
+    origin: Origin<'_>,
+    looks: Looks,
+) -> Result<(), AllocError>
+    ensures { OnOk result (text.new.items ≡ text.old.items ++ Spec.other_text path.now origin.entry looks) }
 {
     if is_nothing(looks) {
         return Ok(());
     }
     text.extend_from_slice(b"doubtful        no records that are read")?;
-    push_remedy(text, path, looks)?;
+    push_reason(text, path, origin, looks)?;
     text.push(b'\n')?;
     Ok(())
 }

@@ -2,6 +2,7 @@
 ghost use Rattle.std.specs.Prelude.{◌≡◌, nat_lt, option_map};
 ghost use Rattle.tally_check_text.specs.Kinds as Spec;
 
+use crate::origin::Origin;
 use tally_check::{Content, LoginFindings, ProcFindings};
 use tally_kinds::Looks;
 
@@ -90,14 +91,24 @@ fn procs_name(found: &ProcFindings) -> &'static [u8]
     versions_name(found.version_2 > 0, found.version_3 > 0)
 }
 
-/// What a file has.
-pub(crate) fn kind_name(content: &Content) -> &'static [u8]
-    ensures { result.now ≡ Spec.kind_name content.now }
+/// What a file has, by its bytes.
+fn content_name(content: &Content) -> &'static [u8]
+    ensures { result.now ≡ Spec.content_name content.now }
 {
     match content {
         Content::Logins(found) => logins_name(found),
         Content::Processes(found) => procs_name(found),
         Content::Other(looks) => other_name(*looks),
+    }
+}
+
+/// What a file has, or what was made of it.
+pub(crate) fn kind_name(origin: Origin<'_>, content: &Content) -> &'static [u8]
+    ensures { result.now ≡ Spec.kind_name origin.entry content.now }
+{
+    match origin {
+        Origin::File | Origin::Refused(_) => content_name(content),
+        Origin::Database => b"login records of a database",
     }
 }
 
@@ -124,13 +135,23 @@ fn looks_word(looks: Looks) -> &'static [u8]
     }
 }
 
-/// The same in one word.
-pub(crate) fn kind_word(content: &Content) -> &'static [u8]
-    ensures { result.now ≡ Spec.kind_word content.now }
+/// What a file has, by its bytes, in one word.
+fn content_word(content: &Content) -> &'static [u8]
+    ensures { result.now ≡ Spec.content_word content.now }
 {
     match content {
         Content::Logins(_) => b"login",
         Content::Processes(_) => b"process",
         Content::Other(looks) => looks_word(*looks),
+    }
+}
+
+/// What a file has, or what was made of it, in one word.
+pub(crate) fn kind_word(origin: Origin<'_>, content: &Content) -> &'static [u8]
+    ensures { result.now ≡ Spec.kind_word origin.entry content.now }
+{
+    match origin {
+        Origin::File | Origin::Refused(_) => content_word(content),
+        Origin::Database => b"wtmpdb",
     }
 }

@@ -14,6 +14,7 @@ use crate::fields::{push_count, push_text};
 use crate::kinds::kind_word;
 use crate::local::Local;
 use crate::numbers::push_number;
+use crate::origin::Origin;
 use std::alloc::AllocError;
 use tally_check::{Content, Counts, Findings, LoginFindings, ProcFindings, Sessions, Span};
 use tally_clock::Clock;
@@ -218,10 +219,14 @@ fn push_content(text: &mut Vec<u8>, content: &Content, local: &Local<'_>) -> Res
 }
 
 /// Appends the kind of a file and its size.
-fn push_kind(text: &mut Vec<u8>, findings: &Findings) -> Result<(), AllocError>
-    ensures { OnOk result (text.new.items ≡ text.old.items ++ before_last (Spec.kind_fields findings.now)) }
+fn push_kind(
+    text: &mut Vec<u8>,
+    origin: Origin<'_>,
+    findings: &Findings,
+) -> Result<(), AllocError>
+    ensures { OnOk result (text.new.items ≡ text.old.items ++ before_last (Spec.kind_fields origin.entry findings.now)) }
 {
-    text.extend_from_slice(kind_word(&findings.content))?;
+    text.extend_from_slice(kind_word(origin, &findings.content))?;
     text.push(b',')?;
     push_count(text, findings.size)
 }
@@ -238,30 +243,32 @@ fn push_verdict(text: &mut Vec<u8>, findings: &Findings) -> Result<(), AllocErro
 fn push_all(
     text: &mut Vec<u8>,
     file: FileColumns<'_>,
+    origin: Origin<'_>,
     findings: &Findings,
     local: &Local<'_>,
 ) -> Result<(), AllocError>
     ensures { OnOk result (text.new.items
-        ≡ text.old.items ++ row_text default_writer (check_row (clock_of local.now) (columns_of file.entry) findings.now)) }
+        ≡ text.old.items ++ row_text default_writer (check_row (clock_of local.now) (columns_of file.entry) origin.entry findings.now)) }
 {
     push_file(text, file)?;
-    push_kind(text, findings)?;
+    push_kind(text, origin, findings)?;
     push_content(text, &findings.content, local)?;
     push_verdict(text, findings)
 }
 
-/// Appends the row of a file to a text, with moments by a clock and an offset in minutes east of it. It errs where memory runs out; a
-/// first part of the row may have joined the text then.
+/// Appends the row of a file to a text, with moments by a clock and an offset in minutes east of it. The findings are as those of a
+/// section. It errs where memory runs out; a first part of the row may have joined the text then.
 pub fn push_row(
     text: &mut Vec<u8>,
     clock: &Clock,
     file: FileColumns<'_>,
+    origin: Origin<'_>,
     findings: &Findings,
     offset: i32,
 ) -> Result<(), AllocError>
     requires { IsOffset offset }
     ensures { OnOk result (text.new.items
-        ≡ text.old.items ++ csv_text (check_row (local clock.now offset) (columns_of file.entry) findings.now ∷ [])) }
+        ≡ text.old.items ++ csv_text (check_row (local clock.now offset) (columns_of file.entry) origin.entry findings.now ∷ [])) }
 {
-    push_all(text, file, findings, &Local { clock, offset })
+    push_all(text, file, origin, findings, &Local { clock, offset })
 }

@@ -9,18 +9,24 @@ use crate::doubts::{push_no_type, push_no_version, push_other, push_rest, push_s
 use crate::kinds::kind_name;
 use crate::lines::{push_records, push_size, push_span, push_stayed, push_types, push_versions};
 use crate::local::Local;
+use crate::origin::Origin;
 use crate::paths::push_shown;
 use std::alloc::AllocError;
 use tally_check::{Content, Findings, LoginFindings, ProcFindings, Sessions};
 use tally_clock::Clock;
 
 /// Appends the path of a file, and what it has.
-fn push_head(text: &mut Vec<u8>, path: &[u8], content: &Content) -> Result<(), AllocError>
-    ensures { OnOk result (text.new.items ≡ text.old.items ++ Spec.head_text path.now content.now) }
+fn push_head(
+    text: &mut Vec<u8>,
+    path: &[u8],
+    origin: Origin<'_>,
+    content: &Content,
+) -> Result<(), AllocError>
+    ensures { OnOk result (text.new.items ≡ text.old.items ++ Spec.head_text path.now origin.entry content.now) }
 {
     push_shown(text, path)?;
     text.extend_from_slice(b": ")?;
-    text.extend_from_slice(kind_name(content))?;
+    text.extend_from_slice(kind_name(origin, content))?;
     text.push(b'\n')?;
     Ok(())
 }
@@ -97,15 +103,16 @@ fn push_procs(text: &mut Vec<u8>, found: &ProcFindings, local: &Local<'_>) -> Re
 fn push_content(
     text: &mut Vec<u8>,
     path: &[u8],
+    origin: Origin<'_>,
     content: &Content,
     local: &Local<'_>,
 ) -> Result<(), AllocError>
-    ensures { OnOk result (text.new.items ≡ text.old.items ++ Spec.content_text (clock_of local.now) path.now content.now) }
+    ensures { OnOk result (text.new.items ≡ text.old.items ++ Spec.content_text (clock_of local.now) path.now origin.entry content.now) }
 {
     match content {
         Content::Logins(found) => push_logins(text, found, local),
         Content::Processes(found) => push_procs(text, found, local),
-        Content::Other(looks) => push_other(text, path, *looks),
+        Content::Other(looks) => push_other(text, path, origin, *looks),
     }
 }
 
@@ -122,29 +129,32 @@ fn push_verdict(text: &mut Vec<u8>, findings: &Findings) -> Result<(), AllocErro
 fn push_all(
     text: &mut Vec<u8>,
     path: &[u8],
+    origin: Origin<'_>,
     findings: &Findings,
     local: &Local<'_>,
 ) -> Result<(), AllocError>
-    ensures { OnOk result (text.new.items ≡ text.old.items ++ section_text (clock_of local.now) path.now findings.now) }
+    ensures { OnOk result (text.new.items ≡ text.old.items ++ section_text (clock_of local.now) path.now origin.entry findings.now) }
 {
-    push_head(text, path, &findings.content)?;
+    push_head(text, path, origin, &findings.content)?;
     push_size(text, findings.size)?;
-    push_content(text, path, &findings.content, local)?;
+    push_content(text, path, origin, &findings.content, local)?;
     push_verdict(text, findings)
 }
 
-/// Appends the section of the file of a path to a text, with moments by a clock and an offset in minutes east of it. It errs
-/// where memory runs out; a first part of the section may have joined the text then.
+/// Appends the section of the file of a path to a text, with moments by a clock and an offset in minutes east of it. The findings are
+/// those of the login records that were made of a database where the origin is one, else of the file's own bytes. It errs where memory
+/// runs out; a first part of the section may have joined the text then.
 pub fn push_section(
     text: &mut Vec<u8>,
     clock: &Clock,
     path: &str,
+    origin: Origin<'_>,
     findings: &Findings,
     offset: i32,
 ) -> Result<(), AllocError>
     requires { IsOffset offset }
     ensures { OnOk result (text.new.items
-        ≡ text.old.items ++ section_text (local clock.now offset) path.now findings.now) }
+        ≡ text.old.items ++ section_text (local clock.now offset) path.now origin.entry findings.now) }
 {
-    push_all(text, path.as_bytes(), findings, &Local { clock, offset })
+    push_all(text, path.as_bytes(), origin, findings, &Local { clock, offset })
 }

@@ -12,4 +12,4 @@ returns c =
     let found = c.args.findings.now in
     IfOk-equal c.push_verdict.result _ _ _ c.push_verdict.ensures
     (rw (c.in_ok-push_content.ensures, c.in_ok-push_kind.ensures, c.in_ok-push_file.ensures)
-    (row_joined c.args.text.now.items (columns_of c.args.file) (kind_fields found) (content_fields (clock_of c.args.local.now) found.content) (if is_doubtful found.content then 1 else 0)))
+    (row_joined c.args.text.now.items (columns_of c.args.file) (kind_fields c.args.origin found) (content_fields (clock_of c.args.local.now) found.content) (if is_doubtful found.content then 1 else 0)))
