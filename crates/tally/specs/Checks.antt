@@ -3,6 +3,7 @@ use Rattle.std.specs.Prelude.{ℕ, ℤ, Bool, List, [], ◌∷◌, ◌++◌, Non
 use Rattle.tally_check.specs.declared.findings.Findings.{Findings}
 use Rattle.tally_check_text.specs.CheckTable.{check_header, check_row}
 use Rattle.tally_check_text.specs.SectionText.{section_text}
+use Rattle.tally_check_text.specs.declared.origin.Origin.TheVariants as origin
 use Rattle.tally_line.specs.declared.job.Form.{Form}
 use Rattle.tally_line.specs.declared.job.Form.TheVariants.{Csv, Text}
 use Rattle.tally_print.specs.FileColumns.{file_columns}
@@ -21,5 +22,5 @@ gap_text number = if nat_lt 1 number then codes "\n" else []
 -- not the first
 abbrev pub with_found : Form → Bool → (ℤ → ℤ) → ℕ → List ℕ → Findings → List ℕ → List ℕ
 with_found Csv paths clock number path found text =
-    text ++ csv_text (check_row clock (file_columns number (if paths then Some path else None)) found ∷ [])
-with_found Text paths clock number path found text = (text ++ gap_text number) ++ section_text clock path found
+    text ++ csv_text (check_row clock (file_columns number (if paths then Some path else None)) origin.File found ∷ [])
+with_found Text paths clock number path found text = (text ++ gap_text number) ++ section_text clock path origin.File found

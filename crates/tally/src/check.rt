@@ -15,7 +15,7 @@ use std::process::ExitCode;
 use std::random::RandomSource;
 use std::rt::{Clock as MachineClock, Files};
 use tally_check::{CheckFault, Findings, check};
-use tally_check_text::{print_text, push_header, push_row, push_section};
+use tally_check_text::{Origin, print_text, push_header, push_row, push_section};
 use tally_cli::RunFault;
 use tally_clock::Clock;
 use tally_line::{Check, Form};
@@ -109,11 +109,11 @@ fn push_found(
         Form::Csv => {
             let path = if asked.paths { Some(path) } else { None };
             let file = FileColumns { number, path };
-            push_row(text, clock, file, findings, asked.offset)
+            push_row(text, clock, file, Origin::File, findings, asked.offset)
         }
         Form::Text => {
             push_gap(text, number)?;
-            push_section(text, clock, path, findings, asked.offset)
+            push_section(text, clock, path, Origin::File, findings, asked.offset)
         }
     }
 }
