@@ -2,4 +2,6 @@
 #![tactic(auto)]
 
 #[cfg(test)]
+mod findings;
+#[cfg(test)]
 mod text;

@@ -1,161 +1,12 @@
 //! Sections and rows of findings, whose texts were worked out by hand.
+use crate::findings::{log_at, made, night, other, process};
 use std::alloc::{AllocError, Global};
 use std::process::Abort;
-use tally_check::{
-    Content, Counts, Findings, Found, LoginFindings, ProcFindings, Sessions, Span, Stayed, Steps,
-    Zeros,
-};
+use tally_check::Findings;
 use tally_check_text::{Origin, print_text, push_header, push_row, push_section};
 use tally_clock::Clock;
 use tally_kinds::Looks;
 use tally_print::{FileColumns, Kept};
-
-/// Nothing that is not normal.
-const SOUND: Counts = Counts {
-    records: 1,
-    zeros: Zeros {
-        all: Found {
-            count: 0,
-            first: None,
-        },
-        at_end: 0,
-    },
-    unknown: Found {
-        count: 0,
-        first: None,
-    },
-    span: None,
-};
-
-const NO_STAY: Stayed = Stayed {
-    count: 0,
-    seconds: 0,
-};
-
-/// A log with something of everything.
-fn night() -> Findings {
-    let counts = Counts {
-        records: 9,
-        zeros: Zeros {
-            all: Found {
-                count: 3,
-                first: Some(1),
-            },
-            at_end: 1,
-        },
-        unknown: Found {
-            count: 1,
-            first: Some(3),
-        },
-        span: Some(Span {
-            first: 1000,
-            last: 9600,
-        }),
-    };
-    let sessions = Sessions {
-        still_open: Stayed {
-            count: 1,
-            seconds: 3600,
-        },
-        crashed: Stayed {
-            count: 2,
-            seconds: 90_061,
-        },
-    };
-    Findings {
-        size: 3458,
-        content: Content::Logins(LoginFindings {
-            counts,
-            types: [0, 0, 1, 0, 0, 0, 1, 2, 1, 0],
-            steps: Steps {
-                count: 2,
-                greatest: 3600,
-            },
-            sessions,
-            rest: 2,
-        }),
-    }
-}
-
-/// A log of one record at some time.
-fn log_at(first: i64, last: i64) -> Findings {
-    let counts = Counts {
-        span: Some(Span { first, last }),
-        ..SOUND
-    };
-    Findings {
-        size: 384,
-        content: Content::Logins(LoginFindings {
-            counts,
-            types: [1, 0, 0, 0, 0, 0, 0, 0, 0, 0],
-            steps: Steps {
-                count: 0,
-                greatest: 0,
-            },
-            sessions: Sessions {
-                still_open: NO_STAY,
-                crashed: NO_STAY,
-            },
-            rest: 0,
-        }),
-    }
-}
-
-/// The login record that was made of a database of one open session.
-fn made() -> Findings {
-    let time = 1000;
-    let counts = Counts {
-        span: Some(Span {
-            first: time,
-            last: time,
-        }),
-        ..SOUND
-    };
-    Findings {
-        size: 8192,
-        content: Content::Logins(LoginFindings {
-            counts,
-            types: [0, 0, 0, 0, 0, 0, 0, 1, 0, 0],
-            steps: Steps {
-                count: 0,
-                greatest: 0,
-            },
-            sessions: Sessions {
-                still_open: Stayed {
-                    count: 1,
-                    seconds: 0,
-                },
-                crashed: NO_STAY,
-            },
-            rest: 0,
-        }),
-    }
-}
-
-/// The latest process that there can be.
-fn process() -> Findings {
-    let last = 4_294_967_295;
-    let counts = Counts {
-        span: Some(Span { first: 0, last }),
-        ..SOUND
-    };
-    Findings {
-        size: 64,
-        content: Content::Processes(ProcFindings {
-            counts,
-            version_2: 0,
-            version_3: 1,
-            rest: 0,
-        }),
-    }
-}
-
-fn other(size: u64, looks: Looks) -> Findings {
-    Findings {
-        size,
-        content: Content::Other(looks),
-    }
-}
 
 /// Asserts that all of a text was appended; where a growth was refused, a first part of it.
 fn expect(rt: &impl Abort, appended: Result<(), AllocError>, text: Vec<u8>, wanted: &[u8]) {
@@ -255,11 +106,19 @@ still open      1 session, 0:00:00
 ended by a boot 0 sessions
 doubtful        nothing
 ";
-    expect_section(rt, rt.alloc(), "w.db", Origin::Database, &made(), wanted);
+    let alloc = rt.alloc();
+    expect_section(rt, alloc, "w.db", Origin::Database, &made(), wanted);
+    let wanted = b"\
+w.db: login records of a database
+size            8192
+doubtful        nothing
+";
+    let empty = other(8192, Looks::Nothing);
+    expect_section(rt, alloc, "w.db", Origin::Database, &empty, wanted);
 }
 
 #[test]
-fn a_database_without_login_records_says_why(rt: HostRuntime) {
+fn a_database_of_which_no_records_were_made_says_why(rt: HostRuntime) {
     let rt = &rt;
     let wanted = b"\
 w.db: an SQLite database, as of wtmpdb
