@@ -5,12 +5,12 @@ use Rattle.tally_line.specs.declared.job.Report.{Report}
 use Rattle.tally_line.specs.declared.job.Report.TheVariants as report
 use Rattle.tally_line.specs.declared.line.FileArg.{FileArg}
 
--- the path of the file: systems keep process records at one of two, and a report of all has none
+-- the path of the file: systems keep logins, and process records, at one of two, and a report of all has none
 abbrev pub IsDefaultPath : Report → List ℕ → Type 0
-IsDefaultPath (report.Last limit choice within) path = path ≡ codes "/var/log/wtmp"
+IsDefaultPath (report.Last limit choice within) path = (path ≡ codes "/var/log/wtmp") ⊎ (path ≡ codes "/var/lib/wtmpdb/wtmp.db")
 IsDefaultPath (report.Attempts limit choice) path = path ≡ codes "/var/log/btmp"
 IsDefaultPath (report.AttemptSums limit choice) path = path ≡ codes "/var/log/btmp"
-IsDefaultPath (report.Connect by_day by_user choice) path = path ≡ codes "/var/log/wtmp"
+IsDefaultPath (report.Connect by_day by_user choice) path = (path ≡ codes "/var/log/wtmp") ⊎ (path ≡ codes "/var/lib/wtmpdb/wtmp.db")
 IsDefaultPath (report.Commands order reverse all) path = (path ≡ codes "/var/log/account/pacct") ⊎ (path ≡ codes "/var/account/pacct")
 IsDefaultPath (report.Users order reverse) path = (path ≡ codes "/var/log/account/pacct") ⊎ (path ≡ codes "/var/account/pacct")
 IsDefaultPath report.All path = ⊥

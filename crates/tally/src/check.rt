@@ -4,9 +4,10 @@ ghost use Rattle.tally.specs.Checks.{gap_text, head_text, with_found};
 ghost use Rattle.tally_sessions.specs.Days.{IsOffset, local};
 
 use crate::asked::clock_for;
+use crate::checked::{NotChecked, checked};
 use crate::faults::{FAULT, fault, file_fault, not_opened};
 use crate::hints::{hint_unread, hinted_not_opened};
-use crate::opened::{ROOT, hold_closed_streams, open};
+use crate::opened::{ROOT, hold_closed_streams};
 use std::alloc::AllocError;
 use std::hash::RandomState;
 use std::io;
@@ -14,45 +15,17 @@ use std::os::fd::AsRawFd;
 use std::process::ExitCode;
 use std::random::RandomSource;
 use std::rt::{Clock as MachineClock, Files};
-use tally_check::{CheckFault, Findings, check};
+use tally_check::{CheckFault, Findings};
 use tally_check_text::{Origin, print_text, push_header, push_row, push_section};
 use tally_cli::RunFault;
 use tally_clock::Clock;
 use tally_line::{Check, Form};
 use tally_print::{FileColumns, Writing};
 use tally_records::Memory;
-use tally_terminal::{ErrorsTo, Followed, Progress, Shown, Watched};
+use tally_terminal::{ErrorsTo, Progress, Shown, Watched};
 
 /// The status where something is doubtful.
 const DOUBTFUL: u8 = 3;
-
-/// Why a file was not checked.
-enum NotChecked {
-    NotOpened,
-    Fault(CheckFault),
-}
-
-/// What is found of the file of a path.
-fn check_path<R>(
-    rt: &R,
-    progress: &Progress<'_, R>,
-    keys: RandomState,
-    path: &str,
-) -> Result<Findings, NotChecked>
-where
-    R: Files + Input + Eprint + MachineClock + AllocGlobal,
-    R::File: Drop,
-    R::Reader: Drop,
-{
-    let Some(opened) = open(rt, path) else {
-        return Err(NotChecked::NotOpened);
-    };
-    let followed = Followed::new(opened, progress, None, path);
-    match check(rt.alloc(), keys, followed) {
-        Ok(findings) => Ok(findings),
-        Err(found) => Err(NotChecked::Fault(found)),
-    }
-}
 
 /// Prints why a file was not checked.
 fn not_checked<R: Files + Eprint>(rt: &R, to: ErrorsTo, path: &str, found: NotChecked) -> ExitCode
@@ -99,21 +72,22 @@ fn push_found(
     clock: &Clock,
     number: u32,
     path: &str,
+    origin: Origin<'_>,
     findings: &Findings,
 ) -> Result<(), AllocError>
     requires { IsOffset asked.now.offset }
     ensures { OnOk result (text.new.items
-        ≡ with_found asked.now.form asked.now.paths (local clock.now asked.now.offset) number path.now findings.now text.old.items) }
+        ≡ with_found asked.now.form asked.now.paths (local clock.now asked.now.offset) number path.now origin.entry findings.now text.old.items) }
 {
     match asked.form {
         Form::Csv => {
             let path = if asked.paths { Some(path) } else { None };
             let file = FileColumns { number, path };
-            push_row(text, clock, file, Origin::File, findings, asked.offset)
+            push_row(text, clock, file, origin, findings, asked.offset)
         }
         Form::Text => {
             push_gap(text, number)?;
-            push_section(text, clock, path, Origin::File, findings, asked.offset)
+            push_section(text, clock, path, origin, findings, asked.offset)
         }
     }
 }
@@ -136,14 +110,15 @@ where
     R::Reader: Drop,
     requires { IsOffset asked.now.offset }
 {
-    let findings = match check_path(rt, progress, keys, path) {
-        Ok(findings) => findings,
+    let checked = match checked(rt, progress, keys, path) {
+        Ok(checked) => checked,
         Err(found) => {
             progress.erase();
             return Err(not_checked(rt, to, path, found));
         }
     };
-    match push_found(text, asked, clock, number, path, &findings) {
+    let (origin, findings) = (checked.records.origin(), &checked.findings);
+    match push_found(text, asked, clock, number, path, origin, findings) {
         Ok(()) => Ok(findings.is_doubtful()),
         Err(_) => {
             progress.erase();

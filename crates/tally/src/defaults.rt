@@ -1,5 +1,5 @@
 //! The file that a report reads where the command line names none: that which its peer reads.
-ghost use Rattle.std.specs.Prelude.{◌≡◌, ◌⊎◌, IfNone, IfOk, IfSome, codes, length};
+ghost use Rattle.std.specs.Prelude.{◌≡◌, ◌⊎◌, IfNone, IfOk, IfSome, length};
 ghost use Rattle.std.specs.List.{All};
 ghost use Rattle.tally.specs.Defaults.{IsDefaultFile, IsDefaultPath, default_count};
 ghost use Rattle.tally_line.specs.FileWords.{Reads};
@@ -13,6 +13,9 @@ use tally_records::{Kind, Memory};
 /// Login records, as last(1) and ac(1) read them.
 const LOGINS: &str = "/var/log/wtmp";
 
+/// The database in their place, as wtmpdb(8) keeps it.
+const LOGIN_DATABASE: &str = "/var/lib/wtmpdb/wtmp.db";
+
 /// Failed logins, as lastb(8) reads them.
 const FAILED_LOGINS: &str = "/var/log/btmp";
 
@@ -22,14 +25,14 @@ const PROCESSES: &str = "/var/log/account/pacct";
 /// The same on the systems of Red Hat.
 const OTHER_PROCESSES: &str = "/var/account/pacct";
 
-/// The file of process records: the first, unless only the other is there.
-fn process_file<R: Files>(rt: &R) -> &'static str
-    ensures { (result.now ≡ codes "/var/log/account/pacct") ⊎ (result.now ≡ codes "/var/account/pacct") }
+/// The path of the first file, unless only the other is there.
+fn path_there<R: Files>(rt: &R, first: &'static str, other: &'static str) -> &'static str
+    ensures { (result.now ≡ first.now) ⊎ (result.now ≡ other.now) }
 {
-    if fs::metadata(rt, PROCESSES).is_err() && fs::metadata(rt, OTHER_PROCESSES).is_ok() {
-        OTHER_PROCESSES
+    if fs::metadata(rt, first).is_err() && fs::metadata(rt, other).is_ok() {
+        other
     } else {
-        PROCESSES
+        first
     }
 }
 
@@ -40,11 +43,15 @@ fn default_file<R: Files>(rt: &R, report: &Report) -> Option<(Kind, &'static str
     ensures none { IfNone result (report.now ≡ reports.All) }
 {
     match report {
-        Report::Last { .. } | Report::Connect { .. } => Some((Kind::Login, LOGINS)),
+        Report::Last { .. } | Report::Connect { .. } => {
+            Some((Kind::Login, path_there(rt, LOGINS, LOGIN_DATABASE)))
+        }
         Report::Attempts { .. } | Report::AttemptSums { .. } => {
             Some((Kind::FailedLogin, FAILED_LOGINS))
         }
-        Report::Commands { .. } | Report::Users { .. } => Some((Kind::Proc, process_file(rt))),
+        Report::Commands { .. } | Report::Users { .. } => {
+            Some((Kind::Proc, path_there(rt, PROCESSES, OTHER_PROCESSES)))
+        }
         Report::All => None,
     }
 }

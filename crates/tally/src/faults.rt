@@ -12,6 +12,7 @@ use tally_desk::FeedFault;
 use tally_line::TimesFault;
 use tally_records::{Memory, RecordFault};
 use tally_terminal::{ErrorsTo, Shown};
+use tally_wtmpdb::DatabaseFault;
 use tally_zones::{ZoneFault, hint_on};
 
 /// The status of a fault.
@@ -40,6 +41,15 @@ pub(crate) fn file_fault<R: Eprint, F: Display + Drop>(
 /// Prints that a file could not be opened.
 pub(crate) fn not_opened<R: Eprint>(rt: &R, path: Shown<'_>) -> ExitCode {
     file_fault(rt, FAULT, path, "cannot be opened")
+}
+
+/// Prints why a database gives no login records. It stays apart, so that a run needs no stack for it.
+#[inline(never)]
+pub(crate) fn database_fault<R: Eprint>(rt: &R, path: Shown<'_>, found: DatabaseFault) -> ExitCode {
+    match found {
+        DatabaseFault::Memory => fault(rt, FAULT, Memory),
+        found => file_fault(rt, FAULT, path, found),
+    }
 }
 
 /// Prints why a word names no zone.

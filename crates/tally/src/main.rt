@@ -3,6 +3,7 @@
 
 mod asked;
 mod check;
+mod checked;
 mod defaults;
 mod faults;
 mod hints;

@@ -1,19 +1,21 @@
 //! The files of the command line, opened.
-ghost use Rattle.std.specs.Prelude.{◌≡◌, IfErr, IfOk, length, map};
+ghost use Rattle.std.specs.Prelude.{◌≡◌, IfErr, IfOk, length, map, string_bytes};
 ghost use Rattle.std.specs.List.{All};
 ghost use Rattle.tally.specs.Bytes.{bytes_left};
-ghost use Rattle.tally.specs.Faults.{Names, NamesOneOf};
+ghost use Rattle.tally.specs.Faults.{NamesOneOf, NamesPath};
 ghost use Rattle.tally.specs.declared.opened.OpenFault.TheVariants.{Memory};
 ghost use Rattle.tally_cli.specs.Runs.{IsReadable};
 
 use std::alloc::{AllocFailed, Global};
 use std::fs;
-use std::io::{self, Read};
+use std::io::{self, Cursor, Read};
 use std::os::fd::AsRawFd;
 use std::rt::{Clock, Files};
 use tally_cli::{FileArg, Source};
 use tally_desk::Reading;
+use tally_records::Kind;
 use tally_terminal::{Followed, Progress};
+use tally_wtmpdb::{DatabaseFault, logins_in};
 
 /// The path of the program's own standard input.
 pub(crate) const STANDARD_INPUT: &str = "/dev/stdin";
@@ -62,11 +64,12 @@ where
     })
 }
 
-/// A file of the command line: one that was opened, or standard input.
+/// What a file of the command line is read from: the file, standard input, or the login records of a database.
 #[derive(Drop)]
 pub(crate) enum Opened<F: Read + Drop, S: Read + Drop> {
     File(F),
     Standard(S),
+    Made(Cursor<Vec<u8>>),
 }
 
 impl<F: Read + Drop, S: Read + Drop> Read for Opened<F, S> {
@@ -76,6 +79,7 @@ impl<F: Read + Drop, S: Read + Drop> Read for Opened<F, S> {
         match self {
             Opened::File(file) => file.read(buf),
             Opened::Standard(input) => input.read(buf),
+            Opened::Made(records) => records.read(buf),
         }
     }
 }
@@ -87,10 +91,13 @@ type FileReading<'a, R, F, S> = Reading<Followed<'a, R, Opened<F, S>>>;
 pub(crate) type Sources<'a, R, F, S> = Vec<Source<FileReading<'a, R, F, S>>>;
 
 /// Why the files were not all opened.
+#[derive(Drop)]
 pub(crate) enum OpenFault<'a> {
     Memory,
     /// The file of this path could not be opened.
     NotOpened(&'a str),
+    /// The file of this path is a database that gives no login records.
+    Database(&'a str, DatabaseFault),
 }
 
 impl<'a, T: Drop> From<AllocFailed<T>> for OpenFault<'a> {
@@ -114,9 +121,34 @@ where
     }
 }
 
+/// What is read of the file of a path, where it is to have records of this kind: a database has login records.
+fn open_as<'a, R: Files + Input>(
+    rt: &R,
+    alloc: Global,
+    kind: Kind,
+    path: &'a str,
+) -> Result<Opened<R::File, R::Reader>, OpenFault<'a>>
+where
+    R::File: Drop,
+    ensures { IfErr result (NamesPath path.now) }
+{
+    if kind == Kind::Login {
+        match logins_in(rt, alloc, path) {
+            Ok(Some(records)) => return Ok(Opened::Made(Cursor::new(records))),
+            Ok(None) => {}
+            Err(found) => return Err(OpenFault::Database(path, found)),
+        }
+    }
+    match open(rt, path) {
+        Some(opened) => Ok(opened),
+        None => Err(OpenFault::NotOpened(path)),
+    }
+}
+
 /// What is read of a file.
 fn source_of<'a, R: Files + Input + Clock + Eprint>(
     rt: &R,
+    alloc: Global,
     progress: &Progress<'a, R>,
     file: &'a FileArg,
 ) -> Result<Source<FileReading<'a, R, R::File, R::Reader>>, OpenFault<'a>>
@@ -124,12 +156,10 @@ where
     R::File: Drop,
     ensures kind { IfOk result (λ source. source.kind ≡ file.now.kind) }
     ensures unfailed { IfOk result (λ source. source.input.failures ≡ 0) }
-    ensures fault { IfErr result (Names file.now) }
+    ensures fault { IfErr result (NamesPath (string_bytes file.now.path)) }
 {
     let path = file.path.as_str();
-    let Some(opened) = open(rt, path) else {
-        return Err(OpenFault::NotOpened(path));
-    };
+    let opened = open_as(rt, alloc, file.kind, path)?;
     let followed = Followed::new(opened, progress, Some(file.kind), path);
     Ok(Source {
         kind: file.kind,
@@ -154,7 +184,7 @@ where
 {
     let mut sources = Vec::new(alloc);
     for at in 0..files.len() {
-        let source = source_of(rt, progress, &files[at])?;
+        let source = source_of(rt, alloc, progress, &files[at])?;
         sources.push(source)?;
     }
     Ok(sources)

@@ -3,7 +3,7 @@ ghost use Rattle.tally_line.specs.Jobs.{IsRunnable, TakesUntil};
 
 use crate::asked::{Asked, choice_for, clock_for, files_apart, job_for, names_for};
 use crate::defaults::default_files;
-use crate::faults::{FAULT, fault, not_opened};
+use crate::faults::{FAULT, database_fault, fault, not_opened};
 use crate::hints::hinted_not_opened;
 use crate::opened::{OpenFault, ROOT, hold_closed_streams, open_all};
 use crate::running::run_over;
@@ -40,6 +40,9 @@ where
         Ok(sources) => sources,
         Err(OpenFault::Memory) => return fault(rt, FAULT, Memory),
         Err(OpenFault::NotOpened(path)) => return hinted_not_opened(rt, to, path),
+        Err(OpenFault::Database(path, found)) => {
+            return database_fault(rt, Shown::new(path, to), found);
+        }
     };
     run_over(rt, to, job, wanted, keys, clock, files, progress, sources)
 }

@@ -106,6 +106,10 @@ pub fn about_looks(report: &Report, kind: Kind, looks: Looks) -> Option<About>
         Looks::Xz => packed(report, kind, "xz", "xzcat"),
         Looks::Zstd => packed(report, kind, "zstd", "zstdcat"),
         Looks::Bzip2 => packed(report, kind, "bzip2", "bzcat"),
+        Looks::Sqlite => About::Other {
+            has: "is an SQLite database, as of wtmpdb",
+            report: "last",
+        },
         Looks::FailedLogins => About::Other {
             has: "may have failed logins",
             report: "lastb",
@@ -126,7 +130,6 @@ pub fn about_looks(report: &Report, kind: Kind, looks: Looks) -> Option<About>
 /// What is said of a file of a kind that no report reads.
 fn unread(looks: Looks) -> &'static str {
     match looks {
-        Looks::Sqlite => "is an SQLite database, as of wtmpdb, which is not read",
         Looks::Logins400 => {
             "has login records of 400 bytes, as 64-bit ARM and s390x write them, which are not read"
         }

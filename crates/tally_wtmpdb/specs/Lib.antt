@@ -1,0 +1,12 @@
+pub mod Catalog
+pub mod Causes
+pub mod Fields
+pub mod Headers
+pub mod Laws
+pub mod Lines
+pub mod Made
+pub mod Moments
+pub mod Rows
+pub mod Sessions
+pub mod Table
+pub mod inside
