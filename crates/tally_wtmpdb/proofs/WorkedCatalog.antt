@@ -3,7 +3,7 @@ use Rattle.std.proofs.Common.{◌≡◌, ℕ, true, false, List, [], ◌∷◌, 
 use Rattle.std.specs.Prelude.{codes, pos}
 use Rattle.sqlite_trees.specs.declared.store.Shape.TheVariants.{Index, Pageless, Table}
 use Rattle.sqlite_value.specs.Order.{Row}
-use Rattle.sqlite_value.specs.declared.value.Value.TheVariants.{Null, Int, Text, Blob}
+use Rattle.sqlite_value.specs.declared.value.Value.TheVariants.{Int, Text, Blob}
 use Rattle.tally_wtmpdb.specs.Catalog.{ascending, is_wtmp, shape_of, wtmp_place}
 
 abbrev object : List ℕ → List ℕ → List ℕ → List ℕ → Row
@@ -29,7 +29,7 @@ others : map is_wtmp (index ∷ object (codes "table") (codes "wtmp2") (codes "w
 others = refl
 
 -- the first of two that would do, and none
-places : map wtmp_place ((index ∷ wtmp (codes ")") ∷ wtmp (codes ",")  ∷ []) ∷ (index ∷ []) ∷ [] ∷ []) ≡ Some 1 ∷ None ∷ None ∷ []
+places : map wtmp_place ((index ∷ wtmp (codes ")") ∷ wtmp (codes ",") ∷ []) ∷ (index ∷ []) ∷ [] ∷ []) ≡ Some 1 ∷ None ∷ None ∷ []
 places = refl
 
 shapes : map shape_of (codes "table" ∷ codes "index" ∷ codes "view" ∷ codes "trigger" ∷ codes "TABLE" ∷ []) ≡ Table ∷ Index ascending ∷ Pageless ∷ Pageless ∷ Pageless ∷ []

@@ -1,5 +1,5 @@
 -- The rows of wtmpdb's table that two files held.
-use Rattle.std.specs.Prelude.{◌≡◌, ℕ, List, map, All, Option, None, Some, slice_get}
+use Rattle.std.specs.Prelude.{◌≡◌, ℕ, List, map, All, None, Some}
 use Rattle.sqlite_disk.specs.declared.Disk.{Ghosts}
 use Rattle.sqlite_pages.specs.PageMap.{PageMap}
 use Rattle.sqlite_pool.specs.File.{in_use}
@@ -13,7 +13,7 @@ use Rattle.sqlite_value.specs.Order.{Row}
 use Rattle.sqlite_wal.specs.Format.{be32}
 use Rattle.sqlite_wal.specs.PageSize.{IsPageSize, size_in_file}
 use Rattle.sqlite_wal.specs.Recovery.{IsIgnored}
-use Rattle.tally_wtmpdb.specs.Catalog.{HasTexts, is_wtmp, listed_in, wanted_in, wtmp_place}
+use Rattle.tally_wtmpdb.specs.Catalog.{HasTexts, listed_in, wanted_in, wtmp_place}
 
 -- the page size that the header of the log names or, where the log is ignored, that of the database
 pub record IsNamed (log db : List ℕ) (size : ℕ) : Type 0 where

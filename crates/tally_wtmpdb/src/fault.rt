@@ -31,9 +31,7 @@ pub enum WtmpdbFault {
     NoTable,
     /// It lists the table, and is not sound as far as it is read: it is damaged, or a table or an index beside it is of a form that is
     /// not read.
-    #[error(
-        "a damaged database, or one with a table or an index that is not read, run sqlite3 OLD '.dump wtmp' | sqlite3 NEW"
-    )]
+    #[error("a damaged database, or one with a table or an index that is not read, run sqlite3 OLD '.dump wtmp' | sqlite3 NEW")]
     Unsound,
     /// Reading failed on the way.
     #[error("the database cannot be read")]

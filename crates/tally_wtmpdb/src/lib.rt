@@ -1,9 +1,10 @@
 //! The logins in wtmpdb's database, `/var/lib/wtmpdb/wtmp.db`, as login records of utmp(5).
 //!
-//! `database` reads the table's rows from the bytes of the database and of the log beside it, by the `catalog` of what it lists. `row`
-//! says what a row means, `moment`
-//! which moments the rows have and in which order they come, `lines` which of them have a record and where a line has a mark, and
-//! `record` writes the records. `laws` has the laws of these, and `read` does all of it.
+//! `logins_in` reads a file: where it is a database, a `snapshot` of it and of the files beside it, of which `refusal` has why they may
+//! give no login records. From there on all is bytes. `database` reads the table's rows from those of the database and of its log, by the
+//! `catalog` of what it lists. `row` says what a row means, `moment` which moments the rows have and in which order they come, `lines`
+//! which of them have a record and where a line has a mark, and `record` writes the records. `laws` has the laws of these, and `read`
+//! does all of it.
 #![tactic(auto)]
 
 mod catalog;

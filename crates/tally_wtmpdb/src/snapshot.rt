@@ -78,7 +78,11 @@ where
 }
 
 /// Reads the three files until two readings agree.
-pub(crate) fn settled<R: Files>(rt: &R, alloc: Global, path: &str) -> Result<Snapshot, DatabaseFault>
+pub(crate) fn settled<R: Files>(
+    rt: &R,
+    alloc: Global,
+    path: &str,
+) -> Result<Snapshot, DatabaseFault>
 where
     R::File: Drop,
 {

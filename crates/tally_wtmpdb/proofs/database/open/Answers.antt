@@ -1,7 +1,6 @@
 use Rattle.std.proofs.Common.{refl, subst, sym, ◌∙◌}
 use Rattle.sqlite_disk.specs.contracts.memory.MemoryDisk.TheImpl.{ghosts}
 use Rattle.sqlite_store.specs.Unopened.{HasFile, IsFullFile, image, state_of, wanted_by}
-use Rattle.sqlite_store.specs.declared.error.OpenError.{OpenError}
 use Rattle.tally_wtmpdb.specs.declared.database.ReadError.TheVariants.{Unsound}
 use Rattle.tally_wtmpdb.specs.inside.Files.{IsRefusal}
 use Rattle.tally_wtmpdb.proofs.Clean.{always_clean, honest, honest_files, no_database, open_refusal, refusal_of, store_of}
