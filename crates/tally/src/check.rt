@@ -4,7 +4,7 @@ ghost use Rattle.tally.specs.Checks.{gap_text, head_text, with_found};
 ghost use Rattle.tally_sessions.specs.Days.{IsOffset, local};
 
 use crate::asked::clock_for;
-use crate::checked::{NotChecked, checked};
+use crate::checked::{NotChecked, check_path};
 use crate::faults::{FAULT, fault, file_fault, not_opened};
 use crate::hints::{hint_unread, hinted_not_opened};
 use crate::opened::{ROOT, hold_closed_streams};
@@ -110,7 +110,7 @@ where
     R::Reader: Drop,
     requires { IsOffset asked.now.offset }
 {
-    let checked = match checked(rt, progress, keys, path) {
+    let checked = match check_path(rt, progress, keys, path) {
         Ok(checked) => checked,
         Err(found) => {
             progress.erase();

@@ -96,7 +96,7 @@ fn findings_made<R: Files + AllocGlobal>(
 }
 
 /// What is found of the file of a path.
-pub(crate) fn checked<R>(
+pub(crate) fn check_path<R>(
     rt: &R,
     progress: &Progress<'_, R>,
     keys: RandomState,
