@@ -165,7 +165,7 @@ def add_kinds(checks, U):
         'b.xz': (b'\xfd7zXZ\x00\x00', 'packed by xz', ': try xzcat b.xz | tally check /dev/stdin'),
         'c.zst': (b'\x28\xb5\x2f\xfd\x20', 'packed by zstd', ': try zstdcat c.zst | tally check /dev/stdin'),
         'd.bz2': (b'BZh9\x00', 'packed by bzip2', ': try bzcat d.bz2 | tally check /dev/stdin'),
-        'e.db': (b'SQLite format 3\x00\x10\x00', 'an SQLite database, as of wtmpdb'),
+        'e.db': (b'SQLite format 3\x00\x10\x00', 'an SQLite database, as of wtmpdb', ': a damaged database'),
         'f': (log[0], 'login records of a big-endian machine'),
         'g': (log[1], 'login records of 400 bytes, as 64-bit ARM and s390x write them'),
         'h': (acct(b'make', 'big'), 'process records of a big-endian machine'),

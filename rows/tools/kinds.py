@@ -14,6 +14,8 @@ import struct
 import sys
 import tempfile
 
+from tables import INSERT, TABLE
+
 ORDERS = {'little': '<', 'big': '>'}
 
 
@@ -55,12 +57,12 @@ def zstd(data):
 
 
 def sqlite():
-    """A database with a table as wtmpdb(8) has one."""
+    """A database with the table of wtmpdb(8), and a session in it."""
     with tempfile.TemporaryDirectory() as folder:
         path = os.path.join(folder, 'wtmp.db')
         base = sqlite3.connect(path)
-        base.execute('create table wtmp(ID integer primary key, Type integer, User text not null, Login integer, Logout integer, TTY text)')
-        base.execute("insert into wtmp values (1, 3, 'ann', 1000000, null, 'tty1')")
+        base.execute(TABLE)
+        base.execute(INSERT, (3, 'ann', 10 ** 12, None, 'tty1', 'far.example', 'login'))
         base.commit()
         base.close()
         with open(path, 'rb') as file:
@@ -97,9 +99,10 @@ KINDS = {
     'savacct': SAVACCT,
     'usracct': USRACCT,
     'text': b'ann tty1 far.example\nna\xc3\xafve\n',
-    # None of these: zeros alone, a log and sums that are torn, and sums of which one is negative.
+    # None of these: zeros alone, a log, a database and sums that are torn, and sums of which one is negative.
     'zeros': bytes(3840),
     'torn': LOG[:1000],
+    'sqlite-torn': sqlite()[:1000],
     'savacct-torn': SAVACCT[:100],
     'usracct-bad': USRACCT + usracct(b'bob', 1, -0.05, *NO_USAGE[1:]),
 }

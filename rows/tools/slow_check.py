@@ -1,9 +1,12 @@
 """What `check` prints, slowly, from the definitions of docs/SPECIFICATION.md. Nothing here is taken from the program's code or its output.
-What records say stands in records.py, sessions and tables in slow.py.
+What records say stands in records.py, sessions and tables in slow.py, what the rows of a database mean in tables.py.
 """
+import os
 import re
 import struct
+import tempfile
 
+import tables
 from choices import NO_TABLE
 from records import SIZES, Fault, login, process
 from slow import clock_of, iso, moment, shift, shown, stays_of, table
@@ -138,10 +141,36 @@ def sessions(raw, found):
     return [sum(step > 0 for step in back), max(back, default=0)], [it for seconds in weighing for it in (len(seconds), sum(seconds))]
 
 
+# Databases
+
+def rows_or_fault(path, raw):
+    """The rows of a database of wtmpdb, or in their place why no login records are made of it. None of another file, and of one in a pipe."""
+    if path == '/dev/stdin' or not raw.startswith(MARKS['sqlite']):
+        return None
+    with tempfile.TemporaryDirectory() as folder:
+        copy = os.path.join(folder, 'wtmp.db')
+        with open(copy, 'wb') as file:
+            file.write(raw)
+        rows = tables.read(copy)
+    return rows if isinstance(rows, str) else tables.fault(rows) or rows
+
+
+def fields_of_database(rows, size, clock):
+    """The fields of the login records that are made of these rows, in which nothing is doubtful."""
+    types, span, stays = tables.counted(rows)
+    if not span:
+        return ['wtmpdb', size] + 29 * [''] + [0]
+    times = [it for time in span for it in (time, iso(time, clock))]
+    return ['wtmpdb', size, sum(types.values()), *(types.get(at, 0) for at in range(10)), '', '', *times, *(it for stay in stays for it in stay),
+            0, 0, '', 0, '', 0, 0, 0, 0]
+
+
 # Rows
 
-def fields(raw, clock):
-    """The fields of a row after those of the file."""
+def fields(raw, clock, made=None):
+    """The fields of a row after those of the file, of which a database has rows or a fault."""
+    if isinstance(made, list):
+        return fields_of_database(made, len(raw), clock)
     kind = kind_of(raw)
     if kind not in READ:
         return [kind, len(raw)] + 29 * [''] + [int(kind != 'empty')]
@@ -175,6 +204,8 @@ def quoted(path):
 
 
 def name_of(row):
+    if row['kind'] == 'wtmpdb':
+        return 'login records of a database'
     if row['kind'] == 'login':
         counts = [row[name.lower()] for name in TYPES]
         return 'login records' + ', maybe failed logins' * (sum(counts[6:8]) > 0 and sum(counts[1:6] + counts[8:]) == 0)
@@ -210,18 +241,25 @@ def lines_of(row, clock):
         yield 'versions', '%d of version 2, %d of version 3' % (row['version_2'], row['version_3'])
     if row['first'] != '':
         yield from (('first', moment(row['first'], clock)), ('last', moment(row['last'], clock)), ('span', length(row['last'] - row['first'])))
-    for label, name in (('still open', 'open'), ('ended by a boot', 'crashed')) if row['kind'] == 'login' else ():
+    for label, name in (('still open', 'open'), ('ended by a boot', 'crashed')) if row['kind'] != 'process' else ():
         yield label, number(row[name], 'session', 'sessions') + (', ' + length(row[name + '_seconds'])) * (row[name] > 0)
 
 
+def reason(row, path, made):
+    """Why a database has no records that are read, or what reads a packed file."""
+    if row['kind'] in UNPACKERS:
+        return ': try %s %s | tally check /dev/stdin' % (UNPACKERS[row['kind']], quoted(path))
+    return ': ' + made if made else ''
+
+
 def section(path, raw, clock):
-    row = dict(zip(NAMES.split(','), fields(raw, clock)))
+    made = rows_or_fault(path, raw)
+    row = dict(zip(NAMES.split(','), fields(raw, clock, made)))
     lines = [('size', '%d' % row['size'])]
-    if row['kind'] in READ:
+    if row['records'] != '':
         lines += [*lines_of(row, clock), *(('doubtful', what) for what in doubts(row))]
-    elif row['kind'] != 'empty':
-        remedy = ': try %s %s | tally check /dev/stdin' % (UNPACKERS[row['kind']], quoted(path)) if row['kind'] in UNPACKERS else ''
-        lines.append(('doubtful', 'no records that are read' + remedy))
+    elif row['doubtful']:
+        lines.append(('doubtful', 'no records that are read' + reason(row, path, made)))
     if not row['doubtful']:
         lines.append(('doubtful', 'nothing'))
     return ''.join(['%s: %s\n' % (shown(path.encode()), name_of(row))] + ['%-15s %s\n' % line for line in lines]), row['doubtful']
@@ -233,7 +271,8 @@ def output(job, files):
     if job.get('paths') and not job.get('csv'):
         return 2, '', NO_TABLE
     if job.get('csv'):
-        rows = [[number, *[shown(path.encode())] * bool(job.get('paths')), *fields(raw, clock)] for number, (path, raw) in enumerate(files, 1)]
+        rows = [[number, *[shown(path.encode())] * bool(job.get('paths')), *fields(raw, clock, rows_or_fault(path, raw))]
+                for number, (path, raw) in enumerate(files, 1)]
         return 3 if any(row[-1] for row in rows) else 0, table('file,' + 'path,' * bool(job.get('paths')) + NAMES, rows), ''
     sections = [section(path, raw, clock) for path, raw in files]
     return 3 if any(doubtful for _, doubtful in sections) else 0, '\n'.join(text for text, _ in sections), ''
