@@ -842,6 +842,7 @@ show, `examples/`. No two have one name.
     tools/refusals TALLY_BINARY NAME..        these rows, with each allocation, read, write and call for random bytes or the time refused in turn
     tools/fuzz TALLY_BINARY                   random files and words, beside the slow definitions of slow.py
     tools/fuzz_check TALLY_BINARY             random files, whole and damaged, beside the slow definitions of slow_check.py
+    tools/databases TALLY_BINARY              random databases of wtmpdb, whole, damaged and foreign, beside the slow definitions of tables.py
     tools/sizes TALLY_BINARY                  every report over files of many sizes, with ample memory
     tools/volume TALLY_BINARY                 `sa` over more records than a book holds, and the memory that it takes
     tools/thresholds TALLY_BINARY             users on days, and named users, over files at and over each size at which `ac` goes another way
