@@ -26,6 +26,7 @@ from moments import NO_RANGE
 from path_rows import add_rows as add_path_rows
 from people_rows import add_example as add_people_example, add_rows as add_people_rows
 from usage_rows import add_example as add_usage_example, add_rows as add_usage_rows
+from wtmpdb_rows import add_example as add_wtmpdb_example, add_rows as add_wtmpdb_rows
 from zone_rows import BERLIN, add_rows as add_zone_rows
 
 
@@ -595,6 +596,10 @@ add_check_rows(row, lines, U, A, A3)
 
 add_file_rows(row, lines, U)
 
+# --- databases of wtmpdb
+
+add_wtmpdb_rows(row, lines, U)
+
 # --- closed standard streams
 
 BESIDE = 'A file and standard input, with '
@@ -697,6 +702,7 @@ add_usage_example(row, lines, example)
 add_people_example(row, lines, example)
 add_attempt_example(row, lines, example)
 add_check_example(row, lines, example)
+add_wtmpdb_example(row, lines, example)
 
 # --- CSV
 
@@ -871,7 +877,7 @@ Needs: `ac`, `last`, `lastb`, `sa`, `all`, `check` are the subcommands, with `ac
 `--east` and `--west`; `clock` that clock changes move sessions; `files` several files; `feeders`, `askers`,
 `until`, `csv` and `zone` these options; `moment` that `--until` takes more than a number of seconds; `choice` reports on some users,
 some lines or a period; `uid` and `period` the same of `sa`, users by number; `names` the names of users from a file; `by-file` that `ac` and
-`sa` report on each file by itself; `paths` that a table has the paths of files; `version3` acct records of version 3; `big` an input of 402 MB; `full-device` /dev/full.
+`sa` report on each file by itself; `paths` that a table has the paths of files; `database` that a login file may be a database of wtmpdb; `version3` acct records of version 3; `big` an input of 402 MB; `full-device` /dev/full.
 
 What is refused with status 2 has no fixed text where it is that of the command line parser.
 
