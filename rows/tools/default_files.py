@@ -8,8 +8,11 @@ import subprocess
 
 from make import MAKE, ONE_HOUR, ONE_HOUR_LAST, SA_FORKED, SA_NOTHING, SA_OTHER, SA_TOTAL, SA_USERS, TOTAL_ONE, U, lines
 from places import Root, same
+from wtmpdb_files import BASE, LOG
 
 WTMP, BTMP = 'var/log/wtmp', 'var/log/btmp'
+# Where login records stand on a system without wtmp.
+WTMPDB = 'var/lib/wtmpdb/wtmp.db'
 # Where Debian keeps process records, and where Red Hat does.
 DEBIAN, RED_HAT = 'var/log/account/pacct', 'var/account/pacct'
 NAMED = 'var/named'
@@ -34,10 +37,20 @@ READ = (
     (ALL_FILES, ('ac', '--by-file', '--csv', '--paths'), lines('file,path,seconds', '1,/var/log/wtmp,3600')),
     (ALL_FILES, ('lastb', '--csv', '--paths', '-n', '1'), lines('file,path,user,line,remote,time,at', '1,/var/log/btmp,ann,tty1,,120,1970-01-01T00:02:00+00:00')),
     ({RED_HAT: MAKE}, ('sa',), COMMANDS),
-    # Of both the first is read, even if it has nothing.
+    ({WTMPDB: BASE}, ('ac',), lines('total                        0.17')),
+    ({WTMPDB: BASE, WTMPDB + '-wal': LOG}, ('ac',), TOTAL_ONE),
+    ({WTMPDB: BASE, BTMP: ATTEMPTS}, ('last',), lines('ann      tty1                          1970-01-01 00:18:20 - 1970-01-01 00:28:20 (00:10)',
+                                                      'reboot   system boot  6.12.48-amd64    1970-01-01 00:16:40 - down                (01:56)', '',
+                                                      'wtmp begins 1970-01-01 00:16:40')),
+    ({WTMPDB: BASE}, ('ac', '--by-file', '--csv', '--paths'), lines('file,path,seconds', '1,/var/lib/wtmpdb/wtmp.db,600')),
+    # Of two the first is read, even if it has nothing.
     ({DEBIAN: MAKE, RED_HAT: b''}, ('sa',), COMMANDS),
     ({DEBIAN: b'', RED_HAT: MAKE}, ('sa',), SA_NOTHING),
+    ({WTMP: ONE_HOUR, WTMPDB: BASE}, ('ac',), TOTAL_ONE),
+    ({WTMP: b'', WTMPDB: BASE}, ('ac',), lines('total                        0.00')),
+    ({WTMPDB: BASE, BTMP: ATTEMPTS}, ('lastb',), LASTB),
     # A file that is named is read alone.
+    ({WTMPDB: BASE, NAMED: TWO_HOURS}, ('last', NAMED), TWO_HOURS_LAST),
     ({WTMP: ONE_HOUR, NAMED: TWO_HOURS}, ('last', NAMED), TWO_HOURS_LAST),
     ({WTMP: ONE_HOUR, NAMED: TWO_HOURS}, ('last', '-f', NAMED), TWO_HOURS_LAST),
     ({WTMP: ONE_HOUR, NAMED: TWO_HOURS}, ('ac', '-f' + NAMED), lines('total                        2.00')),
@@ -49,6 +62,7 @@ REFUSED = (
     ({BTMP: ATTEMPTS, DEBIAN: MAKE}, ('ac', '-d'), '/var/log/wtmp: cannot be opened', '/var/log/wtmp is not there'),
     ({WTMP: ONE_HOUR, DEBIAN: MAKE}, ('lastb', '--sum'), '/var/log/btmp: cannot be opened', '/var/log/btmp is not there'),
     ({WTMP: ONE_HOUR, BTMP: ATTEMPTS}, ('sa',), '/var/log/account/pacct: cannot be opened', '/var/log/account/pacct is not there'),
+    ({WTMPDB: b'', WTMP + '/wtmp': ONE_HOUR}, ('ac',), '/var/log/wtmp: read failed', '/var/log/wtmp is a folder'),
     ({RED_HAT + '/pacct': MAKE}, ('sa',), '/var/account/pacct: read failed', '/var/account/pacct is a folder'),
     ({DEBIAN: ONE_HOUR}, ('sa', '-m'), '/var/log/account/pacct: record 0 has version 0',
      '/var/log/account/pacct has login records: try tally last /var/log/account/pacct'),

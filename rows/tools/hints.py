@@ -5,7 +5,7 @@ The texts are written out by hand. None where there is no hint.
 
 FAILED = 'may have failed logins: try tally lastb'
 NOT_READ = 'which are not read'
-DATABASE = 'sqlite is an SQLite database, as of wtmpdb, which is not read'
+DATABASE = 'sqlite is an SQLite database, as of wtmpdb: try tally last sqlite'
 LONG = 'has login records of 400 bytes, as 64-bit ARM and s390x write them, ' + NOT_READ
 BIG_LOGINS = 'logins-big has login records of a big-endian machine, ' + NOT_READ
 BIG_PROCESSES = 'processes-big has process records of a big-endian machine, ' + NOT_READ
@@ -24,8 +24,10 @@ REFUSED = (
     (('all', 'w:logins', 'p:gzip'), 'gzip is packed by gzip: try zcat gzip | tally all p:/dev/stdin'),
     (('all', 'w:gzip', 'p:processes'), 'gzip is packed by gzip: try zcat gzip | tally all w:/dev/stdin'),
     (('last', '-f', 'gzip'), 'gzip is packed by gzip: try zcat gzip | tally last /dev/stdin'),
-    (('last', 'sqlite'), DATABASE),
     (('sa', 'sqlite'), DATABASE),
+    (('lastb', 'sqlite'), DATABASE),
+    (('all', 'w:logins', 'p:sqlite'), DATABASE),
+    (('last', 'sqlite-torn'), None),
     (('last', 'processes'), 'processes has process records: try tally sa processes'),
     (('ac', 'logins', 'processes'), 'processes has process records: try tally sa processes'),
     (('lastb', '--sum', 'processes'), 'processes has process records: try tally sa processes'),
@@ -69,14 +71,16 @@ READ = (
     (('lastb', '--sum', 'failed'), None),
     (('all', 'w:failed'), None),
     (('last', 'logins'), None),
+    (('last', 'sqlite'), None),
     (('ac', 'zeros'), None),
     (('last', 'nothing'), None),
     (('sa', 'processes'), None),
-    (('check', 'logins', 'failed', 'processes', 'nothing'), None),
+    (('check', 'logins', 'failed', 'processes', 'nothing', 'sqlite'), None),
 )
 
 # Checks that find something doubtful say so on standard output alone.
 DOUBTFUL = (
     (('check', 'gzip'), None),
     (('check', 'savacct', 'torn'), None),
+    (('check', 'sqlite-torn'), None),
 )
