@@ -1,5 +1,5 @@
 # The worked rows that `make test` runs are those whose needs are all listed here.
-ROWS = ac,ac -d,ac -f,ac -p,all,askers,by-file,check,choice,clock,csv,feeders,files,full-device,last,last -f,last -n,lastb,lastb --sum,lastb -f,lastb -n,moment,names,offset,paths,period,sa,sa -a,sa -m,sa -n,sa -r,uid,until,version3,zone
+ROWS = ac,ac -d,ac -f,ac -p,all,askers,by-file,check,choice,clock,csv,database,feeders,files,full-device,last,last -f,last -n,lastb,lastb --sum,lastb -f,lastb -n,moment,names,offset,paths,period,sa,sa -a,sa -m,sa -n,sa -r,uid,until,version3,zone
 PREFIX ?= /usr/local
 PROGRAM = crates/tally/out/tally
 INTO = $(DESTDIR)$(PREFIX)
@@ -31,7 +31,7 @@ test-anew:
 test-edits: build
 	@.ci/edits --record $(CRATES)
 
-# The rows and the cases with inputs of 402 MB, and `sa` over 17 GB. `make test` or `make build` comes first.
+# The rows and the cases with inputs of 402 MB and more, and `sa` over 17 GB. `make test` or `make build` comes first.
 test-big:
 	rows/tools/run --only "$(ROWS),big" $(PROGRAM) endless-zeros-ac
 	rows/tools/surroundings --big $(PROGRAM)
