@@ -44,8 +44,8 @@ def add_reports(row, lines, U):
         lines(*SESSIONS, *BEGINS, '', TOTAL + '2.31', '', '       0         0.00re         0.00cp          0avio          0k'), files={**day, 'pacct': b''})
     row('database-in-a-pipe', 'ac,database', 'A pipe is read as records: a database in it may lack its log.', ['ac', '/dev/stdin'], '',
         'tally: /dev/stdin: torn after 2 records, 256 bytes left\n', 1, stdin=DAY)
-    row('database-given-to-lastb', 'lastb,database', 'It has no failed logins, and is read as records.', ['lastb', 'wtmp.db'], '',
-        'tally: wtmp.db: torn after 2 records, 256 bytes left\n', 1, day)
+    row('database-given-to-lastb', 'lastb,database', 'It has no failed logins, and is read as records: the first has the letters SQ as its type, 0x5153.', ['lastb', 'wtmp.db'], '',
+        'tally: wtmp.db: record 0 has login type 20819\n', 1, day)
 
 
 def add_logs(row, lines):
