@@ -219,11 +219,7 @@ fn push_content(text: &mut Vec<u8>, content: &Content, local: &Local<'_>) -> Res
 }
 
 /// Appends the kind of a file and its size.
-fn push_kind(
-    text: &mut Vec<u8>,
-    origin: Origin<'_>,
-    findings: &Findings,
-) -> Result<(), AllocError>
+fn push_kind(text: &mut Vec<u8>, origin: Origin<'_>, findings: &Findings) -> Result<(), AllocError>
     ensures { OnOk result (text.new.items ≡ text.old.items ++ before_last (Spec.kind_fields origin.entry findings.now)) }
 {
     text.extend_from_slice(kind_word(origin, &findings.content))?;

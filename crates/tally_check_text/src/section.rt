@@ -156,5 +156,6 @@ pub fn push_section(
     ensures { OnOk result (text.new.items
         ≡ text.old.items ++ section_text (local clock.now offset) path.now origin.entry findings.now) }
 {
-    push_all(text, path.as_bytes(), origin, findings, &Local { clock, offset })
+    let local = Local { clock, offset };
+    push_all(text, path.as_bytes(), origin, findings, &local)
 }
