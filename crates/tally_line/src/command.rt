@@ -21,7 +21,8 @@ const TO: &str = "Report up to, without, MOMENT, which is as for --from";
 
 const IN: &str = "Report on a year, a month or a day, as 2026, 2026-07 or 2026-07-31";
 
-const LOGINS: &str = "Read the login records of FILE [default: /var/log/wtmp]";
+const LOGINS: &str =
+    "Read the login records of FILE [default: /var/log/wtmp, or /var/lib/wtmpdb/wtmp.db]";
 
 const FAILED_LOGINS: &str = "Read the failed logins of FILE [default: /var/log/btmp]";
 
