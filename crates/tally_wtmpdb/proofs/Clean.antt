@@ -22,7 +22,7 @@ use Rattle.sqlite_store.specs.Saved.{kept_schema}
 use Rattle.tally_wtmpdb.specs.Table.{AreListedIn, HaveNoDatabase, IsDatabaseOf, IsTableOf, IsNamed, IsStoreOf}
 use Rattle.tally_wtmpdb.specs.inside.Files.{AreRowsOf, IsFailure, IsListing, IsListingCause, IsOpenCause, IsRefusal, IsSizeCause, error_of}
 use Rattle.tally_wtmpdb.specs.declared.database.ReadError.{ReadError}
-use Rattle.tally_wtmpdb.specs.declared.database.ReadError.TheVariants.{OutOfMemory, NoDatabase, NoTable, Unsound, Failed}
+use Rattle.tally_wtmpdb.specs.declared.database.ReadError.TheVariants.{OutOfMemory, NoDatabase, NoTable, Unsound}
 use Rattle.sqlite_disk.specs.declared.Disk.{Ghosts}
 use Rattle.sqlite_pool.specs.Pool.{state}
 use Rattle.sqlite_trees.specs.View.{IsClean}
@@ -157,21 +157,18 @@ listing_cause log db OutOfMemory h = tt
 listing_cause log db NoDatabase h = unnamed log db h
 listing_cause log db NoTable h = h
 listing_cause log db Unsound h = h
-listing_cause log db Failed h = tt
 
 pub open_cause : (log db : List ℕ) (schema : List Wanted) (e : ReadError) → IsSizeCause log db e → IsOpenCause log db schema e
 open_cause log db schema OutOfMemory h = tt
 open_cause log db schema NoDatabase h = unnamed log db h
 open_cause log db schema NoTable h = h
 open_cause log db schema Unsound h = absurd h
-open_cause log db schema Failed h = tt
 
 pub size_failure : (log db : List ℕ) (e : ReadError) → IsFailure e → IsSizeCause log db e
 size_failure log db OutOfMemory h = tt
 size_failure log db NoDatabase h = absurd h
 size_failure log db NoTable h = h
 size_failure log db Unsound h = h
-size_failure log db Failed h = tt
 
 pub open_failure : (log db : List ℕ) (schema : List Wanted) (e : ReadError) → IsFailure e → IsOpenCause log db schema e
 open_failure log db schema e h = open_cause log db schema e (size_failure log db e h)

@@ -8,7 +8,7 @@ use Rattle.tally_wtmpdb.specs.Table.{AreUnsound, HaveNoDatabase, HaveNoTable, Is
 use Rattle.tally_wtmpdb.specs.declared.database.ReadError.{ReadError}
 use Rattle.tally_wtmpdb.specs.declared.database.ReadError.TheVariants as read
 use Rattle.tally_wtmpdb.specs.declared.fault.WtmpdbFault.{WtmpdbFault}
-use Rattle.tally_wtmpdb.specs.declared.fault.WtmpdbFault.TheVariants.{Memory, NoDatabase, NoTable, Unsound, Failed, BadRow, TooMany}
+use Rattle.tally_wtmpdb.specs.declared.fault.WtmpdbFault.TheVariants.{Memory, NoDatabase, NoTable, Unsound, BadRow, TooMany}
 
 -- the first row's fault, or more moments than the limit; want of memory may come at any time, and a fault of the database never
 abbrev pub IsCause : List Row → ℕ → WtmpdbFault → Type 0
@@ -16,7 +16,6 @@ IsCause rows limit Memory = ⊤
 IsCause rows limit NoDatabase = ⊥
 IsCause rows limit NoTable = ⊥
 IsCause rows limit Unsound = ⊥
-IsCause rows limit Failed = ⊥
 IsCause rows limit (BadRow fault) = first_fault rows ≡ Some fault
 IsCause rows limit (TooMany count) = (count ≡ length (moments rows)) × (limit < count)
 
@@ -32,13 +31,12 @@ pub record HasFault (log db : List ℕ) (limit : ℕ) (fault : WtmpdbFault) : Ty
   pub table : IsTableOf log db rows
   pub cause : IsCause rows limit fault
 
--- why the rows of the table were not read; a page may be unreadable, and memory wanting, at any time
+-- why the rows of the table were not read; memory may be wanting at any time
 abbrev pub IsReadCause : List ℕ → List ℕ → ReadError → Type 0
 IsReadCause log db read.OutOfMemory = ⊤
 IsReadCause log db read.NoDatabase = HaveNoDatabase log db
 IsReadCause log db read.NoTable = HaveNoTable log db
 IsReadCause log db read.Unsound = AreUnsound log db
-IsReadCause log db read.Failed = ⊤
 
 -- the rows were not read, or have a fault
 abbrev pub IsCauseIn : List ℕ → List ℕ → ℕ → WtmpdbFault → Type 0
@@ -46,7 +44,6 @@ IsCauseIn log db limit Memory = ⊤
 IsCauseIn log db limit NoDatabase = HaveNoDatabase log db
 IsCauseIn log db limit NoTable = HaveNoTable log db
 IsCauseIn log db limit Unsound = AreUnsound log db
-IsCauseIn log db limit Failed = ⊤
 IsCauseIn log db limit (BadRow fault) = HasFault log db limit (BadRow fault)
 IsCauseIn log db limit (TooMany count) = HasFault log db limit (TooMany count)
 
@@ -56,4 +53,3 @@ as_fault read.OutOfMemory = Memory
 as_fault read.NoDatabase = NoDatabase
 as_fault read.NoTable = NoTable
 as_fault read.Unsound = Unsound
-as_fault read.Failed = Failed

@@ -24,7 +24,8 @@ use std::alloc::{AllocError, Global};
 /// Why no rows were read.
 #[derive(Clone, Copy, Debug, PartialEq, Eq)]
 pub enum ReadError {
-    /// Memory was refused. Files in memory fail for want of it alone, so an error of I/O is that.
+    /// Memory was refused, or cannot hold what there is: files in memory fail for want of it alone, and so does a count of 32 bits of
+    /// pages or of 64 of rows.
     OutOfMemory,
     /// The files are no sound database.
     NoDatabase,
@@ -32,8 +33,6 @@ pub enum ReadError {
     NoTable,
     /// It lists the table, and is not sound as far as what it lists is read.
     Unsound,
-    /// A page could not be read, or a limit of the format was met.
-    Failed,
 }
 
 /// A file of these bytes.
@@ -66,7 +65,7 @@ fn page_size(files: &mut Files<Memory>) -> Result<PageSize, ReadError>
     match probe_page_size(files) {
         Ok(Some(size)) => Ok(size),
         Ok(None) => Err(ReadError::NoDatabase),
-        Err(_) => Err(ReadError::Failed),
+        Err(_) => Err(ReadError::OutOfMemory),
     }
 }
 
@@ -100,8 +99,7 @@ fn error_of(error: OpenError, refused: ReadError) -> ReadError
 {
     match error {
         OpenError::Refused => refused,
-        OpenError::OutOfMemory | OpenError::Io => ReadError::OutOfMemory,
-        OpenError::Full => ReadError::Failed,
+        OpenError::OutOfMemory | OpenError::Io | OpenError::Full => ReadError::OutOfMemory,
     }
 }
 
@@ -143,13 +141,10 @@ fn open(
 }
 
 impl From<StoreError> for ReadError {
-    ghost from_gives = { λ _ error. IsFailure error };
+    ghost from_gives = { λ _ error. error ≡ OutOfMemory };
 
-    fn from(error: StoreError) -> ReadError {
-        match error {
-            StoreError::OutOfMemory | StoreError::Io => ReadError::OutOfMemory,
-            _ => ReadError::Failed,
-        }
+    fn from(_error: StoreError) -> ReadError {
+        ReadError::OutOfMemory
     }
 }
 
@@ -188,7 +183,7 @@ fn scan<S: Store>(alloc: Global, store: &mut S, tree: u32) -> Result<Vec<Row>, R
         }
         add(alloc, &mut all, &row)?;
     }
-    Err(ReadError::Failed)
+    Err(ReadError::OutOfMemory)
 }
 
 /// The rows of a tree in the database of these objects.
@@ -219,7 +214,7 @@ pub fn rows(alloc: Global, log: &[u8], db: &[u8]) -> Result<Vec<Row>, ReadError>
         return Err(ReadError::NoTable);
     };
     let Ok(tree) = u32::try_from(place) else {
-        return Err(ReadError::Failed);
+        return Err(ReadError::OutOfMemory);
     };
     match objects_in(alloc, &listed)? {
         Some(objects) => tree_rows(alloc, log, db, &objects, tree),

@@ -33,9 +33,6 @@ pub enum WtmpdbFault {
     /// not read.
     #[error("a damaged database, or one with a table or an index that is not read, run sqlite3 OLD '.dump wtmp' | sqlite3 NEW")]
     Unsound,
-    /// Reading failed on the way.
-    #[error("the database cannot be read")]
-    Failed,
     /// The first row that has no login records.
     #[error("{0}")]
     BadRow(RowFault),
@@ -61,7 +58,6 @@ impl From<ReadError> for WtmpdbFault {
             ReadError::NoDatabase => WtmpdbFault::NoDatabase,
             ReadError::NoTable => WtmpdbFault::NoTable,
             ReadError::Unsound => WtmpdbFault::Unsound,
-            ReadError::Failed => WtmpdbFault::Failed,
         }
     }
 }

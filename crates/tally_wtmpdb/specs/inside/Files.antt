@@ -15,7 +15,7 @@ use Rattle.sqlite_wal.specs.Recovery.{Image}
 use Rattle.tally_wtmpdb.specs.Catalog.{listed_in}
 use Rattle.tally_wtmpdb.specs.Table.{HaveNoDatabase, IsDatabaseOf, IsNamed}
 use Rattle.tally_wtmpdb.specs.declared.database.ReadError.{ReadError}
-use Rattle.tally_wtmpdb.specs.declared.database.ReadError.TheVariants.{OutOfMemory, NoDatabase, NoTable, Unsound, Failed}
+use Rattle.tally_wtmpdb.specs.declared.database.ReadError.TheVariants.{OutOfMemory, NoDatabase, NoTable, Unsound}
 
 -- nothing is known of the files yet but their page size, and these objects are asked for
 pub record IsOver {D : Type 0} {g : Ghosts D} (log db : List ℕ) (schema : List Wanted) (it : Unopened D g) : Type 0 where
@@ -34,18 +34,17 @@ pub record IsListing (size : ℕ) (image : Image) (objects : List Row) : Type 0 
 abbrev pub error_of : OpenError → ReadError → ReadError
 error_of opening.OutOfMemory refused = OutOfMemory
 error_of opening.Io refused = OutOfMemory
-error_of opening.Full refused = Failed
+error_of opening.Full refused = OutOfMemory
 error_of opening.Refused refused = refused
 
--- no fault of the files
+-- want of memory, and no fault of the files
 abbrev pub IsFailure : ReadError → Type 0
 IsFailure OutOfMemory = ⊤
 IsFailure NoDatabase = ⊥
 IsFailure NoTable = ⊥
 IsFailure Unsound = ⊥
-IsFailure Failed = ⊤
 
--- an error is no fault of the files, or this one, of files that are not as they should be
+-- an error is want of memory, or this one, of files that are not as they should be
 abbrev pub IsRefusal : ReadError → Type 0 → ReadError → Type 0
 IsRefusal refused Sound error = IsFailure error ⊎ ((error ≡ refused) × ¬ Sound)
 
@@ -55,7 +54,6 @@ IsSizeCause log db OutOfMemory = ⊤
 IsSizeCause log db NoDatabase = (size : ℕ) → ¬ IsNamed log db size
 IsSizeCause log db NoTable = ⊥
 IsSizeCause log db Unsound = ⊥
-IsSizeCause log db Failed = ⊤
 
 -- why what they list was not read
 abbrev pub IsListingCause : (log db : List ℕ) → ReadError → Type 0
@@ -63,7 +61,6 @@ IsListingCause log db OutOfMemory = ⊤
 IsListingCause log db NoDatabase = HaveNoDatabase log db
 IsListingCause log db NoTable = ⊥
 IsListingCause log db Unsound = ⊥
-IsListingCause log db Failed = ⊤
 
 -- why the files were not opened as a database of these objects
 abbrev pub IsOpenCause : (log db : List ℕ) → List Wanted → ReadError → Type 0
@@ -71,7 +68,6 @@ IsOpenCause log db schema OutOfMemory = ⊤
 IsOpenCause log db schema NoDatabase = HaveNoDatabase log db
 IsOpenCause log db schema NoTable = ⊥
 IsOpenCause log db schema Unsound = (size : ℕ) (pages : PageMap) → ¬ IsDatabaseOf log db schema size pages
-IsOpenCause log db schema Failed = ⊤
 
 -- the rows of a tree in a sound database of these objects, which the files stand for
 pub record AreRowsOf (log db : List ℕ) (schema : List Wanted) (tree : ℕ) (rows : List Row) : Type 0 where

@@ -1,13 +1,12 @@
-use Rattle.std.proofs.Common.{arith, ap, ◌∙◌}
-use Rattle.sqlite_trees.specs.View.{View, IsClean}
-use Rattle.sqlite_store.proofs.RowLemmas.{from_key-none}
-use Rattle.tally_wtmpdb.proofs.Scan.{advance}
+use Rattle.std.proofs.Common.{arith}
+use Rattle.sqlite_trees.specs.View.{IsClean}
+use Rattle.tally_wtmpdb.proofs.Scan.{advance, begun}
 use Rattle.tally_wtmpdb.proofs.database.scan.Goals as goal
 
 pub rows-init : goal.rows-init
 rows-init g c =
     let all = (g.S.Store.view c.args.store.now).trees c.args.tree in
-    (c.in_ok-seek.ensures.live, λ clean. (all, ap (λ (v : View). v.cursors 0) (c.in_ok-seek.ensures.ok clean) ∙ rw (c.new-row.ensures, from_key-none _ all), rw c.new-all.ensures.items))
+    (c.in_ok-seek.ensures.live, λ clean. (all, begun (g.S.Store.view c.args.store.now) (g.S.Store.view c.seek.new.self) _ _ all (c.in_ok-seek.ensures.ok clean) c.new-row.ensures, rw c.new-all.ensures.items))
 
 pub rows-preserved : goal.rows-preserved
 rows-preserved g c =

@@ -1,7 +1,7 @@
 use Rattle.std.proofs.Common.{◌≡◌, List, ℕ, Result, Ok, Err, sym, subst, IfErr, IsErrAnd}
 use Rattle.tally_wtmpdb.specs.Causes.{IsCauseIn, IsReadCause, as_fault}
 use Rattle.tally_wtmpdb.specs.declared.database.ReadError.{ReadError}
-use Rattle.tally_wtmpdb.specs.declared.database.ReadError.TheVariants.{OutOfMemory, NoDatabase, NoTable, Unsound, Failed}
+use Rattle.tally_wtmpdb.specs.declared.database.ReadError.TheVariants.{OutOfMemory, NoDatabase, NoTable, Unsound}
 use Rattle.tally_wtmpdb.specs.declared.fault.WtmpdbFault.{WtmpdbFault}
 use Rattle.tally_wtmpdb.proofs.read.read_logins.Goals as goal
 
@@ -10,7 +10,6 @@ cause_in log db limit OutOfMemory h = tt
 cause_in log db limit NoDatabase h = h
 cause_in log db limit NoTable h = h
 cause_in log db limit Unsound h = h
-cause_in log db limit Failed h = tt
 
 err_from : {T : Type 0} (P : WtmpdbFault → Type 0) (r : Result T WtmpdbFault) (e : WtmpdbFault) → IsErrAnd r (λ f. f ≡ e) → P e → IfErr r P
 err_from P (Ok x) e h p = tt
