@@ -1,5 +1,5 @@
 //! Connect time by user and by day, as ac(1) gives it.
-ghost use Rattle.std.specs.Prelude.{◌≡◌, ◌<◌, ◌^◌, ℕ, List as Items, All, IfOk, OnOk, filter, map, nat_lt, sum_by};
+ghost use Rattle.std.specs.Prelude.{◌≡◌, ◌<◌, ◌≤◌, ◌-◌, ◌*◌, ◌^◌, ℕ, List as Items, All, IfOk, OnOk, filter, length, map, nat_lt, sum_by};
 ghost use Rattle.std.specs.BTreeMap.{IsOrdered};
 ghost use Rattle.std.specs.Cmp.Lexicographic.{slice_cmp};
 ghost use Rattle.std.specs.Ordering.{int_cmp, nat_cmp};
@@ -77,7 +77,8 @@ impl Sessions {
         until: Option<i32>,
     ) -> Result<BTreeMap<NameKey, u64>, Memory>
         ensures value { IfOk result (λ sums. (user : Items ℕ) → sum_at (slice_cmp nat_cmp) sums.entries user ≡ connect_of user self.now.entries until) }
-        ensures fits { OnOk result (total_of self.now.entries until < 2 ^ 52) }
+        ensures each { OnOk result (total_of self.now.entries until ≤ (2 ^ 32 - 1) * length self.now.entries) }
+        ensures fits { OnOk result (total_of self.now.entries until < 2 ^ 56) }
     {
         let entries = self.entries();
         let mut sums = BTreeMap::new(alloc);
@@ -95,7 +96,8 @@ impl Sessions {
         until: Option<i32>,
     ) -> Result<BTreeMap<NameKey, u64>, Memory>
         ensures value { IfOk result (λ sums. (user : Items ℕ) → sum_at (slice_cmp nat_cmp) sums.entries user ≡ seconds_of_user user (sessions_of choice.now self.now.entries until)) }
-        ensures fits { OnOk result (seconds_in (sessions_of choice.now self.now.entries until) < 2 ^ 52) }
+        ensures each { OnOk result (seconds_in (sessions_of choice.now self.now.entries until) ≤ (2 ^ 32 - 1) * length self.now.entries) }
+        ensures fits { OnOk result (seconds_in (sessions_of choice.now self.now.entries until) < 2 ^ 56) }
     {
         if choice.is_every() {
             self.all_user_sums(alloc, until)
@@ -108,7 +110,8 @@ impl Sessions {
     /// a moment, in seconds since 1970, or else to their host's last record.
     pub fn total(&self, choice: &LoginChoice, until: Option<i32>) -> u64
         ensures value { result ≡ seconds_in (sessions_of choice.now self.now.entries until) }
-        ensures fits { result < 2 ^ 52 }
+        ensures each { result ≤ (2 ^ 32 - 1) * length self.now.entries }
+        ensures fits { result < 2 ^ 56 }
     {
         if choice.is_every() {
             self.all_seconds(until)
@@ -125,7 +128,8 @@ impl Sessions {
         until: Option<i32>,
     ) -> Result<List<UserTime>, Memory>
         ensures value { IfOk result (λ rows. rows ≡ user_times (sessions_of choice.now self.now.entries until)) }
-        ensures fits { IfOk result (λ rows. sum_by (λ row. row.seconds) rows < 2 ^ 52) }
+        ensures each { IfOk result (λ rows. sum_by (λ row. row.seconds) rows ≤ (2 ^ 32 - 1) * length self.now.entries) }
+        ensures fits { IfOk result (λ rows. sum_by (λ row. row.seconds) rows < 2 ^ 56) }
     {
         let sums = self.user_sums(alloc, choice, until)?;
         List::from_vec(alloc, user_rows(alloc, &sums)?)

@@ -1,6 +1,7 @@
 -- Entries with the places of their groups.
-use Rattle.std.proofs.Common.{◌≡◌, inl, inr, ℕ, zero, suc, ◌+◌, ◌-◌, ◌<◌, ◌≤◌, List, [], ◌∷◌, ◌++◌, Some, get_or, length, slice_get, take, refl, sym, ap, ◌∙◌, arith, length-append}
+use Rattle.std.proofs.Common.{◌≡◌, inl, inr, ℕ, zero, suc, ◌+◌, ◌-◌, ◌%◌, ◌<◌, ◌≤◌, List, [], ◌∷◌, ◌++◌, Some, get_or, length, slice_get, take, refl, sym, ap, ◌∙◌, arith, length-append}
 use Rattle.std.specs.Map.{keys_of}
+use Rattle.std.specs.Prelude.{◌==◌}
 use Rattle.std.proofs.lemmas.List.{append_assoc, get_or-append_right, get_or-map, length-map, map-append, take_more}
 use Rattle.std.proofs.lemmas.List.Elements.{All-append, All-head, All-tail}
 use Rattle.std.proofs.lemmas.Option.{get_or_from_slice_get, slice_get_within}
@@ -14,7 +15,8 @@ use Rattle.tally_usage.specs.declared.entry.CompactProc.{CompactProc}
 use Rattle.tally_usage.specs.declared.entry.KeptProc.{KeptProc}
 use Rattle.tally_usage.specs.declared.entry.ProcEntry.{ProcEntry}
 use Rattle.tally_usage.specs.declared.usage.Usage.{Usage}
-use Rattle.tally_usage.specs.Entries.{entries_kept, entry_of, kept_at, kept_in, name_at, no_command}
+use Rattle.tally_usage.specs.Command.{command_of}
+use Rattle.tally_usage.specs.Entries.{command_at, entries_kept, entry_of, kept_at, kept_in, no_command, with_command}
 use Rattle.tally_usage.specs.inside.Entries.{AreNumbered, AreWith, kept_of, records_in}
 
 -- the groups before and after a record is counted in that of a key
@@ -33,38 +35,38 @@ module _ (before after : List (Command × Usage)) (key : Command) (with_key : Ar
       by (inl same) = omega (arith, ap length same, length-keys before, length-keys after)
       by (inr more) = omega (arith, ap length more, length-append (keys_of before) (key ∷ []), length-keys before, length-keys after)
 
-  same_name : (place : ℕ) → place < length before → name_at after place ≡ name_at before place
-  same_name place within = by with_key
+  same_group : (place : ℕ) → place < length before → command_at after place ≡ command_at before place
+  same_group place within = by with_key
     where
-      by : AreWith key (keys_of before) (keys_of after) → name_at after place ≡ name_at before place
-      by (inl same) = ap (λ ks. (get_or ks place no_command).name) same
-      by (inr more) = ap (λ ks. (get_or ks place no_command).name) more ∙ ap (λ (c : Command). c.name) (get_or-append (keys_of before) (key ∷ []) no_command place (omega (arith, within, length-keys before)))
+      by : AreWith key (keys_of before) (keys_of after) → command_at after place ≡ command_at before place
+      by (inl same) = ap (λ ks. get_or ks place no_command) same
+      by (inr more) = ap (λ ks. get_or ks place no_command) more ∙ get_or-append (keys_of before) (key ∷ []) no_command place (omega (arith, within, length-keys before))
 
   -- what was kept before reads the same
   pub same_kept : (cs : List CompactProc) → AreNumbered before cs → kept_in after cs ≡ kept_in before cs
   same_kept [] numbered = refl
   same_kept (c ∷ cs) numbered =
       let IsPlaced = λ (c : CompactProc). number_of c.item < length before in
-      let first = same_name (number_of c.item) (All-head IsPlaced c cs numbered) in
+      let first = same_group (number_of c.item) (All-head IsPlaced c cs numbered) in
       let rest = same_kept cs (All-tail IsPlaced c cs numbered) in
-      λ i. record { host = c.host; item = named (first i) c.item } ∷ rest i
+      λ i. with_command (first i) c ∷ rest i
 
   pub same_numbers : (cs : List CompactProc) → AreNumbered before cs → AreNumbered after cs
   same_numbers cs numbered k d l = omega (arith, numbered k d l, longer with_key)
 
-  -- the place of the key is that of a group, with its name
+  -- the place of the key is that of a group, which is its own
   pub within : (place : ℕ) → slice_get (keys_of after) place ≡ Some key → place < length after
   within place there = omega (arith, length-keys after, slice_get_within (keys_of after) place key there)
 
-  pub own_name : (place : ℕ) → slice_get (keys_of after) place ≡ Some key → name_at after place ≡ key.name
-  own_name place there = ap (λ (k : Command). k.name) (get_or_from_slice_get (keys_of after) place key no_command there)
+  pub own_group : (place : ℕ) → slice_get (keys_of after) place ≡ Some key → command_at after place ≡ key
+  own_group place there = get_or_from_slice_get (keys_of after) place key no_command there
 
 -- an entry is kept after the others, with the place of its group
-pub kept_last : (commands : List (Command × Usage)) (cs : List CompactProc) (c : CompactProc) (p : PackedProc) (place : ℕ) → number_of c.item ≡ place → name_at commands place ≡ (record_of p).comm → named (record_of p).comm c.item ≡ p
+pub kept_last : (commands : List (Command × Usage)) (cs : List CompactProc) (c : CompactProc) (p : PackedProc) (place : ℕ) → number_of c.item ≡ place → command_at commands place ≡ command_of (record_of p) → named (record_of p).comm ((record_of p).flag % 2 == 1) c.item ≡ p
     → kept_in commands (cs ++ c ∷ []) ≡ kept_in commands cs ++ record { host = c.host; item = p } ∷ []
-kept_last commands cs c p place number name is =
-    let own : name_at commands (number_of c.item) ≡ (record_of p).comm = ap (name_at commands) number ∙ name in
-    let last : kept_at commands c ≡ record { host = c.host; item = p } = λ i. record { host = c.host; item = (ap (λ n. named n c.item) own ∙ is) i } in
+kept_last commands cs c p place number group is =
+    let own : command_at commands (number_of c.item) ≡ command_of (record_of p) = ap (command_at commands) number ∙ group in
+    let last : kept_at commands c ≡ record { host = c.host; item = p } = ap (λ (k : Command). with_command k c) own ∙ (λ i. record { host = c.host; item = is i }) in
     map-append (kept_at commands) cs (c ∷ []) ∙ (λ i. kept_in commands cs ++ last i ∷ [])
 
 pub numbered_last : (commands : List (Command × Usage)) (cs : List CompactProc) (c : CompactProc) → AreNumbered commands cs → number_of c.item < length commands → AreNumbered commands (cs ++ c ∷ [])

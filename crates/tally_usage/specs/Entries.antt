@@ -5,7 +5,7 @@ use Rattle.tally_usage.specs.declared.entry.KeptProc.{KeptProc}
 use Rattle.tally_usage.specs.declared.entry.ProcEntries.{ProcEntries}
 use Rattle.tally_usage.specs.declared.entry.ProcEntry.{ProcEntry}
 use Rattle.tally_usage.specs.declared.entry_iter.ProcEntryIter.{ProcEntryIter}
-pub use Rattle.tally_usage.specs.Lent.{no_command, name_at, kept_at, kept_in}
+pub use Rattle.tally_usage.specs.Lent.{no_command, command_at, with_command, kept_at, kept_in}
 
 -- the entry of kept fields
 abbrev pub entry_of : KeptProc → ProcEntry

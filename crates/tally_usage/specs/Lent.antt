@@ -13,13 +13,17 @@ use mathlib.Core.Path.{path_j}
 abbrev pub no_command : Command
 no_command = record { name = replicate 17 0; forked = false }
 
--- the name of the commands of the group at a place
-abbrev pub name_at : List (Command × Usage) → ℕ → List ℕ
-name_at commands place = (get_or (keys_of commands) place no_command).name
+-- the command of the group at a place
+abbrev pub command_at : List (Command × Usage) → ℕ → Command
+command_at commands place = get_or (keys_of commands) place no_command
 
--- compact fields with the name of the group that their number stands for
+-- compact fields with a command
+abbrev pub with_command : Command → CompactProc → KeptProc
+with_command command c = record { host = c.host; item = named command.name command.forked c.item }
+
+-- compact fields with the command of the group that their number stands for
 abbrev pub kept_at : List (Command × Usage) → CompactProc → KeptProc
-kept_at commands c = record { host = c.host; item = named (name_at commands (number_of c.item)) c.item }
+kept_at commands c = with_command (command_at commands (number_of c.item)) c
 
 abbrev pub kept_in : List (Command × Usage) → List CompactProc → List KeptProc
 kept_in commands cs = map (kept_at commands) cs

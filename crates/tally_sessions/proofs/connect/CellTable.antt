@@ -65,10 +65,10 @@ seconds_end clock first users cells all h = record {
 
 -- the table has no more than all
 pub cell-le : (clock : ℤ → ℤ) (first : ℤ) (users : List (List ℕ)) (cells : List ℕ) (all ahead : List Session) (place rank : ℕ) → HasSecondsBut clock first users cells all ahead → rank < length users
-    → seconds_of_day_user clock (key_at first users place rank).day (key_at first users place rank).user all ≤ 2 ^ 40 → cell_at cells (length users) place rank ≤ 2 ^ 50
+    → seconds_of_day_user clock (key_at first users place rank).day (key_at first users place rank).user all ≤ 2 ^ 44 → cell_at cells (length users) place rank ≤ 2 ^ 50
 cell-le clock first users cells all ahead place rank h known few = at_most _ _ _ (h.value place rank known) few
   where
-    at_most : (m n l : ℕ) → m + n ≡ l → l ≤ 2 ^ 40 → m ≤ 2 ^ 50
+    at_most : (m n l : ℕ) → m + n ≡ l → l ≤ 2 ^ 44 → m ≤ 2 ^ 50
     at_most m n l e few = omega (arith, e, few)
 
 more : (b b' : Bool) (now new n ahead all : ℕ) → b ≡ b' → new ≡ now + cond b n 0 → now + (cond b' n 0 + ahead) ≡ all → new + ahead ≡ all

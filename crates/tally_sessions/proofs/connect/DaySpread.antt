@@ -182,14 +182,14 @@ spread_end all given change days h unchanged k =
     equal x y z c none is nothing = omega (arith, ints)
 
 -- what is left is little, and so are its changes
-pub spread_low : (all given : DayUser → ℕ) (change : DayUser → ℤ) (k : DayUser) → IsSpread all given change → ((j : DayUser) → all j ≤ 2 ^ 40) → neg_ℤ (pos (2 ^ 40)) ≤ℤ change k
+pub spread_low : (all given : DayUser → ℕ) (change : DayUser → ℤ) (k : DayUser) → IsSpread all given change → ((j : DayUser) → all j ≤ 2 ^ 44) → neg_ℤ (pos (2 ^ 44)) ≤ℤ change k
 spread_low all given change k h few = low _ _ (all (day_before k)) _ _ (h.left k) (h.within k) (few (day_before k))
   where
-    low : (x y z w : ℕ) (c : ℤ) → c ≡ (pos x -ℤ pos y) -ℤ (pos z -ℤ pos w) → y ≤ x → z ≤ 2 ^ 40 → neg_ℤ (pos (2 ^ 40)) ≤ℤ c
+    low : (x y z w : ℕ) (c : ℤ) → c ≡ (pos x -ℤ pos y) -ℤ (pos z -ℤ pos w) → y ≤ x → z ≤ 2 ^ 44 → neg_ℤ (pos (2 ^ 44)) ≤ℤ c
     low x y z w c is le few = omega (arith, ints)
 
-pub spread_high : (all given : DayUser → ℕ) (change : DayUser → ℤ) (k : DayUser) → IsSpread all given change → ((j : DayUser) → all j ≤ 2 ^ 40) → change k ≤ℤ pos (2 ^ 40)
+pub spread_high : (all given : DayUser → ℕ) (change : DayUser → ℤ) (k : DayUser) → IsSpread all given change → ((j : DayUser) → all j ≤ 2 ^ 44) → change k ≤ℤ pos (2 ^ 44)
 spread_high all given change k h few = high (all k) _ _ _ _ (h.left k) (h.within (day_before k)) (few k)
   where
-    high : (x y z w : ℕ) (c : ℤ) → c ≡ (pos x -ℤ pos y) -ℤ (pos z -ℤ pos w) → w ≤ z → x ≤ 2 ^ 40 → c ≤ℤ pos (2 ^ 40)
+    high : (x y z w : ℕ) (c : ℤ) → c ≡ (pos x -ℤ pos y) -ℤ (pos z -ℤ pos w) → w ≤ z → x ≤ 2 ^ 44 → c ≤ℤ pos (2 ^ 44)
     high x y z w c is le few = omega (arith, ints)

@@ -34,8 +34,8 @@ day_taken clock day s ss all own before lt = by (cases_eq (seconds_on clock day 
 pub record HasAllBut (clock : ℤ → ℤ) (rows : List Row) (all ahead : List Session) (table counts : List ℤ) : Type 0 where
   pub all_days : length table ≡ 49717
   pub all_rows : length counts ≡ length rows
-  pub few : length ahead ≤ 1048576
-  pub small : size_of (change_at counts) (length rows) + 2 * length ahead ≤ 2097152
+  pub few : length ahead ≤ 16777216
+  pub small : size_of (change_at counts) (length rows) + 2 * length ahead ≤ 33554432
   pub value : (place : ℕ) → place < 49717 → told_at clock rows table counts place +ℤ change_of_day clock (day_at place) ahead ≡ change_of_day clock (day_at place) all
   pub days : (day : ℤ) → seconds_of_day clock day ahead < seconds_of_day clock day all → IsDay day
 
@@ -43,7 +43,7 @@ start_value : (t s c : ℤ) → t ≡ pos 0 → s ≡ pos 0 → (t +ℤ s) +ℤ 
 start_value t s c e f = omega (arith, ints)
 
 -- none is taken yet
-pub day_table-start : (clock : ℤ → ℤ) (rows : List Row) (all : List Session) (table counts : List ℤ) → length table ≡ 49717 → length counts ≡ length rows → length all ≤ 1048576
+pub day_table-start : (clock : ℤ → ℤ) (rows : List Row) (all : List Session) (table counts : List ℤ) → length table ≡ 49717 → length counts ≡ length rows → length all ≤ 16777216
     → ((place : ℕ) → place < 49717 → change_at table place ≡ pos 0) → ((row : ℕ) → change_at counts row ≡ pos 0) → HasAllBut clock rows all all table counts
 day_table-start clock rows all table counts long long' few zeros none = record {
   all_days = long;
@@ -73,21 +73,21 @@ day_table-more clock rows all ss s table counts new new_counts h long long' adde
   days = λ day. day_taken clock day s ss all (days day) (h.days day);
 }
 
-pub day_table-small : (clock : ℤ → ℤ) (rows : List Row) (all ahead : List Session) (table counts : List ℤ) → HasAllBut clock rows all ahead table counts → size_of (change_at counts) (length rows) ≤ 2097152
+pub day_table-small : (clock : ℤ → ℤ) (rows : List Row) (all ahead : List Session) (table counts : List ℤ) → HasAllBut clock rows all ahead table counts → size_of (change_at counts) (length rows) ≤ 33554432
 day_table-small clock rows all ahead table counts h = omega (arith, h.small)
 
-bounds : (t s a b : ℤ) → (t +ℤ s) +ℤ a ≡ b → unsigned_abs s ≤ 2097152 * 446278 → neg_ℤ (pos (2 ^ 50)) ≤ℤ a → a ≤ℤ pos (2 ^ 50) → neg_ℤ (pos (2 ^ 50)) ≤ℤ b → b ≤ℤ pos (2 ^ 50)
+bounds : (t s a b : ℤ) → (t +ℤ s) +ℤ a ≡ b → unsigned_abs s ≤ 33554432 * 446278 → neg_ℤ (pos (2 ^ 50)) ≤ℤ a → a ≤ℤ pos (2 ^ 50) → neg_ℤ (pos (2 ^ 50)) ≤ℤ b → b ≤ℤ pos (2 ^ 50)
     → (neg_ℤ (pos (2 ^ 61)) ≤ℤ t) × (t ≤ℤ pos (2 ^ 61))
 bounds t s a b is few low high low' high' = (omega (arith, ints, abs_low s few), omega (arith, ints, abs_high s few))
   where
-    abs_low : (s : ℤ) → unsigned_abs s ≤ 2097152 * 446278 → neg_ℤ (pos (2097152 * 446278)) ≤ℤ s
+    abs_low : (s : ℤ) → unsigned_abs s ≤ 33554432 * 446278 → neg_ℤ (pos (33554432 * 446278)) ≤ℤ s
     abs_low s few = grind (arith, ints)
 
-    abs_high : (s : ℤ) → unsigned_abs s ≤ 2097152 * 446278 → s ≤ℤ pos (2097152 * 446278)
+    abs_high : (s : ℤ) → unsigned_abs s ≤ 33554432 * 446278 → s ≤ℤ pos (33554432 * 446278)
     abs_high s few = grind (arith, ints)
 
 -- the changes of few sessions are small enough for one more
-pub day_table-within : (clock : ℤ → ℤ) (rows : List Row) (all ahead : List Session) (table counts : List ℤ) → IsNear clock → length all ≤ 1048576 → HasAllBut clock rows all ahead table counts
+pub day_table-within : (clock : ℤ → ℤ) (rows : List Row) (all ahead : List Session) (table counts : List ℤ) → IsNear clock → length all ≤ 16777216 → HasAllBut clock rows all ahead table counts
     → (place : ℕ) → (neg_ℤ (pos (2 ^ 61)) ≤ℤ change_at table place) × (change_at table place ≤ℤ pos (2 ^ 61))
 day_table-within clock rows all ahead table counts near few h place = by (cases_lt place 49717)
   where

@@ -94,17 +94,17 @@ module _ (all : DayUser → ℕ) (rows : List DayUserTime) (old popped : List (D
   }
 
   -- the changes that are left are small
-  pub popped_low : (k : DayUser) → ((j : DayUser) → all j ≤ 2 ^ 40) → neg_ℤ (pos (2 ^ 61)) ≤ℤ day_change popped k
+  pub popped_low : (k : DayUser) → ((j : DayUser) → all j ≤ 2 ^ 44) → neg_ℤ (pos (2 ^ 61)) ≤ℤ day_change popped k
   popped_low k few = subst (λ z. neg_ℤ (pos (2 ^ 61)) ≤ℤ z) (sym (change_popped k)) (by (is_eq (day_user_cmp at k)) (day_change old k) (spread_low all (given_by rows) (day_change old) k h.spread few))
     where
-      by : (b : Bool) (z : ℤ) → neg_ℤ (pos (2 ^ 40)) ≤ℤ z → neg_ℤ (pos (2 ^ 61)) ≤ℤ cond b (pos 0) z
+      by : (b : Bool) (z : ℤ) → neg_ℤ (pos (2 ^ 44)) ≤ℤ z → neg_ℤ (pos (2 ^ 61)) ≤ℤ cond b (pos 0) z
       by true z low = omega (arith, ints)
       by false z low = omega (arith, ints)
 
-  pub popped_high : (k : DayUser) → ((j : DayUser) → all j ≤ 2 ^ 40) → day_change popped k ≤ℤ pos (2 ^ 61)
+  pub popped_high : (k : DayUser) → ((j : DayUser) → all j ≤ 2 ^ 44) → day_change popped k ≤ℤ pos (2 ^ 61)
   popped_high k few = subst (λ z. z ≤ℤ pos (2 ^ 61)) (sym (change_popped k)) (by (is_eq (day_user_cmp at k)) (day_change old k) (spread_high all (given_by rows) (day_change old) k h.spread few))
     where
-      by : (b : Bool) (z : ℤ) → z ≤ℤ pos (2 ^ 40) → cond b (pos 0) z ≤ℤ pos (2 ^ 61)
+      by : (b : Bool) (z : ℤ) → z ≤ℤ pos (2 ^ 44) → cond b (pos 0) z ≤ℤ pos (2 ^ 61)
       by true z high = omega (arith, ints)
       by false z high = omega (arith, ints)
 

@@ -45,39 +45,39 @@ next_small counts times next row is small =
     let same = ap unsigned_abs is in
     omega arith
 
-pub next_few : (counts : List ℤ) (times next : ℤ) (row n : ℕ) → row < n → size_of (change_at counts) n ≤ 2097152 → next ≡ times +ℤ change_at counts row → unsigned_abs times ≤ size_of (change_at counts) row → unsigned_abs next ≤ 2097152
+pub next_few : (counts : List ℤ) (times next : ℤ) (row n : ℕ) → row < n → size_of (change_at counts) n ≤ 33554432 → next ≡ times +ℤ change_at counts row → unsigned_abs times ≤ size_of (change_at counts) row → unsigned_abs next ≤ 33554432
 next_few counts times next row n lt few is small =
     let one = next_small counts times next row is small in
     let up = size_up_to (change_at counts) (row + 1) n (omega arith) in
     omega arith
 
 -- the table is small before a row is added
-pub row_walk-within : (clock : ℤ → ℤ) (rows : List Row) (counts old now : List ℤ) (times : ℤ) (row n : ℕ) → IsNear clock → row ≤ n → size_of (change_at counts) n ≤ 2097152
+pub row_walk-within : (clock : ℤ → ℤ) (rows : List Row) (counts old now : List ℤ) (times : ℤ) (row n : ℕ) → IsNear clock → row ≤ n → size_of (change_at counts) n ≤ 33554432
     → ((place : ℕ) → neg_ℤ (pos (2 ^ 61)) ≤ℤ change_at old place) → ((place : ℕ) → change_at old place ≤ℤ pos (2 ^ 61)) → IsRowWalk clock rows counts old now times row
     → (place : ℕ) → (neg_ℤ (pos (2 ^ 62)) ≤ℤ change_at now place) × (change_at now place ≤ℤ pos (2 ^ 62))
 row_walk-within clock rows counts old now times row n near le few low high h place = by (cases_lt place 49717)
   where
-    bounds : (t s p o : ℤ) → t +ℤ p ≡ o +ℤ s → unsigned_abs s ≤ 2097152 * 446278 → neg_ℤ (pos (2097152 * 446278)) ≤ℤ p → p ≤ℤ pos (2097152 * 446278) → neg_ℤ (pos (2 ^ 61)) ≤ℤ o → o ≤ℤ pos (2 ^ 61)
+    bounds : (t s p o : ℤ) → t +ℤ p ≡ o +ℤ s → unsigned_abs s ≤ 33554432 * 446278 → neg_ℤ (pos (33554432 * 446278)) ≤ℤ p → p ≤ℤ pos (33554432 * 446278) → neg_ℤ (pos (2 ^ 61)) ≤ℤ o → o ≤ℤ pos (2 ^ 61)
         → (neg_ℤ (pos (2 ^ 62)) ≤ℤ t) × (t ≤ℤ pos (2 ^ 62))
     bounds t s p o is few low high a b = (omega (arith, ints, abs_low s few), omega (arith, ints, abs_high s few))
       where
-        abs_low : (s : ℤ) → unsigned_abs s ≤ 2097152 * 446278 → neg_ℤ (pos (2097152 * 446278)) ≤ℤ s
+        abs_low : (s : ℤ) → unsigned_abs s ≤ 33554432 * 446278 → neg_ℤ (pos (33554432 * 446278)) ≤ℤ s
         abs_low s few = grind (arith, ints)
 
-        abs_high : (s : ℤ) → unsigned_abs s ≤ 2097152 * 446278 → s ≤ℤ pos (2097152 * 446278)
+        abs_high : (s : ℤ) → unsigned_abs s ≤ 33554432 * 446278 → s ≤ℤ pos (33554432 * 446278)
         abs_high s few = grind (arith, ints)
 
     by : (place < 49717) ⊎ (49717 ≤ place) → (neg_ℤ (pos (2 ^ 62)) ≤ℤ change_at now place) × (change_at now place ≤ℤ pos (2 ^ 62))
     by (inl lt) =
         let x = change_since clock rows (day_at place) in
         let up = size_up_to (change_at counts) row n le in
-        let size : size_of (change_at counts) row ≤ 2097152 = omega arith in
-        let times_few : unsigned_abs times ≤ 2097152 = omega (arith, h.small) in
+        let size : size_of (change_at counts) row ≤ 33554432 = omega arith in
+        let times_few : unsigned_abs times ≤ 33554432 = omega (arith, h.small) in
         let stand = stand_small (change_at counts) x 446278 row (λ k. change_since-few clock rows (day_at place) k near) in
         bounds (change_at now place) (stand_for (change_at counts) x row) (times *ℤ x row) (change_at old place) (h.value place lt)
         (omega (arith, stand, size))
-        (product-low times (x row) 2097152 446278 times_few (change_since-few clock rows (day_at place) row near))
-        (product-high times (x row) 2097152 446278 times_few (change_since-few clock rows (day_at place) row near))
+        (product-low times (x row) 33554432 446278 times_few (change_since-few clock rows (day_at place) row near))
+        (product-high times (x row) 33554432 446278 times_few (change_since-few clock rows (day_at place) row near))
         (low place) (high place)
     by (inr past) = let none = past_end now place h.all_days past in (omega (arith, ints, none), omega (arith, ints, none))
 

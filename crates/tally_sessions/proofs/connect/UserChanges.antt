@@ -38,15 +38,15 @@ at_most p (s ∷ ss) = by (p s) (at_most p ss)
     by false le = omega arith
 
 -- the seconds of a user on a day are few
-pub seconds_of_day_user-le : (clock : ℤ → ℤ) (k : DayUser) (ss : List Session) → IsNear clock → length ss ≤ 1048576 → seconds_of_day_user clock k.day k.user ss ≤ 2 ^ 40
+pub seconds_of_day_user-le : (clock : ℤ → ℤ) (k : DayUser) (ss : List Session) → IsNear clock → length ss ≤ 16777216 → seconds_of_day_user clock k.day k.user ss ≤ 2 ^ 44
 seconds_of_day_user-le clock k ss near few =
     let p : Session → Bool = λ s. bytes_eq s.user k.user in
     let n = seconds_of_day-le clock k.day (filter p ss) near in
     let some = at_most p ss in
     omega (arith, n, some, few)
 
-pub changes_low : (clock : ℤ → ℤ) (k : DayUser) (ss : List Session) → IsNear clock → length ss ≤ 1048576 → neg_ℤ (pos (2 ^ 50)) ≤ℤ change_of_day_user clock k ss
+pub changes_low : (clock : ℤ → ℤ) (k : DayUser) (ss : List Session) → IsNear clock → length ss ≤ 16777216 → neg_ℤ (pos (2 ^ 50)) ≤ℤ change_of_day_user clock k ss
 changes_low clock k ss near few = let n = seconds_of_day_user-le clock (record { day = k.day -ℤ pos 1; user = k.user }) ss near few in omega (arith, ints, n)
 
-pub changes_high : (clock : ℤ → ℤ) (k : DayUser) (ss : List Session) → IsNear clock → length ss ≤ 1048576 → change_of_day_user clock k ss ≤ℤ pos (2 ^ 50)
+pub changes_high : (clock : ℤ → ℤ) (k : DayUser) (ss : List Session) → IsNear clock → length ss ≤ 16777216 → change_of_day_user clock k ss ≤ℤ pos (2 ^ 50)
 changes_high clock k ss near few = let n = seconds_of_day_user-le clock k ss near few in omega (arith, ints, n)

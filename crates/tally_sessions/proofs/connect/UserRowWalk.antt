@@ -16,16 +16,16 @@ use Rattle.tally_sessions.proofs.days.ClockDays.{IsNear}
 -- what the changes and the counts that are left say is what all say
 pub record IsLeft (clock : ℤ → ℤ) (rows : List Row) (told : DayUser → ℤ) (changes : List (DayUser × ℤ)) (counts : List (RowUser × ℤ)) : Type 0 where
   pub within : AreWithin counts (length rows)
-  pub small : (name : List ℕ) → size_of (count_of counts name) (length rows) ≤ 2097152
+  pub small : (name : List ℕ) → size_of (count_of counts name) (length rows) ≤ 33554432
   pub value : (k : DayUser) → told_of clock rows changes counts k ≡ told k
 
-bounds : (t s o : ℤ) → t +ℤ s ≡ o → unsigned_abs s ≤ 2097152 * 446278 → neg_ℤ (pos (2 ^ 60)) ≤ℤ o → o ≤ℤ pos (2 ^ 60) → (neg_ℤ (pos (2 ^ 61)) ≤ℤ t) × (t ≤ℤ pos (2 ^ 61))
+bounds : (t s o : ℤ) → t +ℤ s ≡ o → unsigned_abs s ≤ 33554432 * 446278 → neg_ℤ (pos (2 ^ 60)) ≤ℤ o → o ≤ℤ pos (2 ^ 60) → (neg_ℤ (pos (2 ^ 61)) ≤ℤ t) × (t ≤ℤ pos (2 ^ 61))
 bounds t s o is few low high = (omega (arith, ints, abs_low s few), omega (arith, ints, abs_high s few))
   where
-    abs_low : (s : ℤ) → unsigned_abs s ≤ 2097152 * 446278 → neg_ℤ (pos (2097152 * 446278)) ≤ℤ s
+    abs_low : (s : ℤ) → unsigned_abs s ≤ 33554432 * 446278 → neg_ℤ (pos (33554432 * 446278)) ≤ℤ s
     abs_low s few = grind (arith, ints)
 
-    abs_high : (s : ℤ) → unsigned_abs s ≤ 2097152 * 446278 → s ≤ℤ pos (2097152 * 446278)
+    abs_high : (s : ℤ) → unsigned_abs s ≤ 33554432 * 446278 → s ≤ℤ pos (33554432 * 446278)
     abs_high s few = grind (arith, ints)
 
 -- the changes are small enough for one more
@@ -54,14 +54,14 @@ module _ (clock : ℤ → ℤ) (rows : List Row) (told : DayUser → ℤ) (chang
   pub row_in : at.row < n
   row_in = popped_in counts popped at v out n h.within
 
-  pub times_few : unsigned_abs v ≤ 2097152
-  times_few = popped_few counts popped at v out n 2097152 h.within h.small
+  pub times_few : unsigned_abs v ≤ 33554432
+  times_few = popped_few counts popped at v out n 33554432 h.within h.small
 
-  smaller : (name : List ℕ) → size_of (count_of popped name) n ≤ 2097152
+  smaller : (name : List ℕ) → size_of (count_of popped name) n ≤ 33554432
   smaller name = let size = popped_size counts popped at v out name n row_in in let was = h.small name in omega (arith, size, was)
 
-  pub popped_counts_few : (name : List ℕ) (row : ℕ) → unsigned_abs (count_of popped name row) ≤ 2097152
-  popped_counts_few name row = count_few popped name n 2097152 (popped_within counts popped at v out n h.within) (smaller name) row
+  pub popped_counts_few : (name : List ℕ) (row : ℕ) → unsigned_abs (count_of popped name row) ≤ 33554432
+  popped_counts_few name row = count_few popped name n 33554432 (popped_within counts popped at v out n h.within) (smaller name) row
 
   popped_stands : (k : DayUser) → stand_for (count_of popped k.user) (change_since clock rows k.day) n
       ≡ stand_for (count_of counts k.user) (change_since clock rows k.day) n +ℤ cond (bytes_eq at.user k.user) (neg_ℤ (v *ℤ change_since clock rows k.day at.row)) (pos 0)

@@ -30,9 +30,9 @@ user_change_cons clock k s ss = by (bytes_eq s.user k.user)
 
 -- changes and counts have what all sessions give but those ahead
 pub record HasUsersBut (clock : ℤ → ℤ) (rows : List Row) (all ahead : List Session) (changes : List (DayUser × ℤ)) (counts : List (RowUser × ℤ)) : Type 0 where
-  pub few : length ahead ≤ 1048576
+  pub few : length ahead ≤ 16777216
   pub within : AreWithin counts (length rows)
-  pub small : (name : List ℕ) → size_of (count_of counts name) (length rows) + 2 * length ahead ≤ 2097152
+  pub small : (name : List ℕ) → size_of (count_of counts name) (length rows) + 2 * length ahead ≤ 33554432
   pub value : (k : DayUser) → told_of clock rows changes counts k +ℤ change_of_day_user clock k ahead ≡ change_of_day_user clock k all
   pub days : (k : DayUser) → seconds_of_day_user clock k.day k.user ahead < seconds_of_day_user clock k.day k.user all → IsDay k.day
 
@@ -40,7 +40,7 @@ start_value : (t s c : ℤ) → t ≡ pos 0 → s ≡ pos 0 → (t +ℤ s) +ℤ 
 start_value t s c e f = omega (arith, ints)
 
 -- none is taken yet
-pub user_table-start : (clock : ℤ → ℤ) (rows : List Row) (all : List Session) (changes : List (DayUser × ℤ)) (counts : List (RowUser × ℤ)) → length all ≤ 1048576 → AreWithin counts (length rows)
+pub user_table-start : (clock : ℤ → ℤ) (rows : List Row) (all : List Session) (changes : List (DayUser × ℤ)) (counts : List (RowUser × ℤ)) → length all ≤ 16777216 → AreWithin counts (length rows)
     → ((k : DayUser) → day_change changes k ≡ pos 0) → ((name : List ℕ) (row : ℕ) → count_of counts name row ≡ pos 0) → HasUsersBut clock rows all all changes counts
 user_table-start clock rows all changes counts few within none none' = record {
   few = few;
@@ -76,21 +76,21 @@ user_table-more clock rows all ss s changes new counts new_counts h added two wi
     by k false before = before
 
 pub user_table-small : (clock : ℤ → ℤ) (rows : List Row) (all ahead : List Session) (changes : List (DayUser × ℤ)) (counts : List (RowUser × ℤ)) → HasUsersBut clock rows all ahead changes counts
-    → (name : List ℕ) → size_of (count_of counts name) (length rows) ≤ 2097152
+    → (name : List ℕ) → size_of (count_of counts name) (length rows) ≤ 33554432
 user_table-small clock rows all ahead changes counts h name = let was = h.small name in omega (arith, was)
 
-bounds : (t s a b : ℤ) → (t +ℤ s) +ℤ a ≡ b → unsigned_abs s ≤ 2097152 * 446278 → neg_ℤ (pos (2 ^ 50)) ≤ℤ a → a ≤ℤ pos (2 ^ 50) → neg_ℤ (pos (2 ^ 50)) ≤ℤ b → b ≤ℤ pos (2 ^ 50)
+bounds : (t s a b : ℤ) → (t +ℤ s) +ℤ a ≡ b → unsigned_abs s ≤ 33554432 * 446278 → neg_ℤ (pos (2 ^ 50)) ≤ℤ a → a ≤ℤ pos (2 ^ 50) → neg_ℤ (pos (2 ^ 50)) ≤ℤ b → b ≤ℤ pos (2 ^ 50)
     → (neg_ℤ (pos (2 ^ 60)) ≤ℤ t) × (t ≤ℤ pos (2 ^ 60))
 bounds t s a b is few low high low' high' = (omega (arith, ints, abs_low s few), omega (arith, ints, abs_high s few))
   where
-    abs_low : (s : ℤ) → unsigned_abs s ≤ 2097152 * 446278 → neg_ℤ (pos (2097152 * 446278)) ≤ℤ s
+    abs_low : (s : ℤ) → unsigned_abs s ≤ 33554432 * 446278 → neg_ℤ (pos (33554432 * 446278)) ≤ℤ s
     abs_low s few = grind (arith, ints)
 
-    abs_high : (s : ℤ) → unsigned_abs s ≤ 2097152 * 446278 → s ≤ℤ pos (2097152 * 446278)
+    abs_high : (s : ℤ) → unsigned_abs s ≤ 33554432 * 446278 → s ≤ℤ pos (33554432 * 446278)
     abs_high s few = grind (arith, ints)
 
 -- the changes of few sessions are small enough for one more
-pub user_table-within : (clock : ℤ → ℤ) (rows : List Row) (all ahead : List Session) (changes : List (DayUser × ℤ)) (counts : List (RowUser × ℤ)) → IsNear clock → length all ≤ 1048576
+pub user_table-within : (clock : ℤ → ℤ) (rows : List Row) (all ahead : List Session) (changes : List (DayUser × ℤ)) (counts : List (RowUser × ℤ)) → IsNear clock → length all ≤ 16777216
     → HasUsersBut clock rows all ahead changes counts → (k : DayUser) → (neg_ℤ (pos (2 ^ 60)) ≤ℤ day_change changes k) × (day_change changes k ≤ℤ pos (2 ^ 60))
 user_table-within clock rows all ahead changes counts near few h k =
     let x = change_since clock rows k.day in
@@ -103,7 +103,7 @@ told_value : (t a b : ℤ) → t +ℤ a ≡ b → neg_ℤ (pos (2 ^ 50)) ≤ℤ 
 told_value t a b is low high low' high' = (omega (arith, ints), omega (arith, ints))
 
 -- and so is what they say together
-pub user_table-told : (clock : ℤ → ℤ) (rows : List Row) (all ahead : List Session) (changes : List (DayUser × ℤ)) (counts : List (RowUser × ℤ)) → IsNear clock → length all ≤ 1048576
+pub user_table-told : (clock : ℤ → ℤ) (rows : List Row) (all ahead : List Session) (changes : List (DayUser × ℤ)) (counts : List (RowUser × ℤ)) → IsNear clock → length all ≤ 16777216
     → HasUsersBut clock rows all ahead changes counts → (k : DayUser) → (neg_ℤ (pos (2 ^ 60)) ≤ℤ told_of clock rows changes counts k) × (told_of clock rows changes counts k ≤ℤ pos (2 ^ 60))
 user_table-told clock rows all ahead changes counts near few h k =
     told_value (told_of clock rows changes counts k) (change_of_day_user clock k ahead) (change_of_day_user clock k all) (h.value k)

@@ -39,6 +39,6 @@ few_from choice es until first (suc n) =
     omega (arith, few_from choice es until (first + 1) n, length-append (of first) (flat_map of (range_with_len (first + 1) n)), length-sessions choice first es until, count_below-more first es)
 
 -- few entries have few sessions
-pub few_sessions : {es es' : List Entry} (choice : LoginChoice) (until : Option ℤ) → es ≡ es' → length es ≤ 1048576 → length (sessions_of choice es' until) ≤ 1048576
+pub few_sessions : {es es' : List Entry} (choice : LoginChoice) (until : Option ℤ) → es ≡ es' → length es ≤ 16777216 → length (sessions_of choice es' until) ≤ 16777216
 unfolding every_host
 few_sessions {es} {es'} choice until same few = omega (arith, few_from choice es' until 0 128, ap length same)

@@ -1,7 +1,7 @@
 //! Sums over the chosen sessions of all hosts.
 ghost use Rattle.std.specs.Cmp.Lexicographic.{slice_cmp};
 ghost use Rattle.std.specs.Ordering.{nat_cmp};
-ghost use Rattle.std.specs.Prelude.{◌≡◌, ◌<◌, ◌^◌, ℕ, List, IfOk, OnOk};
+ghost use Rattle.std.specs.Prelude.{◌≡◌, ◌<◌, ◌≤◌, ◌-◌, ◌*◌, ◌^◌, ℕ, List, IfOk, OnOk, length};
 ghost use Rattle.tally_sessions.specs.Sums.{seconds_in, seconds_of_user, sessions_of};
 ghost use Rattle.tally_sessions.specs.inside.Sums.{sum_at};
 
@@ -20,7 +20,8 @@ impl Sessions {
         until: Option<i32>,
     ) -> Result<BTreeMap<NameKey, u64>, Memory>
         ensures value { IfOk result (λ sums. (user : List ℕ) → sum_at (slice_cmp nat_cmp) sums.entries user ≡ seconds_of_user user (sessions_of choice.now self.now.entries until)) }
-        ensures fits { OnOk result (seconds_in (sessions_of choice.now self.now.entries until) < 2 ^ 52) }
+        ensures each { OnOk result (seconds_in (sessions_of choice.now self.now.entries until) ≤ (2 ^ 32 - 1) * length self.now.entries) }
+        ensures fits { OnOk result (seconds_in (sessions_of choice.now self.now.entries until) < 2 ^ 56) }
     {
         let entries = self.entries();
         let mut sums = BTreeMap::new(alloc);
@@ -33,7 +34,8 @@ impl Sessions {
     /// The seconds of the chosen sessions.
     pub(crate) fn chosen_seconds(&self, choice: &LoginChoice, until: Option<i32>) -> u64
         ensures value { result ≡ seconds_in (sessions_of choice.now self.now.entries until) }
-        ensures fits { result < 2 ^ 52 }
+        ensures each { result ≤ (2 ^ 32 - 1) * length self.now.entries }
+        ensures fits { result < 2 ^ 56 }
     {
         let entries = self.entries();
         let mut total = 0;

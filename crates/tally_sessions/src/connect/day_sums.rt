@@ -50,8 +50,8 @@ fn add_changes(table: &mut [i64], span: &Span, times: i64)
     requires all_days { length table.old ≡ DAY_COUNT }
     requires low { (place : ℕ) → neg_ℤ (pos (2 ^ 62)) ≤ℤ changes.change_at table.old place }
     requires high { (place : ℕ) → changes.change_at table.old place ≤ℤ pos (2 ^ 62) }
-    requires times_low { neg_ℤ (pos 2097152) ≤ℤ times }
-    requires times_high { times ≤ℤ pos 2097152 }
+    requires times_low { neg_ℤ (pos 33554432) ≤ℤ times }
+    requires times_high { times ≤ℤ pos 33554432 }
     ensures { (place : ℕ) → place < DAY_COUNT → changes.change_at table.new place
         ≡ changes.change_at table.old place +ℤ times *ℤ span_change (changes.day_at place) span.now.begin span.now.end_time }
 {
@@ -72,7 +72,7 @@ fn add_changes(table: &mut [i64], span: &Span, times: i64)
 fn count_rows(counts: &mut [i64], from: usize, to: usize)
     requires from_in { from < length counts.old }
     requires to_in { to < length counts.old }
-    requires small { size_of (changes.change_at counts.old) (length counts.old) ≤ 2 ^ 21 }
+    requires small { size_of (changes.change_at counts.old) (length counts.old) ≤ 2 ^ 25 }
     ensures value { (change : ℕ → ℤ) → stand_for (changes.change_at counts.new) change (length counts.old)
         ≡ (stand_for (changes.change_at counts.old) change (length counts.old) +ℤ change from) -ℤ change to }
     ensures two { size_of (changes.change_at counts.new) (length counts.old) ≤ size_of (changes.change_at counts.old) (length counts.old) + 2 }
@@ -89,7 +89,7 @@ fn add_session(table: &mut [i64], counts: &mut [i64], clock: &Clock, offset: i32
     requires all_rows { length counts.old ≡ length clock.now.rows }
     requires low { (place : ℕ) → neg_ℤ (pos (2 ^ 61)) ≤ℤ changes.change_at table.old place }
     requires high { (place : ℕ) → changes.change_at table.old place ≤ℤ pos (2 ^ 61) }
-    requires small { size_of (changes.change_at counts.old) (length clock.now.rows) ≤ 2 ^ 21 }
+    requires small { size_of (changes.change_at counts.old) (length clock.now.rows) ≤ 2 ^ 25 }
     ensures value { (place : ℕ) → place < DAY_COUNT → changes.told_at (local clock.now offset) clock.now.rows table.new counts.new place
         ≡ changes.told_at (local clock.now offset) clock.now.rows table.old counts.old place
         +ℤ changes.change_on (local clock.now offset) (changes.day_at place) session.now.begin session.now.end_time }
@@ -114,7 +114,7 @@ fn add_rows(table: &mut [i64], counts: &[i64], clock: &Clock, offset: i32)
     requires all_rows { length counts.now ≡ length clock.now.rows }
     requires low { (place : ℕ) → neg_ℤ (pos (2 ^ 61)) ≤ℤ changes.change_at table.old place }
     requires high { (place : ℕ) → changes.change_at table.old place ≤ℤ pos (2 ^ 61) }
-    requires small { size_of (changes.change_at counts.now) (length clock.now.rows) ≤ 2 ^ 21 }
+    requires small { size_of (changes.change_at counts.now) (length clock.now.rows) ≤ 2 ^ 25 }
     ensures { (place : ℕ) → place < DAY_COUNT → changes.change_at table.new place
         ≡ changes.told_at (local clock.now offset) clock.now.rows table.old counts.now place }
 {

@@ -134,7 +134,7 @@ impl Extent {
 
     /// How many cells are worth it for these stays.
     fn most_cells(&self) -> usize
-        ensures { result ≤ 2_101_248 }
+        ensures { result ≤ 33_558_528 }
     {
         let stays = self.stays.min(ENTRY_LIMIT);
         let free = (stays * FREE_CELLS_FOR_A_STAY).min(MOST_FREE_CELLS);
@@ -163,7 +163,7 @@ impl Extent {
         ensures count { IfSome result (λ cells. cells ≡ days * users) }
         ensures some { IfSome result (λ _. 0 < users) }
         ensures few { IfSome result (λ _. users ≤ ENTRY_LIMIT) }
-        ensures small { IfSome result (λ cells. cells ≤ 2_101_248) }
+        ensures small { IfSome result (λ cells. cells ≤ 33_558_528) }
     {
         if users == 0 || users > ENTRY_LIMIT {
             return None;

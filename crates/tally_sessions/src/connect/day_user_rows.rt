@@ -35,8 +35,8 @@ fn add_changes(
 ) -> Result<(), Memory>
     requires low { (k : Key) → neg_ℤ (pos (2 ^ 61)) ≤ℤ day_change changes.old.entries k }
     requires high { (k : Key) → day_change changes.old.entries k ≤ℤ pos (2 ^ 61) }
-    requires times_low { neg_ℤ (pos 2097152) ≤ℤ times }
-    requires times_high { times ≤ℤ pos 2097152 }
+    requires times_low { neg_ℤ (pos 33554432) ≤ℤ times }
+    requires times_high { times ≤ℤ pos 33554432 }
     ensures { OnOk result ((k : Key) → day_change changes.new.entries k
         ≡ day_change changes.old.entries k
         +ℤ (if bytes_eq user k.user then times *ℤ span_change k.day span.now.begin span.now.end_time else pos 0)) }
@@ -63,7 +63,7 @@ fn count_rows(
     from: usize,
     to: usize,
 ) -> Result<(), Memory>
-    requires few { (row : ℕ) → unsigned_abs (count_of counts.old.entries user row) ≤ 2 ^ 22 }
+    requires few { (row : ℕ) → unsigned_abs (count_of counts.old.entries user row) ≤ 2 ^ 26 }
     ensures value { OnOk result ((change : ℕ → ℤ) (name : List ℕ) (rows : ℕ) → from < rows → to < rows → stand_for (count_of counts.new.entries name) change rows
         ≡ stand_for (count_of counts.old.entries name) change rows +ℤ (if bytes_eq user name then change from -ℤ change to else pos 0)) }
     ensures two { OnOk result ((name : List ℕ) (rows : ℕ) → from < rows → to < rows
@@ -88,7 +88,7 @@ fn add_session(
     requires low { (k : Key) → neg_ℤ (pos (2 ^ 60)) ≤ℤ day_change changes.old.entries k }
     requires high { (k : Key) → day_change changes.old.entries k ≤ℤ pos (2 ^ 60) }
     requires within { AreWithin counts.old.entries (length clock.now.rows) }
-    requires small { (name : List ℕ) → size_of (count_of counts.old.entries name) (length clock.now.rows) ≤ 2 ^ 21 }
+    requires small { (name : List ℕ) → size_of (count_of counts.old.entries name) (length clock.now.rows) ≤ 2 ^ 25 }
     ensures value { OnOk result ((k : Key) → told_of (local clock.now offset) clock.now.rows changes.new.entries counts.new.entries k
         ≡ told_of (local clock.now offset) clock.now.rows changes.old.entries counts.old.entries k
         +ℤ (if bytes_eq session.now.user k.user then user.change_on (local clock.now offset) k.day session.now.begin session.now.end_time else pos 0)) }
@@ -118,8 +118,8 @@ fn count_on(
     times: i64,
 ) -> Result<(), Memory>
     requires row_in { at.row < rows }
-    requires few { (row : ℕ) → unsigned_abs (count_of counts.old.entries at.user row) ≤ 2 ^ 22 }
-    requires times_few { unsigned_abs times ≤ 2 ^ 22 }
+    requires few { (row : ℕ) → unsigned_abs (count_of counts.old.entries at.user row) ≤ 2 ^ 26 }
+    requires times_few { unsigned_abs times ≤ 2 ^ 26 }
     ensures value { OnOk result ((change : ℕ → ℤ) (name : List ℕ) → change rows ≡ pos 0 → stand_for (count_of counts.new.entries name) change rows
         ≡ stand_for (count_of counts.old.entries name) change rows +ℤ (if bytes_eq at.user name then times *ℤ change (at.row + 1) else pos 0)) }
     ensures size { OnOk result ((name : List ℕ) → size_of (count_of counts.new.entries name) rows
@@ -147,7 +147,7 @@ fn add_rows(
     requires low { (k : Key) → neg_ℤ (pos (2 ^ 60)) ≤ℤ told_of (local clock.now offset) clock.now.rows changes.old.entries counts.old.entries k }
     requires high { (k : Key) → told_of (local clock.now offset) clock.now.rows changes.old.entries counts.old.entries k ≤ℤ pos (2 ^ 60) }
     requires within { AreWithin counts.old.entries (length clock.now.rows) }
-    requires small { (name : List ℕ) → size_of (count_of counts.old.entries name) (length clock.now.rows) ≤ 2 ^ 21 }
+    requires small { (name : List ℕ) → size_of (count_of counts.old.entries name) (length clock.now.rows) ≤ 2 ^ 25 }
     ensures { OnOk result ((k : Key) → day_change changes.new.entries k
         ≡ told_of (local clock.now offset) clock.now.rows changes.old.entries counts.old.entries k) }
 {

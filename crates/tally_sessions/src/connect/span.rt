@@ -41,11 +41,11 @@ impl Span {
     /// How many seconds more a day has of the span than the day before it, so many times.
     pub(crate) fn change_on(&self, day: i32, times: i64) -> i64
         requires after_first { neg_ℤ (pos 24858) ≤ℤ day }
-        requires times_low { neg_ℤ (pos 2097152) ≤ℤ times }
-        requires times_high { times ≤ℤ pos 2097152 }
+        requires times_low { neg_ℤ (pos 33554432) ≤ℤ times }
+        requires times_high { times ≤ℤ pos 33554432 }
         ensures value { result ≡ times *ℤ span_change day self.now.begin self.now.end_time }
-        ensures low { neg_ℤ (pos 181193932800) ≤ℤ result }
-        ensures high { result ≤ℤ pos 181193932800 }
+        ensures low { neg_ℤ (pos 2899102924800) ≤ℤ result }
+        ensures high { result ≤ℤ pos 2899102924800 }
     {
         times * (self.seconds_on(day) - self.seconds_on(day - 1))
     }

@@ -12,7 +12,7 @@ use Rattle.tally_usage.specs.Usage.{usage_of}
 use Rattle.tally_usage.specs.inside.Entries.{records_in}
 use Rattle.tally_usage.specs.inside.Keys.{same_command}
 use Rattle.tally_usage.proofs.CommandLemmas.{command_laws}
-use Rattle.tally_usage.proofs.NumberLemmas.{kept_of-more, length-records_in, next_record, one-more, own_name, same_kept, same_numbers, within}
+use Rattle.tally_usage.proofs.NumberLemmas.{kept_of-more, length-records_in, next_record, one-more, own_group, same_kept, same_numbers, within}
 use Rattle.tally_usage.proofs.TotalsLemmas.{record-Fits, record-counted, total-Fits, total-counted}
 use Rattle.tally_usage.proofs.table.count_records.Goals as goal
 
@@ -62,7 +62,7 @@ pub keep-requires-clause-groups : goal.keep-requires-clause-groups
 keep-requires-clause-groups c = omega (arith, one-more c.loop-packed.commands.entries c.count_record-place.new.commands.entries _ c.count_record-place.ensures.kept, c.loop-packed.invariant.groups, c.requires.few)
 
 pub keep-requires-clause-named : goal.keep-requires-clause-named
-keep-requires-clause-named c = own_name c.loop-packed.commands.entries c.count_record-place.new.commands.entries _ c.count_record-place.ensures.kept c.count_record-place.result c.count_record-place.ensures.place
+keep-requires-clause-named c = own_group c.loop-packed.commands.entries c.count_record-place.new.commands.entries _ c.count_record-place.ensures.kept c.count_record-place.result c.count_record-place.ensures.place
 
 pub loop-packed-preserved : goal.loop-packed-preserved
 loop-packed-preserved c =

@@ -19,13 +19,13 @@ record IsLow (table : List ℤ) : Type 0 where
 -- a change that is small
 record IsChange (y x : ℤ) : Type 0 where
   value : y ≡ x
-  low : neg_ℤ (pos 181193932800) ≤ℤ y
-  high : y ≤ℤ pos 181193932800
+  low : neg_ℤ (pos 2899102924800) ≤ℤ y
+  high : y ≤ℤ pos 2899102924800
 
-sum_in_range : (x y : ℤ) → neg_ℤ (pos (2 ^ 62)) ≤ℤ x → x ≤ℤ pos (2 ^ 62) → neg_ℤ (pos 181193932800) ≤ℤ y → y ≤ℤ pos 181193932800 → FitsSigned w64 (kept x +ℤ kept y)
+sum_in_range : (x y : ℤ) → neg_ℤ (pos (2 ^ 62)) ≤ℤ x → x ≤ℤ pos (2 ^ 62) → neg_ℤ (pos 2899102924800) ≤ℤ y → y ≤ℤ pos 2899102924800 → FitsSigned w64 (kept x +ℤ kept y)
 sum_in_range x y a b c d = omega (arith, ints)
 
-sum_is : (x y : ℤ) → neg_ℤ (pos (2 ^ 62)) ≤ℤ x → x ≤ℤ pos (2 ^ 62) → neg_ℤ (pos 181193932800) ≤ℤ y → y ≤ℤ pos 181193932800 → kept (kept x +ℤ kept y) ≡ x +ℤ y
+sum_is : (x y : ℤ) → neg_ℤ (pos (2 ^ 62)) ≤ℤ x → x ≤ℤ pos (2 ^ 62) → neg_ℤ (pos 2899102924800) ≤ℤ y → y ≤ℤ pos 2899102924800 → kept (kept x +ℤ kept y) ≡ x +ℤ y
 sum_is x y a b c d = omega (arith, ints)
 
 one_more_fits : (times b e : ℤ) (old now : List ℤ) (place : ℕ) (y : ℤ) → IsLow old → IsChanged (changes_of times b e) old now place → IsChange y (changes_of times b e place)
@@ -59,7 +59,7 @@ loop-place-init c =
       changed = changed_start (changes_of (kept c.args.times) s.begin s.end_time) c.args.table.now c.place_of-first.result (none_before_place (kept c.args.times) s.begin s.end_time c.place_of-first.result first);
     }
 
-change : (times : ℤ) (place : ℕ) (d y b e : ℤ) → held d ≡ day_at place → y ≡ times *ℤ span_change (held d) b e → neg_ℤ (pos 181193932800) ≤ℤ y → y ≤ℤ pos 181193932800 → IsChange y (changes_of times b e place)
+change : (times : ℤ) (place : ℕ) (d y b e : ℤ) → held d ≡ day_at place → y ≡ times *ℤ span_change (held d) b e → neg_ℤ (pos 2899102924800) ≤ℤ y → y ≤ℤ pos 2899102924800 → IsChange y (changes_of times b e place)
 change times place d y b e day is low high = record { value = is ∙ ap (λ (z : ℤ). times *ℤ span_change z b e) day; low = low; high = high }
 
 pub overflow_add-table : goal.overflow_add-table

@@ -12,16 +12,16 @@ kept z = to_z w64 (of_z w64 z)
 
 -- a number as small as counts are
 record IsFew (z : ℤ) : Type 0 where
-  low : neg_ℤ (pos 2097153) ≤ℤ z
-  high : z ≤ℤ pos 2097153
+  low : neg_ℤ (pos 33554433) ≤ℤ z
+  high : z ≤ℤ pos 33554433
 
-few : (z : ℤ) → unsigned_abs z ≤ 2097153 → IsFew z
+few : (z : ℤ) → unsigned_abs z ≤ 33554433 → IsFew z
 few z le = record { low = by_low z le; high = by_high z le }
   where
-    by_low : (z : ℤ) → unsigned_abs z ≤ 2097153 → neg_ℤ (pos 2097153) ≤ℤ z
+    by_low : (z : ℤ) → unsigned_abs z ≤ 33554433 → neg_ℤ (pos 33554433) ≤ℤ z
     by_low z le = grind (arith, ints)
 
-    by_high : (z : ℤ) → unsigned_abs z ≤ 2097153 → z ≤ℤ pos 2097153
+    by_high : (z : ℤ) → unsigned_abs z ≤ 33554433 → z ≤ℤ pos 33554433
     by_high z le = grind (arith, ints)
 
 one_more : (z : ℤ) → IsFew z → FitsSigned w64 (kept z +ℤ pos 1) × (kept (kept z +ℤ pos 1) ≡ z +ℤ pos 1)
@@ -34,20 +34,20 @@ one_less z h = let low = h.low in let high = h.high in (omega (arith, ints), ome
 abbrev mid : List ℤ → ℕ → List ℤ
 mid xs from = set xs from (kept (kept (change_at xs from) +ℤ pos 1))
 
-few_at : (xs : List ℤ) (from : ℕ) → from < length xs → size_of (change_at xs) (length xs) ≤ 2097152 → IsFew (change_at xs from)
+few_at : (xs : List ℤ) (from : ℕ) → from < length xs → size_of (change_at xs) (length xs) ≤ 33554432 → IsFew (change_at xs from)
 few_at xs from within small = few (change_at xs from) (let one = size_at (change_at xs) from (length xs) within in omega arith)
 
-mid_more : (xs : List ℤ) (from : ℕ) → from < length xs → size_of (change_at xs) (length xs) ≤ 2097152 → IsMoreAt (change_at xs) (change_at (mid xs from)) from (pos 1)
+mid_more : (xs : List ℤ) (from : ℕ) → from < length xs → size_of (change_at xs) (length xs) ≤ 33554432 → IsMoreAt (change_at xs) (change_at (mid xs from)) from (pos 1)
 mid_more xs from within small = set_more xs from _ (pos 1) within (one_more (change_at xs from) (few_at xs from within small)).1
 
-few_mid : (xs : List ℤ) (from to : ℕ) → from < length xs → to < length xs → size_of (change_at xs) (length xs) ≤ 2097152 → IsFew (change_at (mid xs from) to)
+few_mid : (xs : List ℤ) (from to : ℕ) → from < length xs → to < length xs → size_of (change_at xs) (length xs) ≤ 33554432 → IsFew (change_at (mid xs from) to)
 few_mid xs from to within within' small =
     few (change_at (mid xs from) to)
     (let one = size_at (change_at (mid xs from)) to (length xs) within' in
     let two = size_more (change_at xs) (change_at (mid xs from)) from (length xs) (pos 1) within (mid_more xs from within small) in
     omega arith)
 
-all : (xs : List ℤ) (from to : ℕ) → from < length xs → to < length xs → size_of (change_at xs) (length xs) ≤ 2097152
+all : (xs : List ℤ) (from to : ℕ) → from < length xs → to < length xs → size_of (change_at xs) (length xs) ≤ 33554432
     → IsCounted (change_at xs) (change_at (set (mid xs from) to (kept (kept (change_at (mid xs from) to) -ℤ pos 1)))) from to (length xs)
 all xs from to within within' small =
     counted (change_at xs) (change_at (mid xs from)) (change_at (set (mid xs from) to (kept (kept (change_at (mid xs from) to) -ℤ pos 1)))) from to (length xs) within within' (mid_more xs from within small)

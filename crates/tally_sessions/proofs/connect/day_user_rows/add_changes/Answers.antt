@@ -62,16 +62,16 @@ add_change-requires-clause-high c =
     let day = to_z w32 c.loop-day.day-bits in
     subst (λ z. z ≤ℤ pos (2 ^ 61)) (sym ((c.loop-day.invariant.moved c.args.user).rest day (omega (arith, ints)))) (c.requires.high (record { day = day; user = c.args.user }))
 
-few_low : (z : ℤ) → neg_ℤ (pos 181193932800) ≤ℤ z → z ≤ℤ pos 181193932800 → neg_ℤ (pos (2 ^ 61)) ≤ℤ kept z
+few_low : (z : ℤ) → neg_ℤ (pos 2899102924800) ≤ℤ z → z ≤ℤ pos 2899102924800 → neg_ℤ (pos (2 ^ 61)) ≤ℤ kept z
 few_low z low high = omega (arith, ints)
 
-few_high : (z : ℤ) → neg_ℤ (pos 181193932800) ≤ℤ z → z ≤ℤ pos 181193932800 → kept z ≤ℤ pos (2 ^ 61)
+few_high : (z : ℤ) → neg_ℤ (pos 2899102924800) ≤ℤ z → z ≤ℤ pos 2899102924800 → kept z ≤ℤ pos (2 ^ 61)
 few_high z low high = omega (arith, ints)
 
-few_kept : (z x : ℤ) → z ≡ x → neg_ℤ (pos 181193932800) ≤ℤ z → z ≤ℤ pos 181193932800 → kept z ≡ x
+few_kept : (z x : ℤ) → z ≡ x → neg_ℤ (pos 2899102924800) ≤ℤ z → z ≤ℤ pos 2899102924800 → kept z ≡ x
 few_kept z x is low high = same z low high ∙ is
   where
-    same : (y : ℤ) → neg_ℤ (pos 181193932800) ≤ℤ y → y ≤ℤ pos 181193932800 → kept y ≡ y
+    same : (y : ℤ) → neg_ℤ (pos 2899102924800) ≤ℤ y → y ≤ℤ pos 2899102924800 → kept y ≡ y
     same y low high = omega (arith, ints)
 
 one_more : (times b e : ℤ) (name user : List ℕ) (old now next : List (DayUser × ℤ)) (day seconds : ℤ)

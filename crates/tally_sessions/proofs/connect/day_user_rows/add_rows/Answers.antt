@@ -21,23 +21,23 @@ kept z = to_z w64 (of_z w64 z)
 -- a count as the code has it
 record IsKept (v : ℤ) : Type 0 where
   same : kept v ≡ v
-  low : neg_ℤ (pos 2097152) ≤ℤ kept v
-  high : kept v ≤ℤ pos 2097152
-  few : unsigned_abs (kept v) ≤ 4194304
+  low : neg_ℤ (pos 33554432) ≤ℤ kept v
+  high : kept v ≤ℤ pos 33554432
+  few : unsigned_abs (kept v) ≤ 67108864
 
-is_kept : (v : ℤ) → unsigned_abs v ≤ 2097152 → IsKept v
-is_kept v few = let low = by_low v few in let high = by_high v few in record { same = omega (arith, ints); low = omega (arith, ints); high = omega (arith, ints); few = subst (λ (z : ℤ). unsigned_abs z ≤ 4194304) (sym (same v low high)) (omega arith) }
+is_kept : (v : ℤ) → unsigned_abs v ≤ 33554432 → IsKept v
+is_kept v few = let low = by_low v few in let high = by_high v few in record { same = omega (arith, ints); low = omega (arith, ints); high = omega (arith, ints); few = subst (λ (z : ℤ). unsigned_abs z ≤ 67108864) (sym (same v low high)) (omega arith) }
   where
-    by_low : (v : ℤ) → unsigned_abs v ≤ 2097152 → neg_ℤ (pos 2097152) ≤ℤ v
+    by_low : (v : ℤ) → unsigned_abs v ≤ 33554432 → neg_ℤ (pos 33554432) ≤ℤ v
     by_low v few = grind (arith, ints)
 
-    by_high : (v : ℤ) → unsigned_abs v ≤ 2097152 → v ≤ℤ pos 2097152
+    by_high : (v : ℤ) → unsigned_abs v ≤ 33554432 → v ≤ℤ pos 33554432
     by_high v few = grind (arith, ints)
 
-    same : (v : ℤ) → neg_ℤ (pos 2097152) ≤ℤ v → v ≤ℤ pos 2097152 → kept v ≡ v
+    same : (v : ℤ) → neg_ℤ (pos 33554432) ≤ℤ v → v ≤ℤ pos 33554432 → kept v ≡ v
     same v low high = omega (arith, ints)
 
-none_is : (v : ℤ) → unsigned_abs v ≤ 2097152 → of_z w64 v ≡ 0 → v ≡ pos 0
+none_is : (v : ℤ) → unsigned_abs v ≤ 33554432 → of_z w64 v ≡ 0 → v ≡ pos 0
 none_is (pos n) few e = ap pos e
 none_is (negsuc n) few e = absurd (omega arith)
 

@@ -47,7 +47,7 @@ add_changes-requires-in-Some-clause-high c k =
 
 pub count_rows-requires : goal.count_rows-requires
 count_rows-requires c = record {
-  few = λ row. let few = count_few c.args.counts.now.entries c.of-user.result (length c.args.clock.now.rows) 2097152 c.requires.within (c.requires.small c.of-user.result) row in omega (arith, few);
+  few = λ row. let few = count_few c.args.counts.now.entries c.of-user.result (length c.args.clock.now.rows) 33554432 c.requires.within (c.requires.small c.of-user.result) row in omega (arith, few);
 }
 
 one_told : (t t' s c d : ℤ) (p : Bool) → t' ≡ t +ℤ cond p c (pos 0) → d ≡ c → t' +ℤ s ≡ (t +ℤ s) +ℤ cond p d (pos 0)

@@ -13,13 +13,13 @@ use Rattle.tally_sessions.proofs.connect.day_user_rows.count_on.Goals as goal
 abbrev kept : ℤ → ℤ
 kept z = to_z w64 (of_z w64 z)
 
-bounds : (z : ℤ) → unsigned_abs z ≤ 4194304 → (neg_ℤ (pos (2 ^ 61)) ≤ℤ z) × (z ≤ℤ pos (2 ^ 61))
+bounds : (z : ℤ) → unsigned_abs z ≤ 67108864 → (neg_ℤ (pos (2 ^ 61)) ≤ℤ z) × (z ≤ℤ pos (2 ^ 61))
 bounds z few = (by_low z few, by_high z few)
   where
-    by_low : (z : ℤ) → unsigned_abs z ≤ 4194304 → neg_ℤ (pos (2 ^ 61)) ≤ℤ z
+    by_low : (z : ℤ) → unsigned_abs z ≤ 67108864 → neg_ℤ (pos (2 ^ 61)) ≤ℤ z
     by_low z few = grind (arith, ints)
 
-    by_high : (z : ℤ) → unsigned_abs z ≤ 4194304 → z ≤ℤ pos (2 ^ 61)
+    by_high : (z : ℤ) → unsigned_abs z ≤ 67108864 → z ≤ℤ pos (2 ^ 61)
     by_high z few = grind (arith, ints)
 
 pub add_change-requires-clause-low : goal.add_change-requires-clause-low

@@ -7,23 +7,23 @@ use Rattle.tally_sessions.specs.inside.Changes.{count_of}
 use Rattle.tally_sessions.specs.inside.Counts.{stand_for}
 use Rattle.tally_sessions.proofs.connect.day_user_rows.count_rows.Goals as goal
 
-bounds : (z : ℤ) → unsigned_abs z ≤ 4194305 → (neg_ℤ (pos (2 ^ 61)) ≤ℤ z) × (z ≤ℤ pos (2 ^ 61))
+bounds : (z : ℤ) → unsigned_abs z ≤ 67108865 → (neg_ℤ (pos (2 ^ 61)) ≤ℤ z) × (z ≤ℤ pos (2 ^ 61))
 bounds z few = (by_low z few, by_high z few)
   where
-    by_low : (z : ℤ) → unsigned_abs z ≤ 4194305 → neg_ℤ (pos (2 ^ 61)) ≤ℤ z
+    by_low : (z : ℤ) → unsigned_abs z ≤ 67108865 → neg_ℤ (pos (2 ^ 61)) ≤ℤ z
     by_low z few = grind (arith, ints)
 
-    by_high : (z : ℤ) → unsigned_abs z ≤ 4194305 → z ≤ℤ pos (2 ^ 61)
+    by_high : (z : ℤ) → unsigned_abs z ≤ 67108865 → z ≤ℤ pos (2 ^ 61)
     by_high z few = grind (arith, ints)
 
-abs_more : (z x : ℤ) (b : Bool) → unsigned_abs x ≤ 4194304 → z ≡ x +ℤ cond b (pos 1) (pos 0) → unsigned_abs z ≤ 4194305
+abs_more : (z x : ℤ) (b : Bool) → unsigned_abs x ≤ 67108864 → z ≡ x +ℤ cond b (pos 1) (pos 0) → unsigned_abs z ≤ 67108865
 abs_more z x true few is = by z x few is
   where
-    by : (z x : ℤ) → unsigned_abs x ≤ 4194304 → z ≡ x +ℤ pos 1 → unsigned_abs z ≤ 4194305
+    by : (z x : ℤ) → unsigned_abs x ≤ 67108864 → z ≡ x +ℤ pos 1 → unsigned_abs z ≤ 67108865
     by z x few is = grind (arith, ints)
 abs_more z x false few is = by z x few is
   where
-    by : (z x : ℤ) → unsigned_abs x ≤ 4194304 → z ≡ x +ℤ pos 0 → unsigned_abs z ≤ 4194305
+    by : (z x : ℤ) → unsigned_abs x ≤ 67108864 → z ≡ x +ℤ pos 0 → unsigned_abs z ≤ 67108865
     by z x few is = grind (arith, ints)
 
 pub add_change-requires-clause-low : goal.add_change-requires-clause-low

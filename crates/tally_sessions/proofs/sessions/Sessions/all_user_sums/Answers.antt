@@ -1,4 +1,4 @@
-use Rattle.std.proofs.Common.{◌≡◌, ◌∙◌, ◌+◌, ℕ, List, None, Option, Some, map, sum, sym, ap, arith}
+use Rattle.std.proofs.Common.{◌≡◌, ◌∙◌, ◌+◌, ℕ, List, None, Option, Some, length, map, sum, sym, ap, arith}
 use Rattle.std.proofs.lemmas.List.FromFn.{sum_by-map-range_with_len_more}
 use Rattle.std.specs.Cmp.Lexicographic.{slice_cmp}
 use Rattle.std.specs.Ordering.{nat_cmp}
@@ -44,6 +44,19 @@ returns-clause-value c user =
     c.loop-host.invariant.told user
     ∙ ap (λ (hosts : List ℕ). sum (map (λ (host : ℕ). seconds_of (Some user) (stays_of host (entries_in c.entries-entries.result) c.args.until)) hosts)) all
     ∙ ap (λ (es : List Entry). connect_of user es c.args.until) c.entries-entries.ensures.value
+
+pub returns-clause-each : goal.returns-clause-each
+returns-clause-each c =
+    let es : List Entry = entries_in c.entries-entries.result in
+    let every = every_host_is c.loop-host.host (omega arith) in
+    omega (
+      arith,
+      ap (λ (hosts : List ℕ). sum (map (λ (host : ℕ). seconds_of None (stays_of host es c.args.until)) hosts)) every,
+      ap (λ (xs : List Entry). total_of xs c.args.until) c.entries-entries.ensures.value,
+      c.loop-host.invariant.all,
+      ap (λ (xs : List Entry). length xs) c.entries-entries.ensures.value,
+      count_below-le c.loop-host.host es,
+    )
 
 pub returns-clause-fits : goal.returns-clause-fits
 returns-clause-fits c =

@@ -1,4 +1,4 @@
-use Rattle.std.proofs.Common.{◌≡◌, ◌∙◌, ◌+◌, ℕ, List, map, refl, sum, sym, ap, arith}
+use Rattle.std.proofs.Common.{◌≡◌, ◌∙◌, ◌+◌, ℕ, List, length, map, refl, sum, sym, ap, arith}
 use Rattle.std.proofs.lemmas.List.FromFn.{sum_by-map-range_with_len_more}
 use Rattle.std.specs.Cmp.Lexicographic.{slice_cmp}
 use Rattle.std.specs.Ordering.{nat_cmp}
@@ -48,6 +48,19 @@ returns-clause-value c user =
     ∙ ap (λ (hosts : List ℕ). sum (map (λ (host : ℕ). seconds_of_user user (sessions_among c.args.choice.now (stays_of host es c.args.until))) hosts)) (every_host_is c.loop-host.host (omega arith))
     ∙ sum_of_hosts c.args.choice.now es c.args.until (seconds_of_user user) refl (user_joined user)
     ∙ ap (λ (xs : List Entry). seconds_of_user user (sessions_of c.args.choice.now xs c.args.until)) c.entries-entries.ensures.value
+
+pub returns-clause-each : goal.returns-clause-each
+returns-clause-each c =
+    let es : List Entry = entries_in c.entries-entries.result in
+    omega (
+      arith,
+      ap (λ (hosts : List ℕ). sum (map (λ (host : ℕ). seconds_in (sessions_among c.args.choice.now (stays_of host es c.args.until))) hosts)) (every_host_is c.loop-host.host (omega arith)),
+      sum_of_hosts c.args.choice.now es c.args.until seconds_in refl seconds_joined,
+      ap (λ (xs : List Entry). seconds_in (sessions_of c.args.choice.now xs c.args.until)) c.entries-entries.ensures.value,
+      c.loop-host.invariant.all,
+      ap (λ (xs : List Entry). length xs) c.entries-entries.ensures.value,
+      count_below-le c.loop-host.host es,
+    )
 
 pub returns-clause-fits : goal.returns-clause-fits
 returns-clause-fits c =

@@ -20,17 +20,17 @@ held z = to_z w32 (of_z w32 z)
 abbrev kept : ℤ → ℤ
 kept z = to_z w64 (of_z w64 z)
 
-few_seconds : (clock : ℤ → ℤ) (day : ℤ) (ss : List Session) → IsNear clock → length ss ≤ 1048576 → seconds_of_day clock day ss ≤ 2 ^ 40
+few_seconds : (clock : ℤ → ℤ) (day : ℤ) (ss : List Session) → IsNear clock → length ss ≤ 16777216 → seconds_of_day clock day ss ≤ 2 ^ 44
 few_seconds clock day ss near few = let n = seconds_of_day-le clock day ss near in omega (arith, n, few)
 
-sum_in_range : (seconds change : ℤ) (a b : ℕ) → seconds ≡ pos a → change ≡ pos b -ℤ pos a → a ≤ 2 ^ 40 → b ≤ 2 ^ 40 → FitsSigned w64 (seconds +ℤ kept change)
+sum_in_range : (seconds change : ℤ) (a b : ℕ) → seconds ≡ pos a → change ≡ pos b -ℤ pos a → a ≤ 2 ^ 44 → b ≤ 2 ^ 44 → FitsSigned w64 (seconds +ℤ kept change)
 sum_in_range seconds change a b is is' few few' = omega (arith, ints)
 
-sum_is : (seconds change : ℤ) (a b : ℕ) → seconds ≡ pos a → change ≡ pos b -ℤ pos a → a ≤ 2 ^ 40 → b ≤ 2 ^ 40 → kept (seconds +ℤ kept change) ≡ pos b
+sum_is : (seconds change : ℤ) (a b : ℕ) → seconds ≡ pos a → change ≡ pos b -ℤ pos a → a ≤ 2 ^ 44 → b ≤ 2 ^ 44 → kept (seconds +ℤ kept change) ≡ pos b
 sum_is seconds change a b is is' few few' = omega (arith, ints)
 
 -- the sum so far and the change of a place make the seconds of its day, which fit
-sum_here : (clock : ℤ → ℤ) (place : ℕ) (ss : List Session) (seconds : ℤ) (items table : List ℤ) → IsNear clock → length ss ≤ 1048576 → seconds ≡ pos (seconds_of_day clock (day_at place -ℤ pos 1) ss)
+sum_here : (clock : ℤ → ℤ) (place : ℕ) (ss : List Session) (seconds : ℤ) (items table : List ℤ) → IsNear clock → length ss ≤ 16777216 → seconds ≡ pos (seconds_of_day clock (day_at place -ℤ pos 1) ss)
     → items ≡ table → change_at table place ≡ change_of_day clock (day_at place) ss
     → FitsSigned w64 (seconds +ℤ kept (change_at items place)) × (kept (seconds +ℤ kept (change_at items place)) ≡ pos (seconds_of_day clock (day_at place) ss))
 sum_here clock place ss seconds items table near few is same at =

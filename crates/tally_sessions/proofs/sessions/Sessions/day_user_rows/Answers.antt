@@ -29,7 +29,7 @@ loop-at-init c = walk_start _ _ _ c.new-rows.ensures.items c.in_ok-changes.ensur
 abbrev all_of : (ℤ → ℤ) → List Session → DayUser → ℕ
 all_of clock ss k = seconds_of_day_user clock k.day k.user ss
 
-kept_is : (v : ℤ) (n : ℕ) → v ≡ pos n → n ≤ 2 ^ 40 → kept v ≡ pos n
+kept_is : (v : ℤ) (n : ℕ) → v ≡ pos n → n ≤ 2 ^ 44 → kept v ≡ pos n
 kept_is v n is few = omega (arith, ints)
 
 some_if : (n : ℕ) → int_lt (pos 0) (pos n) ≡ true → 0 < n
@@ -43,9 +43,9 @@ none_if n h = let low = above (pos 0) (pos n) h in omega (arith, ints)
 record IsFirst (all : DayUser → ℕ) (at : DayUser) (v : ℤ) : Type 0 where
   amount : v ≡ pos (all at)
   kept_amount : kept v ≡ pos (all at)
-  few : all at ≤ 2 ^ 40
+  few : all at ≤ 2 ^ 44
 
-first_is : (clock : ℤ → ℤ) (ss : List Session) (rows : List DayUserTime) (old popped : List (DayUser × ℤ)) (at : DayUser) (v : ℤ) → IsNear clock → length ss ≤ 1048576 → ((k : DayUser) → 0 < all_of clock ss k → IsDay k.day)
+first_is : (clock : ℤ → ℤ) (ss : List Session) (rows : List DayUserTime) (old popped : List (DayUser × ℤ)) (at : DayUser) (v : ℤ) → IsNear clock → length ss ≤ 16777216 → ((k : DayUser) → 0 < all_of clock ss k → IsDay k.day)
     → IsWalk (all_of clock ss) rows old → IsPopped old popped at v → IsFirst (all_of clock ss) at v
 first_is clock ss rows old popped at v near few days h out =
     let amount = change_is_all (all_of clock ss) rows old popped at v h out days in
@@ -77,7 +77,7 @@ add_change-requires-clause-high c =
     let out : IsPopped c.loop-at.changes.entries c.pop_first.new.self.entries c.in-Some.at c.in-Some.seconds = record { value = c.in-Some.ensures.value; least = c.in-Some.ensures.least; updates = c.in-Some.ensures.updates.0 } in
     popped_high (all_of (local c.args.clock.now (held c.args.offset)) (sessions_of c.args.choice.now c.args.self.now.entries c.args.until)) c.loop-at.rows.items _ _ c.in-Some.at c.in-Some.seconds c.loop-at.invariant out _ (λ j. seconds_of_day_user-le (local c.args.clock.now (held c.args.offset)) j (sessions_of c.args.choice.now c.args.self.now.entries c.args.until) (near_local c.args.clock.now (held c.args.offset) (subst IsOffset (sym (to_z-of_z w32 c.args.offset c.ranges.offset)) c.requires)) c.in_ok-changes.ensures.few)
 
-small : (z : ℤ) (n : ℕ) → z ≡ pos n → n ≤ 2 ^ 40 → z ≤ℤ pos (2 ^ 61)
+small : (z : ℤ) (n : ℕ) → z ≡ pos n → n ≤ 2 ^ 44 → z ≤ℤ pos (2 ^ 61)
 small z n is few = omega (arith, ints)
 
 pub add_change-requires-clause-more_high : goal.add_change-requires-clause-more_high

@@ -1,4 +1,4 @@
-use Rattle.std.proofs.Common.{◌+◌, ◌∙◌, ℕ, sym, ap, arith, List, map, sum}
+use Rattle.std.proofs.Common.{◌+◌, ◌∙◌, ℕ, sym, ap, arith, List, length, map, sum}
 use Rattle.std.proofs.lemmas.List.FromFn.{sum_by-map-range_with_len_more}
 use Rattle.std.specs.List.{range_with_len}
 use Rattle.tally_sessions.specs.Lent.{entries_in}
@@ -26,6 +26,11 @@ pub overflow_add-total : goal.overflow_add-total
 overflow_add-total c =
     let es : List Entry = (entries_in c.entries-entries.result) in
     omega (arith, c.loop-host.invariant.fits, c.seconds-total.ensures.fits, c.entries-entries.ensures.few, count_below-le c.loop-host.host es, length-of_host c.loop-host.host es)
+
+pub returns-clause-each : goal.returns-clause-each
+returns-clause-each c =
+    let es : List Entry = entries_in c.entries-entries.result in
+    omega (arith, c.loop-host.invariant.fits, count_below-le c.loop-host.host es, ap (λ (xs : List Entry). length xs) c.entries-entries.ensures.value)
 
 pub returns-clause-fits : goal.returns-clause-fits
 returns-clause-fits c =

@@ -11,6 +11,12 @@ returns-then-is_every-clause-value c =
     let all = every_chosen c.args.choice.now es c.args.until (sym c.is_every.ensures ∙ c.if-is_every.true) in
     IfOk-weaker c.all_user_sums.result _ _ (λ sums at user. at user ∙ every_user user es c.args.until ∙ ap (λ (ss : List Session). seconds_of_user user ss) (sym all)) c.all_user_sums.ensures.value
 
+pub returns-then-is_every-clause-each : goal.returns-then-is_every-clause-each
+returns-then-is_every-clause-each c =
+    let es = c.args.self.now.entries in
+    let all = every_chosen c.args.choice.now es c.args.until (sym c.is_every.ensures ∙ c.if-is_every.true) in
+    on_ok_weaker c.all_user_sums.result (λ fits. omega (arith, fits, every_total es c.args.until, ap (λ (ss : List Session). seconds_in ss) all)) c.all_user_sums.ensures.each
+
 pub returns-then-is_every-clause-fits : goal.returns-then-is_every-clause-fits
 returns-then-is_every-clause-fits c =
     let es = c.args.self.now.entries in

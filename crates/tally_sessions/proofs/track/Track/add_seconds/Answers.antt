@@ -18,8 +18,8 @@ use Rattle.tally_sessions.proofs.track.UserSums.{own_pending, pending_added}
 use Rattle.tally_sessions.proofs.track.Track.add_seconds.Goals as goal
 
 -- the seconds of a user's sessions are far from the largest number
-seconds_few : (user : List ℕ) (host : ℕ) (es : List Entry) (a : Track) (until : Option ℤ) → IsTrack host es (length es) a → length es ≤ 1048576 → unwrap_or until a.last ≤ℤ pos 2147483647
-    → seconds_of (Some user) (stays_of host es until) ≤ 4294967295 * 1048576
+seconds_few : (user : List ℕ) (host : ℕ) (es : List Entry) (a : Track) (until : Option ℤ) → IsTrack host es (length es) a → length es ≤ 16777216 → unwrap_or until a.last ≤ℤ pos 2147483647
+    → seconds_of (Some user) (stays_of host es until) ≤ 4294967295 * 16777216
 seconds_few user host es a until h few last = omega (arith, seconds_fit (Some user) host es a until h last, length-of_host host es, few)
 
 pub add_to-requires : goal.add_to-requires

@@ -73,7 +73,7 @@ end_pending-requires-clause-now c =
     let low = within.low in
     let high = within.high in
     let same : held c.tick.new.self.clock ≡ c.tick.new.self.clock = omega (arith, ints, c.requires.of.within, c.requires.few) in
-    subst (IsWithin 1048576) (sym same) (IsWithin-all (c.args.stored.at + 1) 1048576 c.tick.new.self.clock (omega (arith, c.requires.of.within, c.requires.few)) within)
+    subst (IsWithin 16777216) (sym same) (IsWithin-all (c.args.stored.at + 1) 16777216 c.tick.new.self.clock (omega (arith, c.requires.of.within, c.requires.few)) within)
 
 pub start-requires-clause-users : goal.start-requires-clause-users
 start-requires-clause-users c =

@@ -10,4 +10,4 @@ ending-ending-requires-clause-before c =
     let stays = c.args.self.now.stays.items in
     let within : c.args.i < length stays = omega (arith, c.requires.i_in, c.args.self.now.stays.ok.0) in
     let is = get_or_default stays c.args.i no_stay c.index-stay.result.now within ∙ sym c.index-stay.ensures in
-    subst (λ (s : TrackedStay). IsWithin 1048576 s.clock_at) is (IsWithin-all _ 1048576 _ c.requires.few (c.requires.track.tracked.at c.args.i within).moved)
+    subst (λ (s : TrackedStay). IsWithin 16777216 s.clock_at) is (IsWithin-all _ 16777216 _ c.requires.few (c.requires.track.tracked.at c.args.i within).moved)

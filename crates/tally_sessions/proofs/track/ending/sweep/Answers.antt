@@ -29,7 +29,7 @@ end_stay-requires-clause-placed c =
 pub end_stay-requires-clause-before : goal.end_stay-requires-clause-before
 end_stay-requires-clause-before c =
     let old = c.loop-i.invariant.maps.from c.loop-i.i (omega arith) in
-    subst (λ t. IsWithin 1048576 t.clock_at) (sym old) (c.requires.placed.before c.loop-i.i (omega (arith, c.loop-i.invariant.maps.len)))
+    subst (λ t. IsWithin 16777216 t.clock_at) (sym old) (c.requires.placed.before c.loop-i.i (omega (arith, c.loop-i.invariant.maps.len)))
 
 pub end_stay-requires-clause-ends : goal.end_stay-requires-clause-ends
 end_stay-requires-clause-ends c =

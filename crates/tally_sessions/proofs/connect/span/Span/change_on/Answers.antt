@@ -12,22 +12,22 @@ kept z = to_z w64 (of_z w64 z)
 change_kept : (x y : ℤ) (day b e : ℤ) → x ≡ pos (span_on day b e) → y ≡ pos (span_on (day -ℤ pos 1) b e) → kept (kept x -ℤ kept y) ≡ span_change day b e
 change_kept x y day b e is is' = let few = span_on-le day b e in let few' = span_on-le (day -ℤ pos 1) b e in omega (arith, ints)
 
-times_small : (times : ℤ) → neg_ℤ (pos 2097152) ≤ℤ times → times ≤ℤ pos 2097152 → unsigned_abs times ≤ 2097152
+times_small : (times : ℤ) → neg_ℤ (pos 33554432) ≤ℤ times → times ≤ℤ pos 33554432 → unsigned_abs times ≤ 33554432
 times_small times low high = grind (arith, ints)
 
-times_kept : (times : ℤ) → neg_ℤ (pos 2097152) ≤ℤ times → times ≤ℤ pos 2097152 → kept times ≡ times
+times_kept : (times : ℤ) → neg_ℤ (pos 33554432) ≤ℤ times → times ≤ℤ pos 33554432 → kept times ≡ times
 times_kept times low high = omega (arith, ints)
 
 -- what the call computes, and that it is small
 record IsProduct (times x : ℤ) : Type 0 where
-  low : neg_ℤ (pos (2097152 * 86400)) ≤ℤ (times *ℤ x)
-  high : (times *ℤ x) ≤ℤ pos (2097152 * 86400)
+  low : neg_ℤ (pos (33554432 * 86400)) ≤ℤ (times *ℤ x)
+  high : (times *ℤ x) ≤ℤ pos (33554432 * 86400)
 
-product : (times day b e : ℤ) → neg_ℤ (pos 2097152) ≤ℤ times → times ≤ℤ pos 2097152 → IsProduct times (span_change day b e)
+product : (times day b e : ℤ) → neg_ℤ (pos 33554432) ≤ℤ times → times ≤ℤ pos 33554432 → IsProduct times (span_change day b e)
 product times day b e low high =
     let few = times_small times low high in
     let change = span_change-few day b e in
-    record { low = product-low times (span_change day b e) 2097152 86400 few change; high = product-high times (span_change day b e) 2097152 86400 few change }
+    record { low = product-low times (span_change day b e) 33554432 86400 few change; high = product-high times (span_change day b e) 33554432 86400 few change }
 
 factors : (c : goal.After-seconds_on-2)
     → kept c.args.times *ℤ kept (kept c.seconds_on.result -ℤ kept c.seconds_on-2.result) ≡ c.args.times *ℤ span_change c.args.day c.args.self.now.begin c.args.self.now.end_time
@@ -39,10 +39,10 @@ factors c =
     let second : c.seconds_on-2.result ≡ pos (span_on (c.args.day -ℤ pos 1) s.begin s.end_time) = c.seconds_on-2.ensures.value ∙ ap (λ (d : ℤ). pos (span_on d s.begin s.end_time)) before in
     λ i. times_kept c.args.times c.requires.times_low c.requires.times_high i *ℤ change_kept c.seconds_on.result c.seconds_on-2.result c.args.day s.begin s.end_time first second i
 
-fits : (z x : ℤ) → z ≡ x → neg_ℤ (pos (2097152 * 86400)) ≤ℤ x → x ≤ℤ pos (2097152 * 86400) → FitsSigned w64 z × (kept z ≡ x)
+fits : (z x : ℤ) → z ≡ x → neg_ℤ (pos (33554432 * 86400)) ≤ℤ x → x ≤ℤ pos (33554432 * 86400) → FitsSigned w64 z × (kept z ≡ x)
 fits z x is low high = (omega (arith, ints), omega (arith, ints))
 
-small : (z x : ℤ) → z ≡ x → neg_ℤ (pos (2097152 * 86400)) ≤ℤ x → x ≤ℤ pos (2097152 * 86400) → (neg_ℤ (pos 181193932800) ≤ℤ kept z) × (kept z ≤ℤ pos 181193932800)
+small : (z x : ℤ) → z ≡ x → neg_ℤ (pos (33554432 * 86400)) ≤ℤ x → x ≤ℤ pos (33554432 * 86400) → (neg_ℤ (pos 2899102924800) ≤ℤ kept z) × (kept z ≤ℤ pos 2899102924800)
 small z x is low high = (omega (arith, ints), omega (arith, ints))
 
 pub overflow_mul-result : goal.overflow_mul-result
