@@ -12,9 +12,9 @@ use Rattle.tally_book.specs.inside.Kept.{IsSound, contents_of}
 use Rattle.tally_book.specs.inside.Refusals.{IsNoSuchHost}
 
 -- fields that hold the same
-pub same_contents : (a b : Inside) → b.callers ≡ a.callers → b.clock ≡ a.clock → b.logins.entries ≡ a.logins.entries → b.summary.entries ≡ a.summary.entries → b.calls.items ≡ a.calls.items
+pub same_contents : (a b : Inside) → b.callers ≡ a.callers → b.clock ≡ a.clock → b.room ≡ a.room → b.logins.entries ≡ a.logins.entries → b.summary.entries ≡ a.summary.entries → b.calls.items ≡ a.calls.items
     → contents_of b ≡ contents_of a
-same_contents a b callers clock logins procs calls = λ i. record { callers = callers i; clock = clock i; logins = logins i; procs = procs i; calls = calls i }
+same_contents a b callers clock room logins procs calls = λ i. record { callers = callers i; clock = clock i; room = room i; logins = logins i; procs = procs i; calls = calls i }
 
 pub still_sound : (a b : Inside) → IsSound a → b.logins.hosts ≡ a.logins.hosts → contents_of b ≡ contents_of a → IsSound b
 still_sound a b sound hosts same = record {

@@ -76,7 +76,7 @@ one_kind : (n m : ℕ) (batch : Records) → (n + length (logins_in batch) ≡ n
 one_kind n m (Logins rs) = inr (omega arith)
 one_kind n m (Procs rs) = inl (omega arith)
 
-pub posted_legal : (b : Contents) (caller : ℕ) (batch : Records) → IsLegal b → caller < b.callers → length b.calls < 65536 → HasRoom (counts_of b) batch → record_count batch ≤ 1024 → IsLegal (posted b caller batch)
+pub posted_legal : (b : Contents) (caller : ℕ) (batch : Records) → IsLegal b → caller < b.callers → length b.calls < 65536 → HasRoom b.room (counts_of b) batch → record_count batch ≤ 1024 → IsLegal (posted b caller batch)
 posted_legal b caller batch legal near room fits few =
     let n : ℕ = length b.logins in
     let m : ℕ = length b.procs in
@@ -92,6 +92,7 @@ posted_legal b caller batch legal near room fits few =
       some_callers = legal.some_callers;
       few_callers = legal.few_callers;
       few_calls = omega (arith, length-append b.calls (c ∷ []));
+      room = legal.room;
       few_logins = omega (arith, long, fits.logins);
       few_procs = omega (arith, longer, fits.procs);
       chained = subst (Chains nothing (b.calls ++ c ∷ [])) ends (chains_push nothing (counts_of b) b.calls c legal.chained refl);
@@ -120,6 +121,7 @@ asked_legal b caller question legal near room host =
       some_callers = legal.some_callers;
       few_callers = legal.few_callers;
       few_calls = omega (arith, length-append b.calls (c ∷ []));
+      room = legal.room;
       few_logins = legal.few_logins;
       few_procs = legal.few_procs;
       chained = chains_push nothing (counts_of b) b.calls c legal.chained refl;

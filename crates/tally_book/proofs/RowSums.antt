@@ -15,7 +15,7 @@ same_seconds [] = refl
 same_seconds (t ∷ times) =
     sum_by-cons (λ (row : ConnectRow). row.seconds) (row_of_user t) (map row_of_user times) ∙ ap (λ n. t.seconds + n) (same_seconds times) ∙ sym (sum_by-cons (λ (x : UserTime). x.seconds) t times)
 
-pub user_rows_add_up_to : (times : List UserTime) (rows : List ConnectRow) → rows ≡ map row_of_user times → seconds_of_times times < 2 ^ 52 → AddUpTo (seconds_of_times times) rows
+pub user_rows_add_up_to : (times : List UserTime) (rows : List ConnectRow) → rows ≡ map row_of_user times → seconds_of_times times < 2 ^ 56 → AddUpTo (seconds_of_times times) rows
 user_rows_add_up_to times rows is few =
     let all : seconds_of rows ≡ seconds_of_times times = ap seconds_of is ∙ same_seconds times in
     record { sum = all; fits = omega (arith, all, few) }

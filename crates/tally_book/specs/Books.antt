@@ -9,17 +9,18 @@ use Rattle.tally_book.specs.declared.history.Served.{Served}
 use Rattle.tally_book.specs.declared.question.Question.{Question}
 use Rattle.tally_book.specs.declared.question.Answer.{Answer}
 use Rattle.tally_book.specs.declared.book.TheConstants.{CALL_LIMIT}
+use Rattle.tally_book.specs.declared.room.TheConstants.{MILLION}
 use Rattle.tally_clock.specs.Rows.{ClockRows}
 use Rattle.tally_records.specs.declared.batch.TheConstants.{BATCH_LIMIT}
 use Rattle.tally_records.specs.Records.{Records, logins_in, procs_in}
 use Rattle.tally_sessions.specs.declared.sessions.TheConstants as sessions
-use Rattle.tally_usage.specs.declared.entry.TheConstants as usage
 use Rattle.tally_sessions.specs.declared.entry.Entry.{Entry}
 use Rattle.tally_sessions.specs.Hosts.{posted_by}
 use Rattle.tally_usage.specs.declared.entry.ProcEntry.{ProcEntry}
 use Rattle.tally_usage.specs.Summary.{entries_of}
 use Rattle.tally_book.specs.Answers.{answer_of, NamesHostBelow}
 use Rattle.tally_book.specs.Contents.{Contents}
+use Rattle.tally_book.specs.Rooms.{IsRoom}
 
 -- who made a call
 abbrev pub caller_of : Call → ℕ
@@ -84,14 +85,19 @@ pub record IsLegal (b : Contents) : Type 0 where
   pub some_callers : 1 ≤ b.callers
   pub few_callers : b.callers ≤ sessions.HOST_LIMIT
   pub few_calls : length b.calls ≤ CALL_LIMIT
-  pub few_logins : length b.logins ≤ sessions.ENTRY_LIMIT
-  pub few_procs : length b.procs ≤ usage.ENTRY_LIMIT
+  pub room : IsRoom b.room
+  pub few_logins : length b.logins ≤ b.room
+  pub few_procs : length b.procs ≤ b.room
   pub chained : Chains nothing b.calls (counts_of b)
   pub sound : All (IsCall b.callers b.clock b.logins b.procs) b.calls
 
--- a book of so many callers without calls, with days by a clock
+-- a book of so many callers without calls, with days by a clock and room for so many records
+abbrev pub empty_with_room : ClockRows → ℕ → ℕ → Contents
+empty_with_room clock room callers = record { callers = callers; clock = clock; room = room; logins = []; procs = []; calls = [] }
+
+-- the same with room for a million
 abbrev pub empty : ClockRows → ℕ → Contents
-empty clock callers = record { callers = callers; clock = clock; logins = []; procs = []; calls = [] }
+empty clock callers = empty_with_room clock MILLION callers
 
 -- how much is stored once a batch was added
 abbrev pub counts_with : Contents → Records → Counts
@@ -105,6 +111,7 @@ abbrev pub posted : Contents → ℕ → Records → Contents
 posted b caller batch = record {
   callers = b.callers;
   clock = b.clock;
+  room = b.room;
   logins = b.logins ++ posted_by caller (logins_in batch);
   procs = b.procs ++ entries_of caller (procs_in batch);
   calls = b.calls ++ Posted caller (counts_of b) (counts_with b batch) ∷ [];
@@ -115,6 +122,7 @@ abbrev pub asked : Contents → ℕ → Question → Contents
 asked b caller question = record {
   callers = b.callers;
   clock = b.clock;
+  room = b.room;
   logins = b.logins;
   procs = b.procs;
   calls = b.calls ++ Asked caller (counts_of b) question (answer_of b.clock question b.logins b.procs) ∷ [];

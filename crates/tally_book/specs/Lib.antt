@@ -3,4 +3,5 @@ pub mod Books
 pub mod Contents
 pub mod Deeds
 pub mod Refusals
+pub mod Rooms
 pub mod inside

@@ -8,23 +8,21 @@ use Rattle.tally_book.specs.declared.history.Counts.{Counts}
 use Rattle.tally_book.specs.declared.question.Question.{Question}
 use Rattle.tally_book.specs.declared.book.TheConstants.{CALL_LIMIT}
 use Rattle.tally_records.specs.Records.{Records, logins_in, procs_in}
-use Rattle.tally_sessions.specs.declared.sessions.TheConstants as sessions
-use Rattle.tally_usage.specs.declared.entry.TheConstants as usage
 use Rattle.tally_book.specs.Answers.{NamesHost, NamesHostBelow}
 
--- both lists have room for the batch
-pub record HasRoom (stored : Counts) (batch : Records) : Type 0 where
-  pub logins : stored.logins + length (logins_in batch) ≤ sessions.ENTRY_LIMIT
-  pub procs : stored.procs + length (procs_in batch) ≤ usage.ENTRY_LIMIT
+-- both lists have room for the batch below so many records
+pub record HasRoom (room : ℕ) (stored : Counts) (batch : Records) : Type 0 where
+  pub logins : stored.logins + length (logins_in batch) ≤ room
+  pub procs : stored.procs + length (procs_in batch) ≤ room
 
--- the fault of a post names its cause, and the causes before it do not hold
-abbrev pub IsPostRefusal : Counts → ℕ → Records → PostFault → Type 0
-IsPostRefusal stored calls batch (post.LoginsFull told) =
-    (told ≡ stored.logins) × (sessions.ENTRY_LIMIT < stored.logins + length (logins_in batch))
-IsPostRefusal stored calls batch (post.ProcsFull told) =
-    (told ≡ stored.procs) × (usage.ENTRY_LIMIT < stored.procs + length (procs_in batch))
-IsPostRefusal stored calls batch post.CallsFull = HasRoom stored batch × (calls ≡ CALL_LIMIT)
-IsPostRefusal stored calls batch post.Memory = HasRoom stored batch × (calls < CALL_LIMIT)
+-- the fault of a post to a book of so much room names its cause, and the causes before it do not hold
+abbrev pub IsPostRefusal : ℕ → Counts → ℕ → Records → PostFault → Type 0
+IsPostRefusal room stored calls batch (post.LoginsFull told) =
+    (told ≡ stored.logins) × (room < stored.logins + length (logins_in batch))
+IsPostRefusal room stored calls batch (post.ProcsFull told) =
+    (told ≡ stored.procs) × (room < stored.procs + length (procs_in batch))
+IsPostRefusal room stored calls batch post.CallsFull = HasRoom room stored batch × (calls ≡ CALL_LIMIT)
+IsPostRefusal room stored calls batch post.Memory = HasRoom room stored batch × (calls < CALL_LIMIT)
 
 -- the fault of a report names its cause, and the causes before it do not hold
 abbrev pub IsAskRefusal : ℕ → ℕ → Question → AskFault → Type 0

@@ -1,6 +1,6 @@
 ghost use Rattle.std.specs.Prelude.{◌≡◌, ◌<◌, ◌≤◌, [], length, IfOk, IfErr, OnErr, OnOk};
 ghost use Rattle.tally_book.specs.Answers.{HasDays, IsAskable, answer_of};
-ghost use Rattle.tally_book.specs.Books.{IsLegal, IsReceipt, IsServed, counts_of, empty, posted, asked};
+ghost use Rattle.tally_book.specs.Books.{IsLegal, IsReceipt, IsServed, counts_of, empty, empty_with_room, posted, asked};
 ghost use Rattle.tally_book.specs.Refusals.{IsPostRefusal, IsAskRefusal};
 ghost use Rattle.tally_clock.specs.Rows.{utc};
 ghost use Rattle.tally_sessions.specs.Days.{IsOffset};
@@ -13,6 +13,7 @@ use crate::fault::{AskFault, PostFault};
 use crate::history::{Call, Receipt, Served, record};
 use crate::logins::LoginStore;
 use crate::question::{Answer, Question};
+use crate::room::Room;
 use crate::storing::{check_room, counts, store};
 use std::alloc::Global;
 use std::hash::RandomState;
@@ -32,6 +33,7 @@ pub const CALL_LIMIT: usize = 65_536;
 pub struct Book {
     callers: u32,
     clock: Clock,
+    room: Room,
     logins: LoginStore,
     summary: Summary,
     calls: Vec<Call>,
@@ -50,7 +52,8 @@ impl Model for Book {
 }
 
 impl Book {
-    /// An empty book of so many callers, with the days of UTC. Its tables are hashed by the keys.
+    /// An empty book of so many callers, with the days of UTC and room for a million records of each kind. Its tables are hashed by
+    /// the keys.
     pub fn new(alloc: Global, keys: RandomState, callers: u32) -> Result<Book, Memory>
         requires some { 1 ≤ callers }
         requires few { callers ≤ HOST_LIMIT }
@@ -67,9 +70,26 @@ impl Book {
         ensures empty { IfOk result (λ b. b ≡ empty clock callers) }
         ensures legal { IfOk result IsLegal }
     {
+        Book::with_room(alloc, keys, clock, Room::usual(), callers)
+    }
+
+    /// The same with room for so many records of each kind.
+    pub fn with_room(
+        alloc: Global,
+        keys: RandomState,
+        clock: Clock,
+        room: Room,
+        callers: u32,
+    ) -> Result<Book, Memory>
+        requires some { 1 ≤ callers }
+        requires few { callers ≤ HOST_LIMIT }
+        ensures empty { IfOk result (λ b. b ≡ empty_with_room clock room callers) }
+        ensures legal { IfOk result IsLegal }
+    {
         Ok(Book {
             callers,
             clock,
+            room,
             logins: LoginStore::new(alloc, keys, callers),
             summary: Summary::new(alloc, keys),
             calls: Vec::new(alloc),
@@ -88,6 +108,13 @@ impl Book {
         ensures { result.now ≡ self.now.clock }
     {
         &self.clock
+    }
+
+    /// How many records of each kind it has room for.
+    pub fn room(&self) -> Room
+        ensures { result ≡ self.now.room }
+    {
+        self.room
     }
 
     /// The stored login entries, in stored order.
@@ -120,6 +147,7 @@ impl Book {
         let Book {
             callers: _,
             clock: _,
+            room: _,
             logins,
             summary,
             calls,
@@ -134,11 +162,11 @@ impl Book {
         ensures stored { OnOk result (self.new ≡ posted self.old caller batch.now) }
         ensures receipt { IfOk result (IsReceipt self.old self.new) }
         ensures refused { OnErr result (self.new ≡ self.old) }
-        ensures cause { IfErr result (IsPostRefusal (counts_of self.old) (length self.old.calls) batch.now) }
+        ensures cause { IfErr result (IsPostRefusal self.old.room (counts_of self.old) (length self.old.calls) batch.now) }
         ensures legal { IsLegal self.new }
     {
         let before = counts(&self.logins, &self.summary);
-        check_room(before, self.calls.len(), batch)?;
+        check_room(self.room, before, self.calls.len(), batch)?;
         self.calls.reserve(1)?;
         store(&mut self.logins, &mut self.summary, caller, batch)?;
         let after = counts(&self.logins, &self.summary);
@@ -169,6 +197,7 @@ impl Book {
         let Book {
             callers: _,
             clock: _,
+            room: _,
             mut logins,
             summary: _,
             calls: _,

@@ -52,7 +52,7 @@ fn day_user_rows(alloc: Global, times: &[DayUserTime]) -> Result<Vec<ConnectRow>
 
 /// The rows of users. They add up to the same seconds as the users do.
 fn rows_of_users(alloc: Global, times: &[UserTime]) -> Result<List<ConnectRow>, Memory>
-    requires fits { sum_by (λ time. time.seconds) times.now < 2 ^ 52 }
+    requires fits { sum_by (λ time. time.seconds) times.now < 2 ^ 56 }
     ensures rows { IfOk result (λ rows. rows ≡ map row_of_user times.now) }
     ensures days { IfOk result (All HasDay) }
     ensures sum { IfOk result (AddUpTo (sum_by (λ time. time.seconds) times.now)) }

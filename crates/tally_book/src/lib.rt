@@ -10,6 +10,7 @@ mod history;
 mod laws;
 mod logins;
 mod question;
+mod room;
 mod storing;
 
 pub use book::{Book, CALL_LIMIT};
@@ -18,3 +19,4 @@ pub use fault::{AskFault, PostFault};
 pub use history::{Call, Counts, Receipt, Served};
 pub use laws::{entries_are_posts, host_order_is_enough};
 pub use question::{Answer, ConnectRow, Question};
+pub use room::{MILLION, MOST_MILLIONS, Room};

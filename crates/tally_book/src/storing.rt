@@ -9,6 +9,7 @@ use crate::book::CALL_LIMIT;
 use crate::fault::PostFault;
 use crate::history::Counts;
 use crate::logins::LoginStore;
+use crate::room::Room;
 use tally_records::{BATCH_LIMIT, Batch, Kind, Memory};
 use tally_sessions::ENTRY_LIMIT as LOGIN_LIMIT;
 use tally_usage::{ENTRY_LIMIT as PROC_LIMIT, Summary};
@@ -25,24 +26,30 @@ pub(crate) fn counts(logins: &LoginStore, summary: &Summary) -> Counts
 }
 
 /// Sees that the batch and the call fit.
-pub(crate) fn check_room(stored: Counts, calls: usize, batch: &Batch) -> Result<(), PostFault>
-    requires few_logins { stored.logins ≤ LOGIN_LIMIT }
-    requires few_procs { stored.procs ≤ PROC_LIMIT }
+pub(crate) fn check_room(
+    room: Room,
+    stored: Counts,
+    calls: usize,
+    batch: &Batch,
+) -> Result<(), PostFault>
+    requires few_logins { stored.logins ≤ room }
+    requires few_procs { stored.procs ≤ room }
     requires few_calls { calls ≤ CALL_LIMIT }
-    ensures room { OnOk result (HasRoom stored batch.now) }
+    ensures room { OnOk result (HasRoom room stored batch.now) }
     ensures calls { OnOk result (calls < CALL_LIMIT) }
     ensures few { OnOk result (record_count batch.now ≤ BATCH_LIMIT) }
-    ensures cause { IfErr result (IsPostRefusal stored calls batch.now) }
+    ensures cause { IfErr result (IsPostRefusal room stored calls batch.now) }
     ensures told { IfErr result (λ f. f ≢ PostFault.Memory) }
 {
     let count = batch.len() as u64;
+    let most = u64::from(room.records());
     match batch.kind() {
-        Kind::Login | Kind::FailedLogin if stored.logins + count > LOGIN_LIMIT as u64 => {
+        Kind::Login | Kind::FailedLogin if stored.logins + count > most => {
             return Err(PostFault::LoginsFull {
                 stored: stored.logins,
             });
         }
-        Kind::Proc if stored.procs + count > PROC_LIMIT as u64 => {
+        Kind::Proc if stored.procs + count > most => {
             return Err(PostFault::ProcsFull {
                 stored: stored.procs,
             });

@@ -9,6 +9,7 @@ abbrev pub contents_of : Inside → Contents
 contents_of b = record {
   callers = b.callers;
   clock = b.clock;
+  room = b.room;
   logins = b.logins.entries;
   procs = b.summary.entries;
   calls = b.calls.items;

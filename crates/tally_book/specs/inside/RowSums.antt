@@ -9,4 +9,4 @@ seconds_of rows = sum_by (λ row. row.seconds) rows
 -- rows have so many seconds, and few enough to be summed
 pub record AddUpTo (seconds : ℕ) (rows : List ConnectRow) : Type 0 where
   pub sum : seconds_of rows ≡ seconds
-  pub fits : seconds_of rows < 2 ^ 52
+  pub fits : seconds_of rows < 2 ^ 56

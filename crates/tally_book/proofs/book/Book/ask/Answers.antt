@@ -50,8 +50,8 @@ returns-in_err-check_host-clause-legal c = subst IsLegal c.self.view_is c.self.i
 
 pub invariant_of-self : goal.invariant_of-self
 invariant_of-self c =
-    let after : Inside = record { callers = c.self.inside.callers; clock = c.self.inside.clock; logins = c.self.inside.logins; summary = c.self.inside.summary; calls = c.reserve.new.self } in
-    let same = same_contents c.self.inside after refl refl refl refl c.reserve.ensures.items in
+    let after : Inside = record { callers = c.self.inside.callers; clock = c.self.inside.clock; room = c.self.inside.room; logins = c.self.inside.logins; summary = c.self.inside.summary; calls = c.reserve.new.self } in
+    let same = same_contents c.self.inside after refl refl refl refl refl c.reserve.ensures.items in
     still_sound c.self.inside after c.self.invariant refl same
 
 pub returns-in_err-reserve-clause-stored : goal.returns-in_err-reserve-clause-stored
@@ -71,8 +71,8 @@ returns-in_err-reserve-clause-days c =
 
 pub returns-in_err-reserve-clause-refused : goal.returns-in_err-reserve-clause-refused
 returns-in_err-reserve-clause-refused c =
-    let after : Inside = record { callers = c.self.inside.callers; clock = c.self.inside.clock; logins = c.self.inside.logins; summary = c.self.inside.summary; calls = c.reserve.new.self } in
-    let same = same_contents c.self.inside after refl refl refl refl c.reserve.ensures.items in
+    let after : Inside = record { callers = c.self.inside.callers; clock = c.self.inside.clock; room = c.self.inside.room; logins = c.self.inside.logins; summary = c.self.inside.summary; calls = c.reserve.new.self } in
+    let same = same_contents c.self.inside after refl refl refl refl refl c.reserve.ensures.items in
     let p = err_from_is_err_and c.from_residual-in_err-reserve.result c.from_residual-in_err-reserve.ensures.1 in
     rw p.1 (same ∙ c.self.view_is)
 
@@ -86,8 +86,8 @@ returns-in_err-reserve-clause-legal c = (invariant_of-self c).legal
 
 pub invariant_of-self-in_err-count_for : goal.invariant_of-self-in_err-count_for
 invariant_of-self-in_err-count_for c =
-    let after : Inside = record { callers = c.self.inside.callers; clock = c.self.inside.clock; logins = c.count_for.new.self; summary = c.self.inside.summary; calls = c.reserve.new.self } in
-    let same = same_contents c.self.inside after refl refl c.in_err-count_for.ensures.entries refl c.reserve.ensures.items in
+    let after : Inside = record { callers = c.self.inside.callers; clock = c.self.inside.clock; room = c.self.inside.room; logins = c.count_for.new.self; summary = c.self.inside.summary; calls = c.reserve.new.self } in
+    let same = same_contents c.self.inside after refl refl refl c.in_err-count_for.ensures.entries refl c.reserve.ensures.items in
     still_sound c.self.inside after c.self.invariant c.in_err-count_for.ensures.hosts same
 
 pub returns-in_err-count_for-clause-stored : goal.returns-in_err-count_for-clause-stored
@@ -107,8 +107,8 @@ returns-in_err-count_for-clause-days c =
 
 pub returns-in_err-count_for-clause-refused : goal.returns-in_err-count_for-clause-refused
 returns-in_err-count_for-clause-refused c =
-    let after : Inside = record { callers = c.self.inside.callers; clock = c.self.inside.clock; logins = c.count_for.new.self; summary = c.self.inside.summary; calls = c.reserve.new.self } in
-    let same = same_contents c.self.inside after refl refl c.in_err-count_for.ensures.entries refl c.reserve.ensures.items in
+    let after : Inside = record { callers = c.self.inside.callers; clock = c.self.inside.clock; room = c.self.inside.room; logins = c.count_for.new.self; summary = c.self.inside.summary; calls = c.reserve.new.self } in
+    let same = same_contents c.self.inside after refl refl refl c.in_err-count_for.ensures.entries refl c.reserve.ensures.items in
     let p = err_from_is_err_and c.from_residual-in_err-count_for.result c.from_residual-in_err-count_for.ensures.1 in
     rw p.1 (same ∙ c.self.view_is)
 
@@ -134,8 +134,8 @@ answer-requires-clause-askable c = c.requires.askable
 
 pub invariant_of-self-in_err-answer : goal.invariant_of-self-in_err-answer
 invariant_of-self-in_err-answer c =
-    let after : Inside = record { callers = c.self.inside.callers; clock = c.self.inside.clock; logins = c.count_for.new.self; summary = c.self.inside.summary; calls = c.reserve.new.self } in
-    let same = same_contents c.self.inside after refl refl c.in_ok-count_for.ensures.entries refl c.reserve.ensures.items in
+    let after : Inside = record { callers = c.self.inside.callers; clock = c.self.inside.clock; room = c.self.inside.room; logins = c.count_for.new.self; summary = c.self.inside.summary; calls = c.reserve.new.self } in
+    let same = same_contents c.self.inside after refl refl refl c.in_ok-count_for.ensures.entries refl c.reserve.ensures.items in
     still_sound c.self.inside after c.self.invariant c.in_ok-count_for.ensures.hosts same
 
 pub returns-in_err-answer-clause-stored : goal.returns-in_err-answer-clause-stored
@@ -155,8 +155,8 @@ returns-in_err-answer-clause-days c =
 
 pub returns-in_err-answer-clause-refused : goal.returns-in_err-answer-clause-refused
 returns-in_err-answer-clause-refused c =
-    let after : Inside = record { callers = c.self.inside.callers; clock = c.self.inside.clock; logins = c.count_for.new.self; summary = c.self.inside.summary; calls = c.reserve.new.self } in
-    let same = same_contents c.self.inside after refl refl c.in_ok-count_for.ensures.entries refl c.reserve.ensures.items in
+    let after : Inside = record { callers = c.self.inside.callers; clock = c.self.inside.clock; room = c.self.inside.room; logins = c.count_for.new.self; summary = c.self.inside.summary; calls = c.reserve.new.self } in
+    let same = same_contents c.self.inside after refl refl refl c.in_ok-count_for.ensures.entries refl c.reserve.ensures.items in
     let p = err_from_is_err_and c.from_residual-in_err-answer.result c.from_residual-in_err-answer.ensures.1 in
     rw p.1 (same ∙ c.self.view_is)
 
@@ -170,8 +170,8 @@ returns-in_err-answer-clause-legal c = (invariant_of-self-in_err-answer c).legal
 
 pub invariant_of-self-in_err-asked : goal.invariant_of-self-in_err-asked
 invariant_of-self-in_err-asked c =
-    let after : Inside = record { callers = c.self.inside.callers; clock = c.self.inside.clock; logins = c.count_for.new.self; summary = c.self.inside.summary; calls = c.reserve.new.self } in
-    let same = same_contents c.self.inside after refl refl c.in_ok-count_for.ensures.entries refl c.reserve.ensures.items in
+    let after : Inside = record { callers = c.self.inside.callers; clock = c.self.inside.clock; room = c.self.inside.room; logins = c.count_for.new.self; summary = c.self.inside.summary; calls = c.reserve.new.self } in
+    let same = same_contents c.self.inside after refl refl refl c.in_ok-count_for.ensures.entries refl c.reserve.ensures.items in
     still_sound c.self.inside after c.self.invariant c.in_ok-count_for.ensures.hosts same
 
 pub returns-in_err-asked-clause-stored : goal.returns-in_err-asked-clause-stored
@@ -191,8 +191,8 @@ returns-in_err-asked-clause-days c =
 
 pub returns-in_err-asked-clause-refused : goal.returns-in_err-asked-clause-refused
 returns-in_err-asked-clause-refused c =
-    let after : Inside = record { callers = c.self.inside.callers; clock = c.self.inside.clock; logins = c.count_for.new.self; summary = c.self.inside.summary; calls = c.reserve.new.self } in
-    let same = same_contents c.self.inside after refl refl c.in_ok-count_for.ensures.entries refl c.reserve.ensures.items in
+    let after : Inside = record { callers = c.self.inside.callers; clock = c.self.inside.clock; room = c.self.inside.room; logins = c.count_for.new.self; summary = c.self.inside.summary; calls = c.reserve.new.self } in
+    let same = same_contents c.self.inside after refl refl refl c.in_ok-count_for.ensures.entries refl c.reserve.ensures.items in
     let p = err_from_is_err_and c.from_residual-in_err-asked.result c.from_residual-in_err-asked.ensures.1 in
     rw p.1 (same ∙ c.self.view_is)
 
@@ -221,7 +221,7 @@ invariant_of-self-2 c =
     let legal : IsLegal (asked b c.args.caller question) = asked_legal b c.args.caller question c.self.invariant.legal near room c.in_ok-check_host.ensures.host in
     record {
       hosts = c.in_ok-count_for.ensures.hosts ∙ c.self.invariant.hosts;
-      legal = subst IsLegal (λ i. record { callers = b.callers; clock = b.clock; logins = sym logins i; procs = b.procs; calls = sym calls i }) legal;
+      legal = subst IsLegal (λ i. record { callers = b.callers; clock = b.clock; room = b.room; logins = sym logins i; procs = b.procs; calls = sym calls i }) legal;
     }
 
 pub returns-clause-legal : goal.returns-clause-legal

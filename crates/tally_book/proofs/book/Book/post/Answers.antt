@@ -9,7 +9,7 @@ use Rattle.tally_book.proofs.book.Book.post.Goals as goal
 pub invariant_of-self-2 : goal.invariant_of-self-2
 invariant_of-self-2 c =
     let b : Contents = contents_of c.self.inside in
-    let now : Contents = contents_of (record { callers = c.self.inside.callers; clock = c.self.inside.clock; logins = c.store.new.logins; summary = c.store.new.summary; calls = c.record-call.new.calls }) in
+    let now : Contents = contents_of (record { callers = c.self.inside.callers; clock = c.self.inside.clock; room = c.self.inside.room; logins = c.store.new.logins; summary = c.store.new.summary; calls = c.record-call.new.calls }) in
     let same : now ≡ posted b c.args.caller c.args.batch.now = grind (arith, common_steps) in
     record {
       hosts = search rules;

@@ -14,7 +14,7 @@ use Rattle.tally_book.specs.inside.LoginStores.{IsSound, entries_of, hosts_of}
 use Rattle.tally_book.proofs.logins.LoginStore.store.Goals as goal
 
 -- with a batch of the host's after the entries
-grown : (a : Inside) (kept : Kept) (host : ℕ) (rs : List LoginRecord) → IsSound a → host < a.hosts → length (entries_of a.kept) + length rs ≤ 1048576 → entries_of kept ≡ entries_of a.kept ++ posted_by host rs → hosts_of a.hosts kept ≡ a.hosts
+grown : (a : Inside) (kept : Kept) (host : ℕ) (rs : List LoginRecord) → IsSound a → host < a.hosts → length (entries_of a.kept) + length rs ≤ 16777216 → entries_of kept ≡ entries_of a.kept ++ posted_by host rs → hosts_of a.hosts kept ≡ a.hosts
     → IsSound (record a { kept = kept })
 grown a kept host rs h host_in room is hosts = record {
   some_hosts = h.some_hosts;
@@ -35,7 +35,7 @@ same a kept h is hosts = record {
   hosts = hosts;
 }
 
-either : {X E : Type 0} (r : Result X E) (a : Inside) (kept : Kept) (host : ℕ) (rs : List LoginRecord) → IsSound a → host < a.hosts → length (entries_of a.kept) + length rs ≤ 1048576 → OnOk r (entries_of kept ≡ entries_of a.kept ++ posted_by host rs)
+either : {X E : Type 0} (r : Result X E) (a : Inside) (kept : Kept) (host : ℕ) (rs : List LoginRecord) → IsSound a → host < a.hosts → length (entries_of a.kept) + length rs ≤ 16777216 → OnOk r (entries_of kept ≡ entries_of a.kept ++ posted_by host rs)
     → OnErr r (entries_of kept ≡ entries_of a.kept) → hosts_of a.hosts kept ≡ a.hosts → IsSound (record a { kept = kept })
 either (Ok x) a kept host rs h host_in room stored refused hosts = grown a kept host rs h host_in room stored hosts
 either (Err e) a kept host rs h host_in room stored refused hosts = same a kept h refused hosts
@@ -49,6 +49,6 @@ invariant_of-self c =
     let a = c.self.inside in
     let view = c.self.view_is in
     let host_in : c.args.host < a.hosts = omega (arith, ap (λ (s : LoginState). s.hosts) view, c.requires.host) in
-    let room : length (entries_of a.kept) + length (logins_in c.args.batch.now) ≤ 1048576 =
+    let room : length (entries_of a.kept) + length (logins_in c.args.batch.now) ≤ 16777216 =
     omega (arith, ap (λ (s : LoginState). length s.entries) view, c.requires.room, counted c.args.batch.now c.requires.kind) in
     either c.store.result a c.store.new.self c.args.host (logins_in c.args.batch.now) c.self.invariant host_in room c.store.ensures.stored c.store.ensures.refused (c.store.ensures.hosts a.hosts ∙ c.self.invariant.hosts)
