@@ -96,39 +96,39 @@ module _ (kind : Kind) (old mid new : PassState) (turn : ℕ) (full : FullPosts 
   }
 
 -- nothing more, and a fault of the next block
-pub full_cut : (kind : Kind) (old mid new : PassState) (turn : ℕ) (fault : FeedFault) → FullPosts kind (Posts old mid) turn → turn ≤ 1024 → deeds new ≡ deeds mid
-    → IsAfter kind turn fault → IsStopped kind (Posts old new) fault
-full_cut kind old mid new turn fault full few same place = record {
+pub full_cut : (most : ℕ) (kind : Kind) (old mid new : PassState) (turn : ℕ) (fault : FeedFault) → FullPosts kind (Posts old mid) turn → turn ≤ most → deeds new ≡ deeds mid
+    → IsAfter most kind turn fault → IsStopped most kind (Posts old new) fault
+full_cut most kind old mid new turn fault full few same place = record {
   batches = full.batches;
   posted = posts_same old mid new full.batches full.posted same;
   of_kind = full.of_kind;
   full = full.full;
   few = omega (arith, full.count);
-  place = subst (λ n. IsAfter kind n fault) (sym full.count) place;
+  place = subst (λ n. IsAfter most kind n fault) (sym full.count) place;
 }
 
 pub full_none : (kind : Kind) (p : PassState) → FullPosts kind (Posts p p) 0
 full_none kind p = record { batches = []; posted = posts_none p p refl; count = refl; of_kind = All-nil (λ b. kind_of b ≡ stored_kind kind); full = All-nil IsFull }
 
 -- a refused post names no place
-pub unplaced : (kind : Kind) (count : ℕ) (refusal : PostFault) → IsAfter kind count (refusal_of refusal)
-unplaced kind count post.Memory = tt
-unplaced kind count (post.LoginsFull stored) = tt
-unplaced kind count (post.ProcsFull stored) = tt
-unplaced kind count post.CallsFull = tt
+pub unplaced : (most : ℕ) (kind : Kind) (count : ℕ) (refusal : PostFault) → IsAfter most kind count (refusal_of refusal)
+unplaced most kind count post.Memory = tt
+unplaced most kind count (post.LoginsFull stored) = tt
+unplaced most kind count (post.ProcsFull stored) = tt
+unplaced most kind count post.CallsFull = tt
 
 -- a fault in a block lies after those before it
-pub in_block : (kind : Kind) (count : ℕ) (fault : FeedFault) → IsInBlock kind count fault → IsAfter kind count fault
-in_block kind count Memory place = tt
-in_block kind count Read place = tt
-in_block kind count (Torn records torn) place = place
-in_block kind count TooLong place = absurd place
-in_block kind count (Bad at fault) place = place
-in_block kind count (LoginsFull stored) place = tt
-in_block kind count (ProcsFull stored) place = tt
-in_block kind count CallsFull place = tt
+pub in_block : (most : ℕ) (kind : Kind) (count : ℕ) (fault : FeedFault) → IsInBlock kind count fault → IsAfter most kind count fault
+in_block most kind count Memory place = tt
+in_block most kind count Read place = tt
+in_block most kind count (Torn records torn) place = place
+in_block most kind count (TooLong limit) place = absurd place
+in_block most kind count (Bad at fault) place = place
+in_block most kind count (LoginsFull stored) place = tt
+in_block most kind count (ProcsFull stored) place = tt
+in_block most kind count CallsFull place = tt
 
 -- the end that was not there
-pub after_all : (kind : Kind) (turn : ℕ) (fault : FeedFault) → turn ≡ 1024 → (fault ≡ Read) ⊎ (fault ≡ TooLong) → IsAfter kind turn fault
-after_all kind turn fault last (inl read) = subst (IsAfter kind turn) (sym read) tt
-after_all kind turn fault last (inr long) = subst (IsAfter kind turn) (sym long) last
+pub after_all : (most : ℕ) (kind : Kind) (turn : ℕ) (fault : FeedFault) → turn ≡ most → (fault ≡ Read) ⊎ (fault ≡ TooLong (1024 * most)) → IsAfter most kind turn fault
+after_all most kind turn fault last (inl read) = subst (IsAfter most kind turn) (sym read) tt
+after_all most kind turn fault last (inr long) = subst (IsAfter most kind turn) (sym long) (last, refl)

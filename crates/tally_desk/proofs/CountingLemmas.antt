@@ -13,7 +13,7 @@ use Rattle.tally_usage.specs.declared.choice.ProcChoice.{ProcChoice}
 use Rattle.tally_usage.proofs.ChoiceLemmas.{length-chosen}
 use Rattle.tally_usage.specs.declared.usage.TheConstants.{SUMS_LIMIT}
 use Rattle.tally_usage.proofs.SumsLemmas.{count_is}
-use Rattle.tally_desk.specs.Blocks.{block_size, blocks, feed_fault, limited_fault}
+use Rattle.tally_desk.specs.Blocks.{block_fault, block_size, blocks, feed_fault}
 use Rattle.tally_desk.specs.Takings.{TakesAtMost}
 use Rattle.tally_desk.specs.Batches.{records_in}
 use Rattle.tally_desk.specs.Counting.{AreSumsOfAtMost, IsCounted, IsCountPlace, IsStoppedCount, count_fault}
@@ -80,23 +80,23 @@ sum_more choice s t batches batch more sums =
 
 -- the first fault of the blocks that are numbered from `index`
 abbrev pub fault_from : ℕ → ℕ → ℕ → List ℕ → Option FeedFault
-fault_from most total index rest = slice_get (filter_map (limited_fault most Proc total) (enumerate_from index (blocks Proc rest))) 0
+fault_from most total index rest = slice_get (filter_map (block_fault most Proc total) (enumerate_from index (blocks Proc rest))) 0
 
 module _ (most total index : ℕ) (rest : List ℕ) where
   fault-end : rest ≡ [] → fault_from most total index rest ≡ None
-  fault-end none = ap (λ r. fault_from most total index r) none ∙ ap (λ bs. slice_get (filter_map (limited_fault most Proc total) (enumerate_from index bs)) 0) (pieces-nil (block_size Proc))
+  fault-end none = ap (λ r. fault_from most total index r) none ∙ ap (λ bs. slice_get (filter_map (block_fault most Proc total) (enumerate_from index bs)) 0) (pieces-nil (block_size Proc))
 
-  fault-here : (f : FeedFault) → 0 < length rest → limited_fault most Proc total (index, take (block_size Proc) rest) ≡ Some f
+  fault-here : (f : FeedFault) → 0 < length rest → block_fault most Proc total (index, take (block_size Proc) rest) ≡ Some f
       → fault_from most total index rest ≡ Some f
-  fault-here f some bad = ap (λ bs. slice_get (filter_map (limited_fault most Proc total) (enumerate_from index bs)) 0) (pieces-more (block_size Proc) rest (block_size_some Proc) some) ∙ rw bad refl
+  fault-here f some bad = ap (λ bs. slice_get (filter_map (block_fault most Proc total) (enumerate_from index bs)) 0) (pieces-more (block_size Proc) rest (block_size_some Proc) some) ∙ rw bad refl
 
-  fault-later : 0 < length rest → limited_fault most Proc total (index, take (block_size Proc) rest) ≡ None
+  fault-later : 0 < length rest → block_fault most Proc total (index, take (block_size Proc) rest) ≡ None
       → fault_from most total index rest ≡ fault_from most total (index + 1) (drop (block_size Proc) rest)
-  fault-later some good = ap (λ bs. slice_get (filter_map (limited_fault most Proc total) (enumerate_from index bs)) 0) (pieces-more (block_size Proc) rest (block_size_some Proc) some) ∙ rw good refl
+  fault-later some good = ap (λ bs. slice_get (filter_map (block_fault most Proc total) (enumerate_from index bs)) 0) (pieces-more (block_size Proc) rest (block_size_some Proc) some) ∙ rw good refl
 
--- an input of 1,024 blocks has the fault of `feed`
-pub fault_of_feed : (bytes : List ℕ) → count_fault 1024 bytes ≡ feed_fault Proc bytes
-fault_of_feed bytes = refl
+-- an input has the fault of `feed`
+pub fault_of_feed : (most : ℕ) (bytes : List ℕ) → count_fault most bytes ≡ feed_fault most Proc bytes
+fault_of_feed most bytes = refl
 
 -- the first blocks were counted, `turn` in number, and these bytes are to come
 pub record CountedTo (choice : ProcChoice) (most : ℕ) (bytes : List ℕ) (s : Counted) (turn : ℕ) (rest : List ℕ) : Type 0 where
@@ -117,7 +117,7 @@ module _ (choice : ProcChoice) (most : ℕ) (bytes : List ℕ) where
   none_summed s empty = record { done = []; posted = empty; fault = refl; covers = covers_none Proc bytes }
 
   block_summed : (s t : Counted) (turn : ℕ) (rest : List ℕ) → CountedTo choice most bytes s turn rest → 0 < length rest
-      → limited_fault most Proc (length bytes) (turn, take (block_size Proc) rest) ≡ None
+      → block_fault most Proc (length bytes) (turn, take (block_size Proc) rest) ≡ None
       → CountsMore s t (chosen choice (procs_in (records_in Proc (take (block_size Proc) rest))))
       → CountedTo choice most bytes t (turn + 1) (drop (block_size Proc) rest)
   block_summed s t turn rest fed some ok more =
@@ -139,16 +139,16 @@ module _ (choice : ProcChoice) (most : ℕ) (bytes : List ℕ) where
       }
 
   fault_is : (s : Counted) (turn : ℕ) (rest : List ℕ) (f : FeedFault) → CountedTo choice most bytes s turn rest → length bytes ≡ turn * block_size Proc + length rest → 0 < length rest
-      → limited_fault most Proc (turn * block_size Proc + length rest) (turn, take (block_size Proc) rest) ≡ Some f → count_fault most bytes ≡ Some f
+      → block_fault most Proc (turn * block_size Proc + length rest) (turn, take (block_size Proc) rest) ≡ Some f → count_fault most bytes ≡ Some f
   fault_is s turn rest f fed total some bad =
-      sym fed.fault ∙ fault-here most (length bytes) turn rest f some (ap (λ n. limited_fault most Proc n (turn, take (block_size Proc) rest)) total ∙ bad)
+      sym fed.fault ∙ fault-here most (length bytes) turn rest f some (ap (λ n. block_fault most Proc n (turn, take (block_size Proc) rest)) total ∙ bad)
 
   -- a turn that took nothing
   stopped : (s : Counted) (turn : ℕ) (rest : List ℕ) (f : FeedFault) → CountedTo choice most bytes s turn rest → length bytes ≡ turn * block_size Proc + length rest → TurnStops most Proc turn rest f → IsFirstFault most bytes f
   stopped s turn rest Memory fed total stops = tt
   stopped s turn rest Read fed total stops = tt
   stopped s turn rest (Torn records torn) fed total stops = fault_is s turn rest _ fed total stops.0 stops.1
-  stopped s turn rest TooLong fed total stops = fault_is s turn rest _ fed total stops.0 stops.1
+  stopped s turn rest (TooLong limit) fed total stops = fault_is s turn rest _ fed total stops.0 stops.1
   stopped s turn rest (Bad at fault) fed total stops = fault_is s turn rest _ fed total stops.0 stops.1
   stopped s turn rest (LoginsFull stored) fed total stops = absurd stops.1
   stopped s turn rest (ProcsFull stored) fed total stops = absurd stops.1
@@ -172,7 +172,7 @@ module _ (choice : ProcChoice) (most : ℕ) (bytes : List ℕ) (now : Option (Li
       → TakesBlock most Proc turn told.rest after batch → CountsMore s t (chosen choice (procs_in batch)) → CountedTo choice most bytes t (turn + 1) (drop (block_size Proc) told.rest)
   next_summed after s t turn batch told takes more =
       block_summed choice most bytes s t turn told.rest told.fed takes.some
-      (ap (λ n. limited_fault most Proc n (turn, take (block_size Proc) told.rest)) told.total ∙ takes.good)
+      (ap (λ n. block_fault most Proc n (turn, take (block_size Proc) told.rest)) told.total ∙ takes.good)
       (subst (λ b. CountsMore s t (chosen choice (procs_in b))) takes.batch_is more)
 
   -- a full block
@@ -203,35 +203,35 @@ module _ (choice : ProcChoice) (most : ℕ) (bytes : List ℕ) (now : Option (Li
   told_whole s turn told end = all_summed choice most bytes s turn told.rest told.fed end
 
 -- the end that was not there is a fault of the reading
-pub end_is_reading : (f : FeedFault) → (f ≡ Read) ⊎ (f ≡ TooLong) → IsReadFault f
-end_is_reading f (inl read) = subst IsReadFault (sym read) tt
-end_is_reading f (inr long) = subst IsReadFault (sym long) tt
+pub end_is_reading : (limit : ℕ) (f : FeedFault) → (f ≡ Read) ⊎ (f ≡ TooLong limit) → IsReadFault f
+end_is_reading limit f (inl read) = subst IsReadFault (sym read) tt
+end_is_reading limit f (inr long) = subst IsReadFault (sym long) tt
 
 -- a fault in a block
 pub place_in : (most count : ℕ) (f : FeedFault) → IsInBlock Proc count f → IsPlace most count f
 place_in most count Memory place = tt
 place_in most count Read place = tt
 place_in most count (Torn records torn) place = place
-place_in most count TooLong place = absurd place
+place_in most count (TooLong limit) place = absurd place
 place_in most count (Bad at fault) place = place
 place_in most count (LoginsFull stored) place = tt
 place_in most count (ProcsFull stored) place = tt
 place_in most count CallsFull place = tt
 
 -- the end that was not there
-pub place_after : (most turn : ℕ) (fault : FeedFault) → turn ≡ most → (fault ≡ Read) ⊎ (fault ≡ TooLong) → IsPlace most turn fault
+pub place_after : (most turn : ℕ) (fault : FeedFault) → turn ≡ most → (fault ≡ Read) ⊎ (fault ≡ TooLong (1024 * most)) → IsPlace most turn fault
 place_after most turn fault last (inl read) = subst (IsPlace most turn) (sym read) tt
-place_after most turn fault last (inr long) = subst (IsPlace most turn) (sym long) last
+place_after most turn fault last (inr long) = subst (IsPlace most turn) (sym long) (last, refl)
 
-place_given : (most count : ℕ) (fault : FeedFault) (f : CountFault) → IsGivenFor most fault f → IsPlace most count fault → IsCountPlace most count f
+place_given : (most count : ℕ) (fault : FeedFault) (f : CountFault) → IsGivenFor fault f → IsPlace most count fault → IsCountPlace most count f
 place_given most count fault given.Memory is place = tt
 place_given most count fault given.Read is place = tt
 place_given most count fault (given.Torn records torn) is place = subst (IsPlace most count) is place
-place_given most count fault (given.TooLong limit) is place = (subst (IsPlace most count) is.0 place, is.1)
+place_given most count fault (given.TooLong limit) is place = subst (IsPlace most count) is place
 place_given most count fault (given.Bad at bad) is place = subst (IsPlace most count) is place
 
 -- the fault that a caller is given lies where the blocks stopped
-pub given_place : (most : ℕ) (fault : FeedFault) (f : CountFault) → IsGivenFor most fault f → IsStoppedAfter most fault → IsStoppedCount most f
+pub given_place : (most : ℕ) (fault : FeedFault) (f : CountFault) → IsGivenFor fault f → IsStoppedAfter most fault → IsStoppedCount most f
 given_place most fault f is stopped = (stopped.0, stopped.1, place_given most stopped.0 fault f is stopped.2)
 
 -- how much a count takes

@@ -5,6 +5,7 @@ use Rattle.std.proofs.lemmas.List.Sums.{sum_by-cons}
 use Rattle.std.specs.List.{All, range_with_len, sum_by}
 use Rattle.atomic_table.specs.Seated.{TableId}
 use Rattle.tally_clock.specs.Rows.{ClockRows}
+use Rattle.tally_book.specs.Rooms.{IsRoom}
 use Rattle.tally_book.specs.Contents.{Contents}
 use Rattle.tally_desk.specs.declared.lock.view.Known.{Known}
 use Rattle.tally_desk.specs.Callers.{newcomer}
@@ -20,14 +21,14 @@ first_left number zero h = absurd (omega arith)
 first_left number (suc rest) h = let e : rest ≡ suc rest - 1 = omega arith in ap (λ n. number ∷ range_with_len (number + 1) n) e
 
 -- the passes of a desk have its id
-pub first_desks : (id : TableId) (clock : ClockRows) (callers number n : ℕ) → All (λ (p : PassState). p.desk ≡ id) (map (first_pass id clock callers) (range_with_len number n))
-first_desks id clock callers number zero = All-nil (λ (p : PassState). p.desk ≡ id)
-first_desks id clock callers number (suc n) =
-    All-cons (λ (p : PassState). p.desk ≡ id) (first_pass id clock callers number) (map (first_pass id clock callers) (range_with_len (number + 1) n)) refl
-    (first_desks id clock callers (number + 1) n)
+pub first_desks : (id : TableId) (clock : ClockRows) (room callers number n : ℕ) → All (λ (p : PassState). p.desk ≡ id) (map (first_pass id clock room callers) (range_with_len number n))
+first_desks id clock room callers number zero = All-nil (λ (p : PassState). p.desk ≡ id)
+first_desks id clock room callers number (suc n) =
+    All-cons (λ (p : PassState). p.desk ≡ id) (first_pass id clock room callers number) (map (first_pass id clock room callers) (range_with_len (number + 1) n)) refl
+    (first_desks id clock room callers (number + 1) n)
 
-pub newcomer_sound : (clock : ClockRows) (callers number : ℕ) → callers ≤ 128 → number < callers → IsSound (newcomer clock callers number)
-newcomer_sound clock callers number few near = record { legal = empty_legal clock callers (omega (arith, near)) few; near = near; own = refl; told = omega arith }
+pub newcomer_sound : (clock : ClockRows) (room callers number : ℕ) → IsRoom room → callers ≤ 128 → number < callers → IsSound (newcomer clock room callers number)
+newcomer_sound clock room callers number is few near = record { legal = empty_legal clock room callers is (omega (arith, near)) few; near = near; own = refl; told = omega arith }
 
 pub all_stand : (book : Contents) (ps : List PassState) → AllFit book (map known_of ps) → All (Stands book) ps
 all_stand book [] h = All-nil (Stands book)

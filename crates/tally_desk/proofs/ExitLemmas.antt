@@ -25,12 +25,12 @@ module _ (size named n : ℕ) (same : size ≡ named) where
 pub plus_none : (now old : ℕ) → now ≡ old + 0 → now ≡ old
 plus_none now old is = omega arith
 
-pub within_turns : (turn : ℕ) → turn < 1024 → turn ≤ 1024
-within_turns turn early = omega arith
+pub within_turns : (most turn : ℕ) → turn < most → turn ≤ most
+within_turns most turn early = omega (arith, early)
 
 -- all turns were had
-pub all_turns : (turn : ℕ) → turn ≤ 1024 → 1024 ≤ turn → turn ≡ 1024
-all_turns turn few many = omega arith
+pub all_turns : (most turn : ℕ) → turn ≤ most → most ≤ turn → turn ≡ most
+all_turns most turn few many = omega (arith, few, many)
 
 module _ (next : Option Records) (End : Type 0) (last : IsLast next → End) where
   -- there was no batch
@@ -57,6 +57,6 @@ pub first_failed : (now mid old : ℕ) (can_mid can_old : Bool) → mid ≡ old 
 first_failed now mid old can_mid can_old count nature failed = (failed.0 ∙ ap (λ (n : ℕ). n + 1) count, sym nature ∙ failed.1)
 
 -- the end that was not there refuses no post
-pub end_is_no_refusal : (kind : Kind) (seen : Contents) (fault : FeedFault) → (fault ≡ Read) ⊎ (fault ≡ TooLong) → IsFeedRefusal kind seen fault
-end_is_no_refusal kind seen fault (inl read) = subst (IsFeedRefusal kind seen) (sym read) tt
-end_is_no_refusal kind seen fault (inr long) = subst (IsFeedRefusal kind seen) (sym long) tt
+pub end_is_no_refusal : (limit : ℕ) (kind : Kind) (seen : Contents) (fault : FeedFault) → (fault ≡ Read) ⊎ (fault ≡ TooLong limit) → IsFeedRefusal kind seen fault
+end_is_no_refusal limit kind seen fault (inl read) = subst (IsFeedRefusal kind seen) (sym read) tt
+end_is_no_refusal limit kind seen fault (inr long) = subst (IsFeedRefusal kind seen) (sym long) tt

@@ -21,102 +21,102 @@ use Rattle.tally_desk.proofs.JoinLemmas.{Covers, covers_all, covers_more, covers
 use Rattle.tally_desk.proofs.BlockLemmas.{fault-end, fault-here, fault-later, first_fault_from, good-end, good-here, good-later, good_from}
 
 -- the first blocks were posted, `turn` in number, and these bytes are to come
-pub record FedTo (kind : Kind) (bytes : List ℕ) (posts : List Records → Type 0) (turn : ℕ) (rest : List ℕ) : Type 0 where
+pub record FedTo (most : ℕ) (kind : Kind) (bytes : List ℕ) (posts : List Records → Type 0) (turn : ℕ) (rest : List ℕ) : Type 0 where
   pub done : List (List ℕ)
   pub posted : posts (map (records_in kind) done)
-  pub good : good_blocks kind bytes ≡ done ++ good_from kind (length bytes) turn rest
-  pub fault : first_fault_from kind (length bytes) turn rest ≡ feed_fault kind bytes
+  pub good : good_blocks most kind bytes ≡ done ++ good_from most kind (length bytes) turn rest
+  pub fault : first_fault_from most kind (length bytes) turn rest ≡ feed_fault most kind bytes
   pub covers : Covers kind bytes done rest
 
-module _ (kind : Kind) (bytes : List ℕ) (old : PassState) where
-  pub fed_none : FedTo kind bytes (Posts old old) 0 bytes
+module _ (most : ℕ) (kind : Kind) (bytes : List ℕ) (old : PassState) where
+  pub fed_none : FedTo most kind bytes (Posts old old) 0 bytes
   fed_none = record { done = []; posted = posts_none old old refl; good = refl; fault = refl; covers = covers_none kind bytes }
 
   -- one more block
-  pub fed_more : (mid new : PassState) (turn : ℕ) (rest : List ℕ) → FedTo kind bytes (Posts old mid) turn rest → 0 < length rest
-      → block_fault kind (length bytes) (turn, take (block_size kind) rest) ≡ None
+  pub fed_more : (mid new : PassState) (turn : ℕ) (rest : List ℕ) → FedTo most kind bytes (Posts old mid) turn rest → 0 < length rest
+      → block_fault most kind (length bytes) (turn, take (block_size kind) rest) ≡ None
       → Posts mid new (records_in kind (take (block_size kind) rest) ∷ [])
-      → FedTo kind bytes (Posts old new) (turn + 1) (drop (block_size kind) rest)
+      → FedTo most kind bytes (Posts old new) (turn + 1) (drop (block_size kind) rest)
   fed_more mid new turn rest fed some ok posted =
       let block = take (block_size kind) rest in
       record {
         done = fed.done ++ block ∷ [];
         posted = subst (Posts old new) (sym (map-append (records_in kind) fed.done (block ∷ [])))
             (posts_more old mid new (map (records_in kind) fed.done) (records_in kind block ∷ []) fed.posted posted);
-        good = fed.good ∙ ap (λ l. fed.done ++ l) (good-later kind (length bytes) turn rest some ok)
-            ∙ sym (append_assoc fed.done (block ∷ []) (good_from kind (length bytes) (turn + 1) (drop (block_size kind) rest)));
-        fault = sym (fault-later kind (length bytes) turn rest some ok) ∙ fed.fault;
+        good = fed.good ∙ ap (λ l. fed.done ++ l) (good-later most kind (length bytes) turn rest some ok)
+            ∙ sym (append_assoc fed.done (block ∷ []) (good_from most kind (length bytes) (turn + 1) (drop (block_size kind) rest)));
+        fault = sym (fault-later most kind (length bytes) turn rest some ok) ∙ fed.fault;
         covers = covers_more kind bytes fed.done rest fed.covers;
       }
 
   -- the end
-  pub fed_whole : (new : PassState) (turn : ℕ) (rest : List ℕ) → FedTo kind bytes (Posts old new) turn rest → rest ≡ [] → IsWhole kind bytes (Posts old new)
+  pub fed_whole : (new : PassState) (turn : ℕ) (rest : List ℕ) → FedTo most kind bytes (Posts old new) turn rest → rest ≡ [] → IsWhole most kind bytes (Posts old new)
   fed_whole new turn rest fed end =
-      let all : fed.done ≡ good_blocks kind bytes =
-      sym (fed.good ∙ ap (λ l. fed.done ++ l) (good-end kind (length bytes) turn rest end) ∙ append-nil fed.done) in
-      let batches : map (records_in kind) fed.done ≡ good_batches kind bytes = ap (map (records_in kind)) all in
+      let all : fed.done ≡ good_blocks most kind bytes =
+      sym (fed.good ∙ ap (λ l. fed.done ++ l) (good-end most kind (length bytes) turn rest end) ∙ append-nil fed.done) in
+      let batches : map (records_in kind) fed.done ≡ good_batches most kind bytes = ap (map (records_in kind)) all in
       record {
-        no_fault = sym fed.fault ∙ fault-end kind (length bytes) turn rest end;
+        no_fault = sym fed.fault ∙ fault-end most kind (length bytes) turn rest end;
         all = subst (Posts old new) batches fed.posted;
         joined = subst (λ l. AreJoined l (records_in kind bytes)) batches
             (covers_all kind bytes fed.done (subst (Covers kind bytes fed.done) end fed.covers));
       }
 
   -- a block with a fault
-  pub fed_refused : (new : PassState) (turn : ℕ) (rest : List ℕ) (f : FeedFault) → FedTo kind bytes (Posts old new) turn rest → 0 < length rest
-      → block_fault kind (length bytes) (turn, take (block_size kind) rest) ≡ Some f → IsRefused kind bytes (Posts old new) f
+  pub fed_refused : (new : PassState) (turn : ℕ) (rest : List ℕ) (f : FeedFault) → FedTo most kind bytes (Posts old new) turn rest → 0 < length rest
+      → block_fault most kind (length bytes) (turn, take (block_size kind) rest) ≡ Some f → IsRefused most kind bytes (Posts old new) f
   fed_refused new turn rest f fed some bad =
-      let all : fed.done ≡ good_blocks kind bytes =
-      sym (fed.good ∙ ap (λ l. fed.done ++ l) (good-here kind (length bytes) turn rest f some bad) ∙ append-nil fed.done) in
+      let all : fed.done ≡ good_blocks most kind bytes =
+      sym (fed.good ∙ ap (λ l. fed.done ++ l) (good-here most kind (length bytes) turn rest f some bad) ∙ append-nil fed.done) in
       record {
-        fault_is = sym fed.fault ∙ fault-here kind (length bytes) turn rest f some bad;
+        fault_is = sym fed.fault ∙ fault-here most kind (length bytes) turn rest f some bad;
         all = subst (Posts old new) (ap (map (records_in kind)) all) fed.posted;
       }
 
-  cut : (new : PassState) (turn : ℕ) (rest : List ℕ) → FedTo kind bytes (Posts old new) turn rest
-      → IsCut kind bytes (Posts old new) (good_from kind (length bytes) turn rest)
+  cut : (new : PassState) (turn : ℕ) (rest : List ℕ) → FedTo most kind bytes (Posts old new) turn rest
+      → IsCut most kind bytes (Posts old new) (good_from most kind (length bytes) turn rest)
   cut new turn rest fed = record { done = fed.done; good = fed.good; some = fed.posted }
 
   -- a turn that took nothing
-  pub fed_stops : (new : PassState) (turn : ℕ) (rest : List ℕ) (seen : Contents) (f : FeedFault) → FedTo kind bytes (Posts old new) turn rest
-      → length bytes ≡ turn * block_size kind + length rest → TurnStops 1024 kind turn rest f → Stops kind bytes (Posts old new) seen f
+  pub fed_stops : (new : PassState) (turn : ℕ) (rest : List ℕ) (seen : Contents) (f : FeedFault) → FedTo most kind bytes (Posts old new) turn rest
+      → length bytes ≡ turn * block_size kind + length rest → TurnStops most kind turn rest f → Stops most kind bytes (Posts old new) seen f
   fed_stops new turn rest seen Memory fed total stops = (_, cut new turn rest fed)
   fed_stops new turn rest seen Read fed total stops = (_, cut new turn rest fed)
   fed_stops new turn rest seen (Torn records torn) fed total stops =
-      fed_refused new turn rest _ fed stops.0 (ap (λ n. block_fault kind n (turn, take (block_size kind) rest)) total ∙ stops.1)
-  fed_stops new turn rest seen TooLong fed total stops =
-      fed_refused new turn rest _ fed stops.0 (ap (λ n. block_fault kind n (turn, take (block_size kind) rest)) total ∙ stops.1)
+      fed_refused new turn rest _ fed stops.0 (ap (λ n. block_fault most kind n (turn, take (block_size kind) rest)) total ∙ stops.1)
+  fed_stops new turn rest seen (TooLong limit) fed total stops =
+      fed_refused new turn rest _ fed stops.0 (ap (λ n. block_fault most kind n (turn, take (block_size kind) rest)) total ∙ stops.1)
   fed_stops new turn rest seen (Bad at fault) fed total stops =
-      fed_refused new turn rest _ fed stops.0 (ap (λ n. block_fault kind n (turn, take (block_size kind) rest)) total ∙ stops.1)
+      fed_refused new turn rest _ fed stops.0 (ap (λ n. block_fault most kind n (turn, take (block_size kind) rest)) total ∙ stops.1)
   fed_stops new turn rest seen (LoginsFull stored) fed total stops = absurd stops.1
   fed_stops new turn rest seen (ProcsFull stored) fed total stops = absurd stops.1
   fed_stops new turn rest seen CallsFull fed total stops = absurd stops.1
 
   -- a good block whose post was refused
-  pub fed_full : (new : PassState) (turn : ℕ) (rest : List ℕ) (seen : Contents) (refusal : PostFault) → FedTo kind bytes (Posts old new) turn rest → 0 < length rest
-      → block_fault kind (length bytes) (turn, take (block_size kind) rest) ≡ None → Refuses seen (records_in kind (take (block_size kind) rest)) refusal
-      → IsFullAt kind bytes (Posts old new) seen refusal
+  pub fed_full : (new : PassState) (turn : ℕ) (rest : List ℕ) (seen : Contents) (refusal : PostFault) → FedTo most kind bytes (Posts old new) turn rest → 0 < length rest
+      → block_fault most kind (length bytes) (turn, take (block_size kind) rest) ≡ None → Refuses seen (records_in kind (take (block_size kind) rest)) refusal
+      → IsFullAt most kind bytes (Posts old new) seen refusal
   fed_full new turn rest seen refusal fed some ok cause = record {
     next = take (block_size kind) rest;
-    left = good_from kind (length bytes) (turn + 1) (drop (block_size kind) rest);
+    left = good_from most kind (length bytes) (turn + 1) (drop (block_size kind) rest);
     cut = record {
       done = fed.done;
-      good = fed.good ∙ ap (λ l. fed.done ++ l) (good-later kind (length bytes) turn rest some ok);
+      good = fed.good ∙ ap (λ l. fed.done ++ l) (good-later most kind (length bytes) turn rest some ok);
       some = fed.posted;
     };
     cause = cause;
   }
 
-  pub fed_unposted : (new : PassState) (turn : ℕ) (rest : List ℕ) (seen : Contents) (refusal : PostFault) → FedTo kind bytes (Posts old new) turn rest → 0 < length rest
-      → block_fault kind (length bytes) (turn, take (block_size kind) rest) ≡ None → Refuses seen (records_in kind (take (block_size kind) rest)) refusal
-      → Stops kind bytes (Posts old new) seen (refusal_of refusal)
+  pub fed_unposted : (new : PassState) (turn : ℕ) (rest : List ℕ) (seen : Contents) (refusal : PostFault) → FedTo most kind bytes (Posts old new) turn rest → 0 < length rest
+      → block_fault most kind (length bytes) (turn, take (block_size kind) rest) ≡ None → Refuses seen (records_in kind (take (block_size kind) rest)) refusal
+      → Stops most kind bytes (Posts old new) seen (refusal_of refusal)
   fed_unposted new turn rest seen post.Memory fed some ok cause = (_, cut new turn rest fed)
   fed_unposted new turn rest seen (post.LoginsFull stored) fed some ok cause = fed_full new turn rest seen (post.LoginsFull stored) fed some ok cause
   fed_unposted new turn rest seen (post.ProcsFull stored) fed some ok cause = fed_full new turn rest seen (post.ProcsFull stored) fed some ok cause
   fed_unposted new turn rest seen post.CallsFull fed some ok cause = fed_full new turn rest seen post.CallsFull fed some ok cause
 
   -- a turn that posted nothing keeps what was fed
-  pub fed_same : (mid new : PassState) (turn : ℕ) (rest : List ℕ) → FedTo kind bytes (Posts old mid) turn rest → deeds new ≡ deeds mid → FedTo kind bytes (Posts old new) turn rest
+  pub fed_same : (mid new : PassState) (turn : ℕ) (rest : List ℕ) → FedTo most kind bytes (Posts old mid) turn rest → deeds new ≡ deeds mid → FedTo most kind bytes (Posts old new) turn rest
   fed_same mid new turn rest fed same = record {
     done = fed.done;
     posted = posts_same old mid new (map (records_in kind) fed.done) fed.posted same;
@@ -134,14 +134,14 @@ pub record FullPosts (kind : Kind) (posts : List Records → Type 0) (turn : ℕ
   pub full : All IsFull batches
 
 -- where an input tells its bytes, a feed has come so far
-pub record Told (kind : Kind) (now : Option (List ℕ)) (posts : List Records → Type 0) (turn : ℕ) (bytes : List ℕ) : Type 0 where
+pub record Told (most : ℕ) (kind : Kind) (now : Option (List ℕ)) (posts : List Records → Type 0) (turn : ℕ) (bytes : List ℕ) : Type 0 where
   pub rest : List ℕ
   pub to_come : now ≡ Some rest
   pub total : length bytes ≡ turn * block_size kind + length rest
-  pub fed : FedTo kind bytes posts turn rest
+  pub fed : FedTo most kind bytes posts turn rest
 
-pub begins : (kind : Kind) (bytes : List ℕ) (now : Option (List ℕ)) (p : PassState) → now ≡ Some bytes → Told kind now (Posts p p) 0 bytes
-begins kind bytes now p tells = record { rest = bytes; to_come = tells; total = omega arith; fed = fed_none kind bytes p }
+pub begins : (most : ℕ) (kind : Kind) (bytes : List ℕ) (now : Option (List ℕ)) (p : PassState) → now ≡ Some bytes → Told most kind now (Posts p p) 0 bytes
+begins most kind bytes now p tells = record { rest = bytes; to_come = tells; total = omega arith; fed = fed_none most kind bytes p }
 
 count_full : (kind : Kind) (n : ℕ) → n / record_size kind ≡ 1024 → n ≤ block_size kind → n ≡ block_size kind
 count_full Login n is few = omega arith
@@ -153,32 +153,32 @@ count_short Login n short = omega arith
 count_short FailedLogin n short = omega arith
 count_short Proc n short = omega arith
 
-module _ (kind : Kind) (bytes : List ℕ) (now : Option (List ℕ)) (old : PassState) where
+module _ (most : ℕ) (kind : Kind) (bytes : List ℕ) (now : Option (List ℕ)) (old : PassState) where
   -- a turn that stops a feed
-  pub told_stops : (new : PassState) (turn : ℕ) (seen : Contents) (f : FeedFault) → (told : Told kind now (Posts old new) turn bytes)
-      → TurnStops 1024 kind turn told.rest f → Stops kind bytes (Posts old new) seen f
-  told_stops new turn seen f told stops = fed_stops kind bytes old new turn told.rest seen f told.fed told.total stops
+  pub told_stops : (new : PassState) (turn : ℕ) (seen : Contents) (f : FeedFault) → (told : Told most kind now (Posts old new) turn bytes)
+      → TurnStops most kind turn told.rest f → Stops most kind bytes (Posts old new) seen f
+  told_stops new turn seen f told stops = fed_stops most kind bytes old new turn told.rest seen f told.fed told.total stops
 
-  block_of_total : (mid : PassState) (turn : ℕ) → (told : Told kind now (Posts old mid) turn bytes)
-      → block_fault kind (turn * block_size kind + length told.rest) (turn, take (block_size kind) told.rest) ≡ None
-      → block_fault kind (length bytes) (turn, take (block_size kind) told.rest) ≡ None
-  block_of_total mid turn told good = ap (λ n. block_fault kind n (turn, take (block_size kind) told.rest)) told.total ∙ good
+  block_of_total : (mid : PassState) (turn : ℕ) → (told : Told most kind now (Posts old mid) turn bytes)
+      → block_fault most kind (turn * block_size kind + length told.rest) (turn, take (block_size kind) told.rest) ≡ None
+      → block_fault most kind (length bytes) (turn, take (block_size kind) told.rest) ≡ None
+  block_of_total mid turn told good = ap (λ n. block_fault most kind n (turn, take (block_size kind) told.rest)) told.total ∙ good
 
   -- a block whose post was refused
-  pub told_unposted : (after : Option (List ℕ)) (mid new : PassState) (turn : ℕ) (batch : Records) (seen : Contents) (refusal : PostFault) → (told : Told kind now (Posts old mid) turn bytes)
-      → TakesBlock 1024 kind turn told.rest after batch → deeds new ≡ deeds mid → Refuses seen batch refusal → Stops kind bytes (Posts old new) seen (refusal_of refusal)
+  pub told_unposted : (after : Option (List ℕ)) (mid new : PassState) (turn : ℕ) (batch : Records) (seen : Contents) (refusal : PostFault) → (told : Told most kind now (Posts old mid) turn bytes)
+      → TakesBlock most kind turn told.rest after batch → deeds new ≡ deeds mid → Refuses seen batch refusal → Stops most kind bytes (Posts old new) seen (refusal_of refusal)
   told_unposted after mid new turn batch seen refusal told takes same cause =
-      fed_unposted kind bytes old new turn told.rest seen refusal (fed_same kind bytes old mid new turn told.rest told.fed same) takes.some (block_of_total mid turn told takes.good)
+      fed_unposted most kind bytes old new turn told.rest seen refusal (fed_same most kind bytes old mid new turn told.rest told.fed same) takes.some (block_of_total mid turn told takes.good)
       (subst (λ b. Refuses seen b refusal) takes.batch_is cause)
 
-  fed_next : (after : Option (List ℕ)) (mid new : PassState) (turn : ℕ) (batch : Records) → (told : Told kind now (Posts old mid) turn bytes)
-      → TakesBlock 1024 kind turn told.rest after batch → Posts mid new (batch ∷ []) → FedTo kind bytes (Posts old new) (turn + 1) (drop (block_size kind) told.rest)
+  fed_next : (after : Option (List ℕ)) (mid new : PassState) (turn : ℕ) (batch : Records) → (told : Told most kind now (Posts old mid) turn bytes)
+      → TakesBlock most kind turn told.rest after batch → Posts mid new (batch ∷ []) → FedTo most kind bytes (Posts old new) (turn + 1) (drop (block_size kind) told.rest)
   fed_next after mid new turn batch told takes posted =
-      fed_more kind bytes old mid new turn told.rest told.fed takes.some (block_of_total mid turn told takes.good) (subst (λ b. Posts mid new (b ∷ [])) takes.batch_is posted)
+      fed_more most kind bytes old mid new turn told.rest told.fed takes.some (block_of_total mid turn told takes.good) (subst (λ b. Posts mid new (b ∷ [])) takes.batch_is posted)
 
   -- a full block
-  pub told_more : (after : Option (List ℕ)) (mid new : PassState) (turn : ℕ) (batch : Records) → (told : Told kind now (Posts old mid) turn bytes)
-      → TakesBlock 1024 kind turn told.rest after batch → Posts mid new (batch ∷ []) → IsFull batch → Told kind after (Posts old new) (turn + 1) bytes
+  pub told_more : (after : Option (List ℕ)) (mid new : PassState) (turn : ℕ) (batch : Records) → (told : Told most kind now (Posts old mid) turn bytes)
+      → TakesBlock most kind turn told.rest after batch → Posts mid new (batch ∷ []) → IsFull batch → Told most kind after (Posts old new) (turn + 1) bytes
   told_more after mid new turn batch told takes posted full =
       let few : length (take (block_size kind) told.rest) ≤ block_size kind = omega (arith, length-take (block_size kind) told.rest) in
       let size : length (take (block_size kind) told.rest) ≡ block_size kind = count_full kind _ (sym takes.count ∙ full) few in
@@ -192,16 +192,16 @@ module _ (kind : Kind) (bytes : List ℕ) (now : Option (List ℕ)) (old : PassS
       }
 
   -- a short block, which is the last
-  pub told_short : (after : Option (List ℕ)) (mid new : PassState) (turn : ℕ) (batch : Records) → (told : Told kind now (Posts old mid) turn bytes)
-      → TakesBlock 1024 kind turn told.rest after batch → Posts mid new (batch ∷ []) → record_count batch < 1024 → IsWhole kind bytes (Posts old new)
+  pub told_short : (after : Option (List ℕ)) (mid new : PassState) (turn : ℕ) (batch : Records) → (told : Told most kind now (Posts old mid) turn bytes)
+      → TakesBlock most kind turn told.rest after batch → Posts mid new (batch ∷ []) → record_count batch < 1024 → IsWhole most kind bytes (Posts old new)
   told_short after mid new turn batch told takes posted short =
       let size : length (take (block_size kind) told.rest) < block_size kind = count_short kind _ (subst (λ n. n < 1024) takes.count short) in
       let end : length told.rest ≤ block_size kind = omega (arith, length-take (block_size kind) told.rest) in
-      fed_whole kind bytes old new (turn + 1) (drop (block_size kind) told.rest) (fed_next after mid new turn batch told takes posted) (drop_all (block_size kind) told.rest end)
+      fed_whole most kind bytes old new (turn + 1) (drop (block_size kind) told.rest) (fed_next after mid new turn batch told takes posted) (drop_all (block_size kind) told.rest end)
 
   -- the end of the input
-  pub told_end : (new : PassState) (turn : ℕ) → (told : Told kind now (Posts old new) turn bytes) → told.rest ≡ [] → IsWhole kind bytes (Posts old new)
-  told_end new turn told end = fed_whole kind bytes old new turn told.rest told.fed end
+  pub told_end : (new : PassState) (turn : ℕ) → (told : Told most kind now (Posts old new) turn bytes) → told.rest ≡ [] → IsWhole most kind bytes (Posts old new)
+  told_end new turn told end = fed_whole most kind bytes old new turn told.rest told.fed end
 
 module _ (most : ℕ) (kind : Kind) (next : Option Records) where
   -- the first block, or the end

@@ -22,12 +22,13 @@ pub prefix_trans : {A : Type 0} (xs ys zs : List A) → IsPrefix xs ys → IsPre
 prefix_trans xs ys zs p q = (p.0 ++ q.0, sym (append_assoc xs p.0 q.0) ∙ (ap (λ w. w ++ q.0) p.1 ∙ q.1))
 
 pub follows_self : (b : Contents) → Follows b b
-follows_self b = record { callers = refl; clock = refl; logins = prefix_self b.logins; procs = prefix_self b.procs; calls = prefix_self b.calls }
+follows_self b = record { callers = refl; clock = refl; room = refl; logins = prefix_self b.logins; procs = prefix_self b.procs; calls = prefix_self b.calls }
 
 pub follows_trans : (a b c : Contents) → Follows a b → Follows b c → Follows a c
 follows_trans a b c p q = record {
   callers = q.callers ∙ p.callers;
   clock = q.clock ∙ p.clock;
+  room = q.room ∙ p.room;
   logins = prefix_trans a.logins b.logins c.logins p.logins q.logins;
   procs = prefix_trans a.procs b.procs c.procs p.procs q.procs;
   calls = prefix_trans a.calls b.calls c.calls p.calls q.calls;
@@ -35,7 +36,7 @@ follows_trans a b c p q = record {
 
 -- a book follows itself before one more call
 pub follows_next : (number : ℕ) (before after : Contents) → IsNext number before after → Follows before after
-follows_next number before after next = record { callers = next.callers; clock = next.clock; logins = next.logins; procs = next.procs; calls = (next.call ∷ [], sym next.made) }
+follows_next number before after next = record { callers = next.callers; clock = next.clock; room = next.room; logins = next.logins; procs = next.procs; calls = (next.call ∷ [], sym next.made) }
 
 -- one more call, of the caller or of another
 pub calls_of_own : (number : ℕ) (calls : List Call) (call : Call) → caller_of call ≡ number → calls_of number (calls ++ call ∷ []) ≡ calls_of number calls ++ call ∷ []
@@ -56,6 +57,7 @@ posted_next b caller number batch own legal = record {
   procs = (entries_of caller (procs_in batch), refl);
   callers = refl;
   clock = refl;
+  room = refl;
   legal = legal;
 }
 
@@ -68,5 +70,6 @@ asked_next b caller number question own legal = record {
   procs = prefix_self b.procs;
   callers = refl;
   clock = refl;
+  room = refl;
   legal = legal;
 }

@@ -41,7 +41,7 @@ pub record CallTells {T E : Type 0} (call : T → Call) (place : T → ℕ) (don
 -- what a post shows
 abbrev pub PostTells : Records → Result Receipt PostFault → PassState → PassState → Type 0
 PostTells batch result old new = CallTells (λ (r : Receipt). Posted old.number r.before r.after) (λ (r : Receipt). r.call) (Post (logins_in batch) (procs_in batch))
-    (λ (r : Receipt) seen. Stores old.number r.before batch seen × (r.after ≡ counts_of seen)) (λ (e : PostFault) seen. IsPostRefusal (counts_of seen) (length seen.calls) batch e) result old new
+    (λ (r : Receipt) seen. Stores old.number r.before batch seen × (r.after ≡ counts_of seen)) (λ (e : PostFault) seen. IsPostRefusal seen.room (counts_of seen) (length seen.calls) batch e) result old new
 
 -- what a report shows
 abbrev pub AskTells : Question → Result Served AskFault → PassState → PassState → Type 0
@@ -154,10 +154,10 @@ module _ (id : TableId) (k : Known) (sound : IsSound k) (book : Contents) (fit :
       )
 
   pub posted_pass : (batch : Records) (m : Sat) (result : Result Receipt PostFault) → IsLegal book
-      → MatchResult result (λ r. (m ≡ idle (knowing (posted book k.number batch) k)) × IsLegal (posted book k.number batch) × IsReceipt book (posted book k.number batch) r) (λ e. (m ≡ idle (knowing book k)) × IsPostRefusal (counts_of book) (length book.calls) batch e)
+      → MatchResult result (λ r. (m ≡ idle (knowing (posted book k.number batch) k)) × IsLegal (posted book k.number batch) × IsReceipt book (posted book k.number batch) r) (λ e. (m ≡ idle (knowing book k)) × IsPostRefusal book.room (counts_of book) (length book.calls) batch e)
       → (k' : Known) × (m ≡ idle k') × (k.number ≡ k'.number) × IsSound k' × PostTells batch result (pass_of id k) (pass_of id k')
   posted_pass batch = called (λ (r : Receipt). Posted k.number r.before r.after) (λ (r : Receipt). r.call) (Post (logins_in batch) (procs_in batch))
-      (λ (r : Receipt) seen. Stores k.number r.before batch seen × (r.after ≡ counts_of seen)) (λ (e : PostFault) seen. IsPostRefusal (counts_of seen) (length seen.calls) batch e)
+      (λ (r : Receipt) seen. Stores k.number r.before batch seen × (r.after ≡ counts_of seen)) (λ (e : PostFault) seen. IsPostRefusal seen.room (counts_of seen) (length seen.calls) batch e)
       (posted book k.number batch) (IsReceipt book (posted book k.number batch)) (posted_next book k.number k.number batch refl) (posted_shows batch)
 
   pub asked_pass : (question : Question) (m : Sat) (result : Result Served AskFault) → IsLegal book

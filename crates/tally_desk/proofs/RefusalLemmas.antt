@@ -18,7 +18,7 @@ pub no_refusal : (kind : Kind) (seen : Contents) (f : FeedFault) → IsReadFault
 no_refusal kind seen Memory reading = tt
 no_refusal kind seen Read reading = tt
 no_refusal kind seen (Torn records torn) reading = tt
-no_refusal kind seen TooLong reading = tt
+no_refusal kind seen (TooLong limit) reading = tt
 no_refusal kind seen (Bad at fault) reading = tt
 no_refusal kind seen (LoginsFull stored) reading = absurd reading
 no_refusal kind seen (ProcsFull stored) reading = absurd reading
@@ -32,11 +32,11 @@ stored_procs Proc e = refl
 
 module _ (seen : Contents) (legal : IsLegal seen) where
   -- only a batch of login records finds their list full
-  logins_full : (batch : Records) → 1048576 < length seen.logins + length (logins_in batch) → kind_of batch ≡ Login
+  logins_full : (batch : Records) → seen.room < length seen.logins + length (logins_in batch) → kind_of batch ≡ Login
   logins_full (Logins records) over = refl
   logins_full (Procs records) over = absurd (omega (arith, legal.few_logins))
 
-  procs_full : (batch : Records) → 1048576 < length seen.procs + length (procs_in batch) → kind_of batch ≡ Proc
+  procs_full : (batch : Records) → seen.room < length seen.procs + length (procs_in batch) → kind_of batch ≡ Proc
   procs_full (Logins records) over = absurd (omega (arith, legal.few_procs))
   procs_full (Procs records) over = refl
 

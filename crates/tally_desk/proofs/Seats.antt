@@ -7,7 +7,8 @@ use Rattle.atomic_table.proofs.Lists.{at_set, at_snoc, at_longer, set_else}
 use Rattle.std.proofs.lemmas.List.Elements.{All-nil}
 use Rattle.tally_clock.specs.Rows.{ClockRows}
 use Rattle.tally_book.specs.Contents.{Contents}
-use Rattle.tally_book.specs.Books.{IsLegal, empty}
+use Rattle.tally_book.specs.Books.{IsLegal, empty_with_room}
+use Rattle.tally_book.specs.Rooms.{IsRoom}
 use Rattle.tally_desk.specs.declared.lock.rule.Opening.{Opening}
 use Rattle.tally_desk.specs.declared.lock.view.Known.{Known}
 use Rattle.tally_desk.specs.declared.lock.view.Stage.TheVariants.{Idle}
@@ -28,23 +29,24 @@ use Rattle.tally_desk.proofs.Tickets.{apart_from, placed_by}
 pub same_number : (k k' : Known) → idle k ≡ idle k' → k.number ≡ k'.number
 same_number k k' e = ap (λ (m : Sat). get_or (map (λ (x : Known). x.number) m.0.known) 0 0) e
 
-newcomers_fit : (clock : ClockRows) (callers number n : ℕ) → AllFit (empty clock callers) (newcomers clock callers number n)
-newcomers_fit clock callers number zero = tt
-newcomers_fit clock callers number (suc n) = (record { seen = follows_self (empty clock callers); own = refl; told = omega arith }, newcomers_fit clock callers (number + 1) n)
+newcomers_fit : (clock : ClockRows) (room callers number n : ℕ) → AllFit (empty_with_room clock room callers) (newcomers clock room callers number n)
+newcomers_fit clock room callers number zero = tt
+newcomers_fit clock room callers number (suc n) = (record { seen = follows_self (empty_with_room clock room callers); own = refl; told = omega arith }, newcomers_fit clock room callers (number + 1) n)
 
-newcomers_numbers : (f : ℕ → ℕ) (clock : ClockRows) (callers number n : ℕ) → sum_by (λ (k : Known). f k.number) (newcomers clock callers number n) + below f number ≡ below f (number + n)
-newcomers_numbers f clock callers number zero = let e : number ≡ number + 0 = omega arith in omega (arith, ap (below f) e)
-newcomers_numbers f clock callers number (suc n) =
-    let rest = newcomers_numbers f clock callers (number + 1) n in
+newcomers_numbers : (f : ℕ → ℕ) (clock : ClockRows) (room callers number n : ℕ) → sum_by (λ (k : Known). f k.number) (newcomers clock room callers number n) + below f number ≡ below f (number + n)
+newcomers_numbers f clock room callers number zero = let e : number ≡ number + 0 = omega arith in omega (arith, ap (below f) e)
+newcomers_numbers f clock room callers number (suc n) =
+    let rest = newcomers_numbers f clock room callers (number + 1) n in
     let next : number + 1 ≡ suc number = omega arith in
-    let far : number + 1 + n ≡ number + suc n = omega arith in omega (arith, rest, sum_by-cons (λ (k : Known). f k.number) (newcomer clock callers number) (newcomers clock callers (number + 1) n), ap (below f) next, ap (below f) far)
+    let far : number + 1 + n ≡ number + suc n = omega arith in omega (arith, rest, sum_by-cons (λ (k : Known). f k.number) (newcomer clock room callers number) (newcomers clock room callers (number + 1) n), ap (below f) next, ap (below f) far)
 
-newcomers_calls : (clock : ClockRows) (callers number n : ℕ) → sum_by (λ (k : Known). length k.mine) (newcomers clock callers number n) ≡ 0
-newcomers_calls clock callers number zero = refl
-newcomers_calls clock callers number (suc n) = omega (arith, newcomers_calls clock callers (number + 1) n, sum_by-cons (λ (k : Known). length k.mine) (newcomer clock callers number) (newcomers clock callers (number + 1) n))
+newcomers_calls : (clock : ClockRows) (room callers number n : ℕ) → sum_by (λ (k : Known). length k.mine) (newcomers clock room callers number n) ≡ 0
+newcomers_calls clock room callers number zero = refl
+newcomers_calls clock room callers number (suc n) = omega (arith, newcomers_calls clock room callers (number + 1) n, sum_by-cons (λ (k : Known). length k.mine) (newcomer clock room callers number) (newcomers clock room callers (number + 1) n))
 
-pub empty_legal : (clock : ClockRows) (callers : ℕ) → 1 ≤ callers → callers ≤ 128 → IsLegal (empty clock callers)
-empty_legal clock callers least few = record {
+pub empty_legal : (clock : ClockRows) (room callers : ℕ) → IsRoom room → 1 ≤ callers → callers ≤ 128 → IsLegal (empty_with_room clock room callers)
+empty_legal clock room callers is least few = record {
+  room = is;
   some_callers = least;
   few_callers = few;
   few_calls = omega arith;
@@ -54,20 +56,20 @@ empty_legal clock callers least few = record {
   sound = All-nil _;
 }
 
-pub starts : (o : Opening) → 1 ≤ o.callers → o.callers ≤ 128 → Orderly o.callers (opening (0 ∷ 0 ∷ 0 ∷ []) (empty o.clock o.callers ∷ []) (opening_view o))
-starts o least few =
+pub starts : (o : Opening) → IsRoom o.room → 1 ≤ o.callers → o.callers ≤ 128 → Orderly o.callers (opening (0 ∷ 0 ∷ 0 ∷ []) (empty_with_room o.clock o.room o.callers ∷ []) (opening_view o))
+starts o room least few =
     let v : View = opening_view o in record {
-      book = empty o.clock o.callers;
+      book = empty_with_room o.clock o.room o.callers;
       drawn = 0;
       served = 0;
       words = refl;
-      legal = empty_legal o.clock o.callers least few;
+      legal = empty_legal o.clock o.room o.callers room least few;
       all = refl;
-      numbers = λ f. let e : 0 + o.callers ≡ o.callers = omega arith in omega (arith, newcomers_numbers f o.clock o.callers 0 o.callers, ap (below f) e);
+      numbers = λ f. let e : 0 + o.callers ≡ o.callers = omega arith in omega (arith, newcomers_numbers f o.clock o.room o.callers 0 o.callers, ap (below f) e);
       tickets = λ f. refl;
-      counted = omega (arith, newcomers_calls o.clock o.callers 0 o.callers);
+      counted = omega (arith, newcomers_calls o.clock o.room o.callers 0 o.callers);
       each = λ j u e. ⊎_elim (λ (d : get_elem? [] j ≡ some u). absurd (some-ne-none u (sym d)))
-          (λ (same : v ≡ u). subst (Knows (empty o.clock o.callers) 0 (some (empty o.clock o.callers) ∷ [])) same record { fit = newcomers_fit o.clock o.callers 0 o.callers; turn = tt; one = omega arith })
+          (λ (same : v ≡ u). subst (Knows (empty_with_room o.clock o.room o.callers) 0 (some (empty_with_room o.clock o.room o.callers) ∷ [])) same record { fit = newcomers_fit o.clock o.room o.callers 0 o.callers; turn = tt; one = omega arith })
           (at_snoc [] v u j e);
       place = inl refl;
     }

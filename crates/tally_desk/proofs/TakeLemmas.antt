@@ -17,29 +17,29 @@ takes_more m n most a b c first second few =
 pub takes_named : (size named : ℕ) (a b : Option (List ℕ)) → size ≡ named → TakesAtMost size a b → TakesAtMost named a b
 takes_named size named a b same taken = subst (λ (n : ℕ). TakesAtMost n a b) same taken
 
-few_blocks : (kind : Kind) (turn : ℕ) → turn < 1024 → turn * block_size kind + block_size kind ≤ 1024 * block_size kind + 1
-few_blocks Login turn early = omega arith
-few_blocks FailedLogin turn early = omega arith
-few_blocks Proc turn early = omega arith
+few_blocks : (most : ℕ) (kind : Kind) (turn : ℕ) → turn < most → turn * block_size kind + block_size kind ≤ most * block_size kind + 1
+few_blocks most Login turn early = omega arith
+few_blocks most FailedLogin turn early = omega arith
+few_blocks most Proc turn early = omega arith
 
 next_block : (kind : Kind) (turn : ℕ) → turn * block_size kind + block_size kind ≤ (turn + 1) * block_size kind
 next_block Login turn = omega arith
 next_block FailedLogin turn = omega arith
 next_block Proc turn = omega arith
 
-all_blocks : (kind : Kind) (turn more : ℕ) → turn ≤ 1024 → more ≤ 1 → turn * block_size kind + more ≤ 1024 * block_size kind + 1
-all_blocks Login turn more early few = omega arith
-all_blocks FailedLogin turn more early few = omega arith
-all_blocks Proc turn more early few = omega arith
+all_blocks : (most : ℕ) (kind : Kind) (turn more : ℕ) → turn ≤ most → more ≤ 1 → turn * block_size kind + more ≤ most * block_size kind + 1
+all_blocks most Login turn more early few = omega arith
+all_blocks most FailedLogin turn more early few = omega arith
+all_blocks most Proc turn more early few = omega arith
 
 -- a feed took so many blocks
 module _ (kind : Kind) (turn : ℕ) (a b c : Option (List ℕ)) (so_far : TakesAtMost (turn * block_size kind) a b) where
   pub takes_next : TakesAtMost (block_size kind) b c → TakesAtMost ((turn + 1) * block_size kind) a c
   takes_next block = takes_more _ _ _ a b c so_far block (next_block kind turn)
 
-  pub takes_few : TakesAtMost (block_size kind) b c → turn < 1024 → TakesAtMost (1024 * block_size kind + 1) a c
-  takes_few block early = takes_more _ _ _ a b c so_far block (few_blocks kind turn early)
+  pub takes_few : (most : ℕ) → TakesAtMost (block_size kind) b c → turn < most → TakesAtMost (most * block_size kind + 1) a c
+  takes_few most block early = takes_more _ _ _ a b c so_far block (few_blocks most kind turn early)
 
   -- and then looked for the end
-  pub takes_last : TakesAtMost 1 b c → turn ≤ 1024 → TakesAtMost (1024 * block_size kind + 1) a c
-  takes_last byte early = takes_more _ _ _ a b c so_far byte (all_blocks kind turn 1 early (omega arith))
+  pub takes_last : (most : ℕ) → TakesAtMost 1 b c → turn ≤ most → TakesAtMost (most * block_size kind + 1) a c
+  takes_last most byte early = takes_more _ _ _ a b c so_far byte (all_blocks most kind turn 1 early (omega arith))

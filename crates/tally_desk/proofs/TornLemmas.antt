@@ -5,7 +5,7 @@ use Rattle.std.specs.Prelude.{not, nat_le, ◌==◌, true, false, unwrap_or}
 use Rattle.tally_records.specs.declared.batch.Kind.{Kind}
 use Rattle.tally_records.specs.declared.batch.Kind.TheVariants.{Login, FailedLogin, Proc}
 use Rattle.tally_desk.specs.Batches.{record_size}
-use Rattle.tally_desk.specs.Blocks.{block_size, fault_before_end, limited_fault, torn_fault, whole_records}
+use Rattle.tally_desk.specs.Blocks.{block_size, fault_before_end, block_fault, torn_fault, whole_records}
 use Rattle.tally_desk.specs.declared.fault.FeedFault.{FeedFault}
 use Rattle.tally_desk.specs.declared.fault.FeedFault.TheVariants.{Memory, Read, Torn, TooLong, Bad, LoginsFull, ProcsFull, CallsFull}
 use Rattle.tally_desk.specs.inside.Turns.{Gives, IsBlockRefusal}
@@ -24,7 +24,7 @@ torn n other = grind (arith, nat_tests)
 
 -- a torn block within the limit is refused for its torn end, or for what is named in its place
 torn_is : (most : ℕ) (kind : Kind) (total turn : ℕ) (bytes : List ℕ) → turn < most → length bytes % record_size kind ≢ 0
-    → limited_fault most kind total (turn, bytes) ≡ Some (torn_fault kind total (turn, bytes))
+    → block_fault most kind total (turn, bytes) ≡ Some (torn_fault kind total (turn, bytes))
 torn_is most kind total turn bytes lt other = rw (early most turn lt, torn (length bytes % record_size kind) other) refl
 
 pub torn_refusal : (most : ℕ) (kind : Kind) (turn : ℕ) (bytes : List ℕ) (f : FeedFault) → turn < most → length bytes % record_size kind ≢ 0
@@ -40,7 +40,7 @@ gives_expected : (expected : Option FeedFault) (otherwise f : FeedFault) → Giv
 gives_expected expected otherwise Memory gives = tt
 gives_expected expected otherwise Read gives = absurd gives
 gives_expected expected otherwise (Torn records rest) gives = given expected otherwise (Torn records rest) gives
-gives_expected expected otherwise TooLong gives = given expected otherwise TooLong gives
+gives_expected expected otherwise (TooLong limit) gives = given expected otherwise (TooLong limit) gives
 gives_expected expected otherwise (Bad at fault) gives = given expected otherwise (Bad at fault) gives
 gives_expected expected otherwise (LoginsFull stored) gives = absurd gives
 gives_expected expected otherwise (ProcsFull stored) gives = absurd gives

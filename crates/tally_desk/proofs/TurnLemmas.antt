@@ -8,7 +8,7 @@ use Rattle.tally_records.specs.Records.{Records, kind_of, record_count}
 use Rattle.tally_desk.specs.Batches.{record_size, records_in, stored_kind}
 use Rattle.tally_records.specs.declared.batch.Kind.{Kind}
 use Rattle.tally_records.specs.declared.batch.Kind.TheVariants.{Login, FailedLogin, Proc}
-use Rattle.tally_desk.specs.Blocks.{block_size, limited_fault}
+use Rattle.tally_desk.specs.Blocks.{block_fault, block_size}
 use Rattle.tally_desk.specs.inside.Turns.{Gives, IsBatch, IsBlockRefusal, IsReadFault, TakesBlock, TurnStops}
 use Rattle.tally_desk.specs.declared.fault.FeedFault.{FeedFault}
 use Rattle.tally_desk.specs.declared.fault.FeedFault.TheVariants.{Memory, Read, Torn, TooLong, Bad, LoginsFull, ProcsFull, CallsFull}
@@ -60,7 +60,7 @@ pub read_fault : (expected : Option FeedFault) (f : FeedFault) → Gives expecte
 read_fault expected Memory gives = tt
 read_fault expected Read gives = tt
 read_fault expected (Torn records torn) gives = tt
-read_fault expected TooLong gives = tt
+read_fault expected (TooLong limit) gives = tt
 read_fault expected (Bad at fault) gives = tt
 read_fault expected (LoginsFull stored) gives = absurd gives
 read_fault expected (ProcsFull stored) gives = absurd gives
@@ -71,14 +71,14 @@ never_read expected f gives is = absurd (subst (Gives expected) is gives)
 
 module _ (most : ℕ) (kind : Kind) (turn : ℕ) (block : List ℕ) (n : ℕ) (within : n ≤ length block) (few : n ≤ block_size kind) where
   pub same_fault : (rest ys : List ℕ) → rest ≡ take n block ++ ys → (n < block_size kind → ys ≡ [])
-      → limited_fault most kind (turn * block_size kind + length rest) (turn, take (block_size kind) rest)
-      ≡ limited_fault most kind (turn * block_size kind + length (take n block)) (turn, take n block)
+      → block_fault most kind (turn * block_size kind + length rest) (turn, take (block_size kind) rest)
+      ≡ block_fault most kind (turn * block_size kind + length (take n block)) (turn, take n block)
   same_fault rest ys parts end =
-      ap (λ b. limited_fault most kind (turn * block_size kind + length rest) (turn, b)) (front_is block n (block_size kind) within few rest ys parts end)
+      ap (λ b. block_fault most kind (turn * block_size kind + length rest) (turn, b)) (front_is block n (block_size kind) within few rest ys parts end)
       ∙ elim (cases_lt n (block_size kind)) [
         | inl short ↦
             let all : rest ≡ take n block = parts ∙ ap (λ l. take n block ++ l) (end short) ∙ append-nil (take n block) in
-            ap (λ l. limited_fault most kind (turn * block_size kind + length l) (turn, take n block)) all
+            ap (λ l. block_fault most kind (turn * block_size kind + length l) (turn, take n block)) all
         | inr over ↦
             let whole : length (take n block) ≡ block_size kind = filled_length block n (block_size kind) within few ∙ omega arith in
             any_total most kind _ _ (turn, take n block) (ap (λ m. m % record_size kind) whole ∙ block_size_whole kind)
@@ -90,7 +90,7 @@ module _ (most : ℕ) (kind : Kind) (turn : ℕ) (block : List ℕ) (n : ℕ) (w
   -- its batch is that of the first block of the bytes to come
   pub takes_block : (rest : List ℕ) (left : Option (List ℕ)) (batch : Records) → 0 < n → Consumes (Some rest) left (take n block)
       → (n < block_size kind → IsAtEnd left)
-      → limited_fault most kind (turn * block_size kind + length (take n block)) (turn, take n block) ≡ None
+      → block_fault most kind (turn * block_size kind + length (take n block)) (turn, take n block) ≡ None
       → batch ≡ records_in kind (take n block) → record_count batch ≡ length (take n block) / record_size kind
       → TakesBlock most kind turn rest left batch
   takes_block rest None batch any taken end good is count = absurd taken
@@ -114,14 +114,14 @@ module _ (most : ℕ) (kind : Kind) (turn : ℕ) (block : List ℕ) (n : ℕ) (w
       some = some_left rest ys parts (let long : length (take n block) ≡ n = filled_length block n (block_size kind) within few in omega arith)
 
       same : (g : FeedFault) → IsBlockRefusal most kind turn (take n block) g
-          → Gives (limited_fault most kind (turn * block_size kind + length rest) (turn, take (block_size kind) rest)) g
+          → Gives (block_fault most kind (turn * block_size kind + length rest) (turn, take (block_size kind) rest)) g
       same g = subst (λ (e : Option FeedFault). Gives e g) (sym (same_fault rest ys parts end))
 
       by : (g : FeedFault) → IsBlockRefusal most kind turn (take n block) g → TurnStops most kind turn rest g
       by Memory is = tt
       by Read is = tt
       by (Torn records torn) is = (some, same (Torn records torn) is)
-      by TooLong is = (some, same TooLong is)
+      by (TooLong limit) is = (some, same (TooLong limit) is)
       by (Bad at fault) is = (some, same (Bad at fault) is)
       by (LoginsFull stored) is = absurd is
       by (ProcsFull stored) is = absurd is
@@ -146,10 +146,10 @@ module _ (most : ℕ) (kind : Kind) (turn : ℕ) (block : List ℕ) (n : ℕ) (w
       }
 
 -- the turn after the last block
-pub last_turn_stops : (most : ℕ) (kind : Kind) (turn : ℕ) (rest : List ℕ) (f : FeedFault) → turn ≡ most → (f ≡ Read) ⊎ (f ≡ TooLong)
-    → (f ≡ TooLong → 0 < length rest) → TurnStops most kind turn rest f
+pub last_turn_stops : (most : ℕ) (kind : Kind) (turn : ℕ) (rest : List ℕ) (f : FeedFault) → turn ≡ most → (f ≡ Read) ⊎ (f ≡ TooLong (1024 * most))
+    → (f ≡ TooLong (1024 * most) → 0 < length rest) → TurnStops most kind turn rest f
 last_turn_stops most kind turn rest f last (inl read) some = subst (TurnStops most kind turn rest) (sym read) tt
 last_turn_stops most kind turn rest f last (inr long) some =
-    let gives : limited_fault most kind (turn * block_size kind + length rest) (turn, take (block_size kind) rest) ≡ Some TooLong =
+    let gives : block_fault most kind (turn * block_size kind + length rest) (turn, take (block_size kind) rest) ≡ Some (TooLong (1024 * most)) =
     rw (le-leb most turn (omega (arith, last))) refl in
     subst (TurnStops most kind turn rest) (sym long) (some long, gives)

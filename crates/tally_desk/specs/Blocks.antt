@@ -44,18 +44,10 @@ abbrev pub torn_fault : Kind → ℕ → ℕ × List ℕ → FeedFault
 torn_fault kind total numbered =
     unwrap_or (fault_before_end kind numbered) (Torn (total / record_size kind) (total % record_size kind))
 
--- why a numbered block of an input of `total` bytes is refused
-abbrev pub block_fault : Kind → ℕ → ℕ × List ℕ → Option FeedFault
-block_fault kind total numbered =
-    if nat_le 1024 numbered.0 then Some TooLong
-    else (if not (length numbered.1 % record_size kind == 0)
-    then Some (torn_fault kind total numbered)
-    else bad_record numbered.0 (batch_of kind numbered.1))
-
--- the same for an input of at most so many blocks
-abbrev pub limited_fault : ℕ → Kind → ℕ → ℕ × List ℕ → Option FeedFault
-limited_fault most kind total numbered =
-    if nat_le most numbered.0 then Some TooLong
+-- why a numbered block is refused of an input of `total` bytes that may have so many full blocks
+abbrev pub block_fault : ℕ → Kind → ℕ → ℕ × List ℕ → Option FeedFault
+block_fault most kind total numbered =
+    if nat_le most numbered.0 then Some (TooLong (1024 * most))
     else (if not (length numbered.1 % record_size kind == 0)
     then Some (torn_fault kind total numbered)
     else bad_record numbered.0 (batch_of kind numbered.1))
@@ -64,13 +56,13 @@ limited_fault most kind total numbered =
 abbrev pub numbered_blocks : Kind → List ℕ → List (ℕ × List ℕ)
 numbered_blocks kind bytes = enumerate_from 0 (blocks kind bytes)
 
--- the fault of the first block that has one
-abbrev pub feed_fault : Kind → List ℕ → Option FeedFault
-feed_fault kind bytes =
-    slice_get (filter_map (block_fault kind (length bytes)) (numbered_blocks kind bytes)) 0
+-- the fault of the first block that has one, of an input that may have so many full blocks
+abbrev pub feed_fault : ℕ → Kind → List ℕ → Option FeedFault
+feed_fault most kind bytes =
+    slice_get (filter_map (block_fault most kind (length bytes)) (numbered_blocks kind bytes)) 0
 
 -- the blocks before that one, or all
-abbrev pub good_blocks : Kind → List ℕ → List (List ℕ)
-good_blocks kind bytes = map (λ numbered. numbered.1)
-    (take_while (λ numbered. is_none (block_fault kind (length bytes) numbered))
+abbrev pub good_blocks : ℕ → Kind → List ℕ → List (List ℕ)
+good_blocks most kind bytes = map (λ numbered. numbered.1)
+    (take_while (λ numbered. is_none (block_fault most kind (length bytes) numbered))
     (numbered_blocks kind bytes))

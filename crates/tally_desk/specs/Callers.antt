@@ -3,17 +3,18 @@ use Rattle.std.specs.Prelude.{◌≡◌, ℕ, ◌≤◌, [], length}
 use mathlib.Core.List.{IsPrefix}
 use Rattle.tally_clock.specs.Rows.{ClockRows}
 use Rattle.tally_book.specs.Contents.{Contents}
-use Rattle.tally_book.specs.Books.{empty, calls_of}
+use Rattle.tally_book.specs.Books.{empty_with_room, calls_of}
 use Rattle.tally_desk.specs.declared.lock.view.Known.{Known}
 
 -- a caller that has made no call
-abbrev pub newcomer : ClockRows → ℕ → ℕ → Known
-newcomer clock callers number = record { number = number; seen = empty clock callers; mine = []; told = 0 }
+abbrev pub newcomer : ClockRows → ℕ → ℕ → ℕ → Known
+newcomer clock room callers number = record { number = number; seen = empty_with_room clock room callers; mine = []; told = 0 }
 
 -- the old contents are a beginning of the new ones
 pub record Follows (old new : Contents) : Type 0 where
   pub callers : new.callers ≡ old.callers
   pub clock : new.clock ≡ old.clock
+  pub room : new.room ≡ old.room
   pub logins : IsPrefix old.logins new.logins
   pub procs : IsPrefix old.procs new.procs
   pub calls : IsPrefix old.calls new.calls

@@ -41,63 +41,63 @@ pub record Counts (kind : Kind) (posts : List Records) (fed : Fed) : Type 0 wher
   pub some_records : All (λ batch. 0 < record_count batch) posts
   pub full : All IsFull (take (length posts - 1) posts)
 
--- the batches of an input's good blocks
-abbrev pub good_batches : Kind → List ℕ → List Records
-good_batches kind bytes = map (records_in kind) (good_blocks kind bytes)
+-- the batches of the good blocks of an input that may have so many
+abbrev pub good_batches : ℕ → Kind → List ℕ → List Records
+good_batches most kind bytes = map (records_in kind) (good_blocks most kind bytes)
 
 -- an input that was read to its end: it has no fault, and its blocks were posted
-pub record IsWhole (kind : Kind) (bytes : List ℕ) (posts : List Records → Type 0) : Type 0 where
-  pub no_fault : feed_fault kind bytes ≡ None
-  pub all : posts (good_batches kind bytes)
-  pub joined : AreJoined (good_batches kind bytes) (records_in kind bytes)
+pub record IsWhole (most : ℕ) (kind : Kind) (bytes : List ℕ) (posts : List Records → Type 0) : Type 0 where
+  pub no_fault : feed_fault most kind bytes ≡ None
+  pub all : posts (good_batches most kind bytes)
+  pub joined : AreJoined (good_batches most kind bytes) (records_in kind bytes)
 
 -- a fault of the input itself: the blocks before it were posted
-pub record IsRefused (kind : Kind) (bytes : List ℕ) (posts : List Records → Type 0) (fault : FeedFault) : Type 0 where
-  pub fault_is : feed_fault kind bytes ≡ Some fault
-  pub all : posts (good_batches kind bytes)
+pub record IsRefused (most : ℕ) (kind : Kind) (bytes : List ℕ) (posts : List Records → Type 0) (fault : FeedFault) : Type 0 where
+  pub fault_is : feed_fault most kind bytes ≡ Some fault
+  pub all : posts (good_batches most kind bytes)
 
 -- some of the good blocks were posted, and `left` were not
-pub record IsCut (kind : Kind) (bytes : List ℕ) (posts : List Records → Type 0) (left : List (List ℕ)) : Type 0 where
+pub record IsCut (most : ℕ) (kind : Kind) (bytes : List ℕ) (posts : List Records → Type 0) (left : List (List ℕ)) : Type 0 where
   pub done : List (List ℕ)
-  pub good : good_blocks kind bytes ≡ done ++ left
+  pub good : good_blocks most kind bytes ≡ done ++ left
   pub some : posts (map (records_in kind) done)
 
 -- what was seen gives this cause to refuse the post of a batch
 abbrev pub Refuses : Contents → Records → PostFault → Type 0
-Refuses seen batch refusal = IsPostRefusal (counts_of seen) (length seen.calls) batch refusal
+Refuses seen batch refusal = IsPostRefusal seen.room (counts_of seen) (length seen.calls) batch refusal
 
 -- a refused post: the good blocks before `next` were posted, and what was seen refuses that one
-pub record IsFullAt (kind : Kind) (bytes : List ℕ) (posts : List Records → Type 0) (seen : Contents) (refusal : PostFault) : Type 0 where
+pub record IsFullAt (most : ℕ) (kind : Kind) (bytes : List ℕ) (posts : List Records → Type 0) (seen : Contents) (refusal : PostFault) : Type 0 where
   pub next : List ℕ
   pub left : List (List ℕ)
-  pub cut : IsCut kind bytes posts (next ∷ left)
+  pub cut : IsCut most kind bytes posts (next ∷ left)
   pub cause : Refuses seen (records_in kind next) refusal
 
 -- what was posted before a refusal
-abbrev pub Stops : Kind → List ℕ → (List Records → Type 0) → Contents → FeedFault → Type 0
-Stops kind bytes posts seen Memory = (left : List (List ℕ)) × IsCut kind bytes posts left
-Stops kind bytes posts seen Read = (left : List (List ℕ)) × IsCut kind bytes posts left
-Stops kind bytes posts seen (LoginsFull stored) = IsFullAt kind bytes posts seen (post.LoginsFull stored)
-Stops kind bytes posts seen (ProcsFull stored) = IsFullAt kind bytes posts seen (post.ProcsFull stored)
-Stops kind bytes posts seen CallsFull = IsFullAt kind bytes posts seen post.CallsFull
-Stops kind bytes posts seen fault = IsRefused kind bytes posts fault
+abbrev pub Stops : ℕ → Kind → List ℕ → (List Records → Type 0) → Contents → FeedFault → Type 0
+Stops most kind bytes posts seen Memory = (left : List (List ℕ)) × IsCut most kind bytes posts left
+Stops most kind bytes posts seen Read = (left : List (List ℕ)) × IsCut most kind bytes posts left
+Stops most kind bytes posts seen (LoginsFull stored) = IsFullAt most kind bytes posts seen (post.LoginsFull stored)
+Stops most kind bytes posts seen (ProcsFull stored) = IsFullAt most kind bytes posts seen (post.ProcsFull stored)
+Stops most kind bytes posts seen CallsFull = IsFullAt most kind bytes posts seen post.CallsFull
+Stops most kind bytes posts seen fault = IsRefused most kind bytes posts fault
 
--- the fault is one of the block after the first `count`, where it names its place
-abbrev pub IsAfter : Kind → ℕ → FeedFault → Type 0
-IsAfter kind count (Torn records rest) =
+-- the fault is one of the block after the first `count` of an input that may have so many, where it names its place
+abbrev pub IsAfter : ℕ → Kind → ℕ → FeedFault → Type 0
+IsAfter most kind count (Torn records rest) =
     (1024 * count ≤ records) × (records < 1024 * (count + 1)) × (0 < rest) × (rest < record_size kind)
-IsAfter kind count TooLong = count ≡ 1024
-IsAfter kind count (Bad at fault) = (1024 * count ≤ at) × (at < 1024 * (count + 1))
-IsAfter kind count fault = ⊤
+IsAfter most kind count (TooLong limit) = (count ≡ most) × (limit ≡ 1024 * most)
+IsAfter most kind count (Bad at fault) = (1024 * count ≤ at) × (at < 1024 * (count + 1))
+IsAfter most kind count fault = ⊤
 
 -- full batches were posted, no more than an input may have, and the fault is one of the block after them
-pub record IsStopped (kind : Kind) (posts : List Records → Type 0) (fault : FeedFault) : Type 0 where
+pub record IsStopped (most : ℕ) (kind : Kind) (posts : List Records → Type 0) (fault : FeedFault) : Type 0 where
   pub batches : List Records
   pub posted : posts batches
   pub of_kind : AreOf kind batches
   pub full : All IsFull batches
-  pub few : length batches ≤ 1024
-  pub place : IsAfter kind (length batches) fault
+  pub few : length batches ≤ most
+  pub place : IsAfter most kind (length batches) fault
 
 -- what was seen refuses the post of some batch of the kind in which files of a kind are stored
 pub record IsFullFor (kind : Kind) (seen : Contents) (refusal : PostFault) : Type 0 where

@@ -39,19 +39,19 @@ Sat = Me Contents View
 
 -- the pass of a seat
 abbrev pub seen_as : TableId → Sat → PassState
-seen_as id m = pass_of id (slice_index_or m.0.known 0 (newcomer utc 0 0))
+seen_as id m = pass_of id (slice_index_or m.0.known 0 (newcomer utc 0 0 0))
 
 -- what the caller of a pass knows
 abbrev pub known_of : PassState → Known
 known_of p = record { number = p.number; seen = p.seen; mine = p.mine; told = p.told }
 
 -- the pass of a caller that has seen nothing and made no call
-abbrev pub first_pass : TableId → ClockRows → ℕ → ℕ → PassState
-first_pass id clock callers number = pass_of id (newcomer clock callers number)
+abbrev pub first_pass : TableId → ClockRows → ℕ → ℕ → ℕ → PassState
+first_pass id clock room callers number = pass_of id (newcomer clock room callers number)
 
--- the passes of a new desk, whose book has this clock
-abbrev pub first_passes : TableId → ClockRows → ℕ → List PassState
-first_passes id clock callers = map (first_pass id clock callers) (range_with_len 0 callers)
+-- the passes of a new desk, whose book has this clock and room for so many records
+abbrev pub first_passes : TableId → ClockRows → ℕ → ℕ → List PassState
+first_passes id clock room callers = map (first_pass id clock room callers) (range_with_len 0 callers)
 
 -- it is the same caller's pass of the same desk, it knows no less, and a legal book stays one
 pub record Keeps (old new : PassState) : Type 0 where

@@ -7,6 +7,8 @@ ghost use Rattle.tally_book.specs.Answers.{HasDays, IsAskable, answer_of};
 ghost use Rattle.tally_book.specs.Books.{IsLegal, counts_of};
 ghost use Rattle.tally_book.specs.Deeds.{Ask, Post};
 ghost use Rattle.tally_book.specs.Refusals.{IsAskRefusal, IsPostRefusal};
+ghost use Rattle.tally_book.specs.Rooms.{IsRoom};
+ghost use Rattle.tally_book.specs.declared.room.TheConstants.{MILLION};
 ghost use Rattle.tally_clock.specs.Rows.{utc};
 ghost use Rattle.tally_records.specs.Records.{logins_in, procs_in};
 ghost use Rattle.tally_desk.specs.declared.lock.view.Known.{Known};
@@ -23,7 +25,7 @@ use std::alloc::Global;
 use std::hash::RandomState;
 use std::marker::Model;
 use std::sync::Wait;
-use tally_book::{AskFault, Book, PostFault, Question, Receipt, Served};
+use tally_book::{AskFault, Book, PostFault, Question, Receipt, Room, Served};
 use tally_clock::Clock;
 use tally_records::Batch;
 use tally_sessions::HOST_LIMIT;
@@ -32,6 +34,7 @@ use tally_sessions::HOST_LIMIT;
 #[derive(Drop)]
 pub struct Pass {
     number: u32,
+    room: Room,
     seat: Seat,
 }
 
@@ -48,16 +51,16 @@ impl Model for Pass {
 
     ghost view = { λ p. seen_as p.seat.table_id p.seat.me };
 
-    ghost invariant = { λ p. (k : Known) × (p.seat.me ≡ idle k) × (p.number ≡ k.number) × IsSound k };
+    ghost invariant = { λ p. (k : Known) × (p.seat.me ≡ idle k) × (p.number ≡ k.number) × IsSound k × (p.room ≡ k.seen.room) };
 }
 
 impl Pass {
-    /// The pass of a seat.
-    fn new(number: u32, seat: Seat) -> Pass
-        requires { (k : Known) × (seat.me ≡ idle k) × (number ≡ k.number) × IsSound k }
+    /// The pass of a seat, for a book of so much room.
+    fn new(number: u32, room: Room, seat: Seat) -> Pass
+        requires { (k : Known) × (seat.me ≡ idle k) × (number ≡ k.number) × IsSound k × (room ≡ k.seen.room) }
         ensures { (k : Known) → seat.me ≡ idle k → result ≡ pass_of seat.table_id k }
     {
-        Pass { number, seat }
+        Pass { number, room, seat }
     }
 
     /// The caller's number. Its records are those of the host with this number.
@@ -67,13 +70,24 @@ impl Pass {
         self.number
     }
 
+    /// How many records of each kind the book has room for.
+    pub fn room(&self) -> Room
+        ensures { result ≡ self.now.seen.room }
+    {
+        self.room
+    }
+
     /// The caller's number and seat.
     fn into_parts(self) -> (u32, Seat)
         ensures number { result.0 ≡ self.number }
         ensures seat { (result.1.table_id ≡ self.desk) × (result.1.me ≡ idle (known_of self)) }
         ensures sound { IsSound (known_of self) }
     {
-        let Pass { number, seat } = self;
+        let Pass {
+            number,
+            room: _,
+            seat,
+        } = self;
         (number, seat)
     }
 }
@@ -99,13 +113,14 @@ impl Model for Desk {
 
 /// Deals the seat of all callers to passes, of which there is room for all.
 fn deal_all(lock: &TicketLock, mut seat: Seat, opening: &Opening, passes: &mut Vec<Pass>)
-    requires seat { (seat.table_id ≡ lock.now.table.shared.table_id) × (seat.me ≡ standing (newcomers opening.now.clock opening.now.callers 0 opening.now.callers)) }
+    requires seat { (seat.table_id ≡ lock.now.table.shared.table_id) × (seat.me ≡ standing (newcomers opening.now.clock opening.now.room opening.now.callers 0 opening.now.callers)) }
     requires room { (passes.old.items ≡ []) × (opening.now.callers ≤ vec_capacity passes.old) }
     requires few { opening.now.callers ≤ HOST_LIMIT }
-    ensures { passes.new.items ≡ first_passes lock.now.table.shared.table_id opening.now.clock opening.now.callers }
+    requires right { IsRoom opening.now.room }
+    ensures { passes.new.items ≡ first_passes lock.now.table.shared.table_id opening.now.clock opening.now.room opening.now.callers }
 {
     for number in 0..opening.callers {
-        passes.push_reserved(Pass::new(number, lock.deal(&mut seat)));
+        passes.push_reserved(Pass::new(number, opening.room, lock.deal(&mut seat)));
     }
 }
 
@@ -129,15 +144,15 @@ fn gather_all(lock: &TicketLock, mut passes: Vec<Pass>) -> Seat
 }
 
 impl Desk {
-    /// A desk with an empty book, with the days of UTC, and a pass for each of 1 to 128 callers, in
-    /// order. The book's tables are hashed by the keys.
+    /// A desk with an empty book, with the days of UTC and room for a million records of each kind, and a pass for each of 1 to 128
+    /// callers, in order. The book's tables are hashed by the keys.
     pub fn open(
         alloc: Global,
         keys: RandomState,
         callers: u32,
     ) -> Result<(Desk, Vec<Pass>), OpenFault>
         ensures callers { IfOk result (λ r. r.0.callers ≡ callers) }
-        ensures passes { IfOk result (λ r. r.1.items ≡ first_passes r.0.id utc callers) }
+        ensures passes { IfOk result (λ r. r.1.items ≡ first_passes r.0.id utc MILLION callers) }
         ensures desk { IfOk result (λ r. All (λ p. p.desk ≡ r.0.id) r.1.items) }
         ensures given { OnOk result ((0 < callers) × (callers ≤ HOST_LIMIT)) }
         ensures refused { IfErr result (IsOpenFault callers) }
@@ -153,7 +168,24 @@ impl Desk {
         callers: u32,
     ) -> Result<(Desk, Vec<Pass>), OpenFault>
         ensures callers { IfOk result (λ r. r.0.callers ≡ callers) }
-        ensures passes { IfOk result (λ r. r.1.items ≡ first_passes r.0.id clock callers) }
+        ensures passes { IfOk result (λ r. r.1.items ≡ first_passes r.0.id clock MILLION callers) }
+        ensures desk { IfOk result (λ r. All (λ p. p.desk ≡ r.0.id) r.1.items) }
+        ensures given { OnOk result ((0 < callers) × (callers ≤ HOST_LIMIT)) }
+        ensures refused { IfErr result (IsOpenFault callers) }
+    {
+        Desk::open_with_room(alloc, keys, clock, Room::usual(), callers)
+    }
+
+    /// The same with a book that has room for so many records of each kind.
+    pub fn open_with_room(
+        alloc: Global,
+        keys: RandomState,
+        clock: Clock,
+        room: Room,
+        callers: u32,
+    ) -> Result<(Desk, Vec<Pass>), OpenFault>
+        ensures callers { IfOk result (λ r. r.0.callers ≡ callers) }
+        ensures passes { IfOk result (λ r. r.1.items ≡ first_passes r.0.id clock room callers) }
         ensures desk { IfOk result (λ r. All (λ p. p.desk ≡ r.0.id) r.1.items) }
         ensures given { OnOk result ((0 < callers) × (callers ≤ HOST_LIMIT)) }
         ensures refused { IfErr result (IsOpenFault callers) }
@@ -164,7 +196,11 @@ impl Desk {
         let mut passes = Vec::with_capacity(alloc, callers as usize).map_err(
             |_| OpenFault::Memory,
         )?;
-        let opening = Opening { callers, clock };
+        let opening = Opening {
+            callers,
+            clock,
+            room,
+        };
         let (lock, seat) = TicketLock::open(alloc, keys, &opening).map_err(|_| OpenFault::Memory)?;
         deal_all(&lock, seat, &opening, &mut passes);
         Ok((Desk { lock, callers }, passes))
@@ -213,7 +249,7 @@ impl Desk {
         ensures stored { IfOk result (λ r. Stores pass.old.number r.before batch.now pass.new.seen) }
         ensures after { IfOk result (λ r. r.after ≡ counts_of pass.new.seen) }
         ensures refused { OnErr result (pass.new.mine ≡ pass.old.mine) }
-        ensures cause { IfErr result (IsPostRefusal (counts_of pass.new.seen) (length pass.new.seen.calls) batch.now) }
+        ensures cause { IfErr result (IsPostRefusal pass.new.seen.room (counts_of pass.new.seen) (length pass.new.seen.calls) batch.now) }
         ensures did { MatchResult result
             (λ _. deeds pass.new ≡ deeds pass.old ++ Post (logins_in batch.now) (procs_in batch.now) ∷ [])
             (λ _. deeds pass.new ≡ deeds pass.old) }

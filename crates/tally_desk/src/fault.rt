@@ -57,9 +57,9 @@ pub enum FeedFault {
     /// The input ends inside a record: the whole records before it, and the bytes of it.
     #[error("torn after {records} records, {rest} bytes left")]
     Torn { records: u64, rest: u64 },
-    /// A byte follows record 1,048,576.
-    #[error("more than 1048576 records")]
-    TooLong,
+    /// A byte follows the last record that an input may have.
+    #[error("more than {limit} records")]
+    TooLong { limit: u64 },
     /// A record has no meaning; its number in the input counts from 0.
     #[error("record {at} has {fault}")]
     Bad { at: u64, fault: RecordFault },

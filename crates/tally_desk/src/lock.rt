@@ -1,9 +1,10 @@
 //! A ticket lock over a book, by the steps of a table.
-ghost use Rattle.std.specs.Prelude.{◌≡◌, ◌<◌, ◌≤◌, [], ◌∷◌, ℕ, length, List, IfOk, MatchResult, sum_by};
+ghost use Rattle.std.specs.Prelude.{◌≡◌, ◌<◌, ◌≤◌, [], ◌∷◌, ℕ, length, List, IfOk, MatchResult, OnOk, sum_by};
 ghost use Rattle.tally_book.specs.Answers.{HasDays, IsAskable};
 ghost use Rattle.tally_book.specs.Books.{IsLegal, IsReceipt, IsServed, asked, counts_of, posted};
 ghost use Rattle.tally_book.specs.Contents.{Contents};
 ghost use Rattle.tally_book.specs.Refusals.{IsAskRefusal, IsPostRefusal};
+ghost use Rattle.tally_book.specs.Rooms.{IsRoom};
 ghost use Rattle.tally_desk.specs.declared.lock.view.Known.{Known};
 ghost use Rattle.tally_desk.specs.inside.Seats.{idle, standing, turn};
 ghost use Rattle.tally_desk.specs.Callers.{Fits};
@@ -55,12 +56,13 @@ impl TicketLock {
     ) -> Result<(TicketLock, Seat), Memory>
         requires some { 1 ≤ opening.now.callers }
         requires few { opening.now.callers ≤ HOST_LIMIT }
-        ensures { IfOk result (λ t. (t.0.table.shared.key ≡ opening.now) × (t.1.table_id ≡ t.0.table.shared.table_id) × (t.1.me ≡ (opening_view opening.now, []))) }
+        ensures opened { IfOk result (λ t. (t.0.table.shared.key ≡ opening.now) × (t.1.table_id ≡ t.0.table.shared.table_id) × (t.1.me ≡ (opening_view opening.now, []))) }
+        ensures room { OnOk result (IsRoom opening.now.room) }
     {
         let sleepers = Sleepers::new(alloc, opening.callers)?;
         let mut slots = Vec::with_capacity(alloc, 1)?;
         let clock = opening.clock.try_copy(alloc)?;
-        slots.push_reserved(Book::on(alloc, keys, clock, opening.callers)?);
+        slots.push_reserved(Book::with_room(alloc, keys, clock, opening.room, opening.callers)?);
         match Table::new(alloc, &[0, 0, 0], slots, opening) {
             Ok((table, seat)) => Ok((TicketLock { table, sleepers }, seat)),
             Err(Refused { slots: _ }) => Err(Memory),
@@ -109,7 +111,7 @@ impl TicketLock {
         ensures posted { (k : Known) (ticket : ℕ) (book : Contents) → seat.old.me ≡ turn k ticket book book
             → MatchResult result
             (λ r. (seat.new.me ≡ turn k ticket book (posted book number batch.now)) × IsLegal (posted book number batch.now) × IsReceipt book (posted book number batch.now) r)
-            (λ e. (seat.new.me ≡ seat.old.me) × IsPostRefusal (counts_of book) (length book.calls) batch.now e) }
+            (λ e. (seat.new.me ≡ seat.old.me) × IsPostRefusal book.room (counts_of book) (length book.calls) batch.now e) }
     {
         let book = seat.slot_mut(&self.table.shared, BOOK);
         book.post(number, batch)
@@ -161,7 +163,7 @@ impl TicketLock {
         ensures posted { (k : Known) → seat.old.me ≡ idle k
             → (book : Contents) × Fits book k × IsLegal book × MatchResult result
             (λ r. (seat.new.me ≡ idle (knowing (posted book k.number batch.now) k)) × IsLegal (posted book k.number batch.now) × IsReceipt book (posted book k.number batch.now) r)
-            (λ e. (seat.new.me ≡ idle (knowing book k)) × IsPostRefusal (counts_of book) (length book.calls) batch.now e) }
+            (λ e. (seat.new.me ≡ idle (knowing book k)) × IsPostRefusal book.room (counts_of book) (length book.calls) batch.now e) }
     {
         self.enter(rt, seat);
         let made = self.post_out(seat, number, batch);

@@ -19,17 +19,17 @@ IsFirstFault most bytes fault = count_fault most bytes ≡ Some fault
 
 -- the fault is that of more blocks than are counted, or lies in the block after so many
 abbrev pub IsPlace : ℕ → ℕ → FeedFault → Type 0
-IsPlace most count TooLong = count ≡ most
+IsPlace most count (TooLong limit) = (count ≡ most) × (limit ≡ 1024 * most)
 IsPlace most count fault = IsInBlock Proc count fault
 
 -- so many full blocks were counted, no more than are to be, and the fault is one of the block after them
 abbrev pub IsStoppedAfter : ℕ → FeedFault → Type 0
 IsStoppedAfter most fault = (count : ℕ) × (count ≤ most) × IsPlace most count fault
 
--- a count of at most so many blocks gives its caller this fault for that of its reading
-abbrev pub IsGivenFor : ℕ → FeedFault → CountFault → Type 0
-IsGivenFor most fault given.Memory = fault ≡ Memory
-IsGivenFor most fault given.Read = fault ≡ Read
-IsGivenFor most fault (given.Torn records rest) = fault ≡ Torn records rest
-IsGivenFor most fault (given.TooLong limit) = (fault ≡ TooLong) × (limit ≡ most * 1024)
-IsGivenFor most fault (given.Bad at bad) = fault ≡ Bad at bad
+-- a count gives its caller this fault for that of its reading
+abbrev pub IsGivenFor : FeedFault → CountFault → Type 0
+IsGivenFor fault given.Memory = fault ≡ Memory
+IsGivenFor fault given.Read = fault ≡ Read
+IsGivenFor fault (given.Torn records rest) = fault ≡ Torn records rest
+IsGivenFor fault (given.TooLong limit) = fault ≡ TooLong limit
+IsGivenFor fault (given.Bad at bad) = fault ≡ Bad at bad

@@ -34,6 +34,7 @@ pub record IsNext (number : ℕ) (before after : Contents) : Type 0 where
   pub procs : IsPrefix before.procs after.procs
   pub callers : after.callers ≡ before.callers
   pub clock : after.clock ≡ before.clock
+  pub room : after.room ≡ before.room
   pub legal : IsLegal after
 
 -- a call was answered and is the next one, or it was refused and the book is as it was

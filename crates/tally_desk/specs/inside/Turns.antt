@@ -3,7 +3,7 @@ use Rattle.std.specs.Prelude.{◌≡◌, ◌+◌, ◌*◌, ◌/◌, ◌<◌, ◌
 use Rattle.tally_records.specs.Records.{Records, kind_of, record_count}
 use Rattle.tally_records.specs.declared.batch.Kind.{Kind}
 use Rattle.tally_desk.specs.Batches.{batch_of, record_size, records_in, stored_kind}
-use Rattle.tally_desk.specs.Blocks.{bad_record, block_size, limited_fault}
+use Rattle.tally_desk.specs.Blocks.{bad_record, block_size, block_fault}
 use Rattle.tally_desk.specs.declared.fault.FeedFault.{FeedFault}
 use Rattle.tally_desk.specs.declared.fault.FeedFault.TheVariants.{Memory, Read, Torn, TooLong, Bad, LoginsFull, ProcsFull, CallsFull}
 
@@ -23,21 +23,21 @@ IsBatchRefusal kind turn bytes fault = Gives (bad_record turn (batch_of kind byt
 -- why the bytes of a block are no batch
 abbrev pub IsBlockRefusal : ℕ → Kind → ℕ → List ℕ → FeedFault → Type 0
 IsBlockRefusal most kind turn bytes fault =
-    Gives (limited_fault most kind (turn * block_size kind + length bytes) (turn, bytes)) fault
+    Gives (block_fault most kind (turn * block_size kind + length bytes) (turn, bytes)) fault
 
 -- why no batch came of these bytes to come
 abbrev pub TurnStops : ℕ → Kind → ℕ → List ℕ → FeedFault → Type 0
 TurnStops most kind turn rest Memory = ⊤
 TurnStops most kind turn rest Read = ⊤
 TurnStops most kind turn rest fault = (0 < length rest)
-    × Gives (limited_fault most kind (turn * block_size kind + length rest)
+    × Gives (block_fault most kind (turn * block_size kind + length rest)
     (turn, take (block_size kind) rest)) fault
 
 -- the fault is none of the end of what an input may have, and lies in the block after the first `count`, where it names its place
 abbrev pub IsInBlock : Kind → ℕ → FeedFault → Type 0
 IsInBlock kind count (Torn records rest) =
     (1024 * count ≤ records) × (records < 1024 * (count + 1)) × (0 < rest) × (rest < record_size kind)
-IsInBlock kind count TooLong = ⊥
+IsInBlock kind count (TooLong limit) = ⊥
 IsInBlock kind count (Bad at fault) = (1024 * count ≤ at) × (at < 1024 * (count + 1))
 IsInBlock kind count fault = ⊤
 
@@ -57,7 +57,7 @@ pub record IsBatch (kind : Kind) (batch : Records) : Type 0 where
 -- the batch is that of the first block of the bytes to come, which is good, and the others are left
 pub record TakesBlock (most : ℕ) (kind : Kind) (turn : ℕ) (rest : List ℕ) (left : Option (List ℕ)) (batch : Records) : Type 0 where
   pub some : 0 < length rest
-  pub good : limited_fault most kind (turn * block_size kind + length rest) (turn, take (block_size kind) rest) ≡ None
+  pub good : block_fault most kind (turn * block_size kind + length rest) (turn, take (block_size kind) rest) ≡ None
   pub batch_is : batch ≡ records_in kind (take (block_size kind) rest)
   pub count : record_count batch ≡ length (take (block_size kind) rest) / record_size kind
   pub left_is : left ≡ Some (drop (block_size kind) rest)

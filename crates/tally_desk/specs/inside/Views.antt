@@ -16,12 +16,12 @@ abbrev pub view : List Known → Stage → View
 view known stage = record { known = known; stage = stage }
 
 -- the n newcomers from a number on
-abbrev pub newcomers : ClockRows → ℕ → ℕ → ℕ → List Known
-newcomers clock callers number n = map (newcomer clock callers) (range_with_len number n)
+abbrev pub newcomers : ClockRows → ℕ → ℕ → ℕ → ℕ → List Known
+newcomers clock room callers number n = map (newcomer clock room callers) (range_with_len number n)
 
 -- the first seat stands for all callers
 abbrev pub opening_view : Opening → View
-opening_view o = view (newcomers o.clock o.callers 0 o.callers) Idle
+opening_view o = view (newcomers o.clock o.room o.callers 0 o.callers) Idle
 
 -- the first caller of a seat, which gets its own seat
 abbrev pub dealt : View → View

@@ -2,7 +2,7 @@
 ghost use Rattle.std.specs.Prelude.{◌≡◌, ◌≢◌, ◌+◌, ◌-◌, ◌*◌, ◌^◌, ◌<◌, ◌≤◌, ◌/◌, ◌%◌, IfErr, IfNone, IfOk, IfSome, OnErr, OnOk, Ok, None, Some, List, ℕ, length, slice_range, take, true, vec_capacity, vec_len};
 ghost use Rattle.std.specs.Io.KnownBytes.{Consumes, IsAtEnd};
 ghost use Rattle.tally_desk.specs.Batches.{batch_of, record_size, records_in};
-ghost use Rattle.tally_desk.specs.Blocks.{block_size, fault_before_end, limited_fault, torn_fault};
+ghost use Rattle.tally_desk.specs.Blocks.{block_fault, block_size, fault_before_end, torn_fault};
 ghost use Rattle.tally_desk.specs.Takings.{TakesAtMost};
 ghost use Rattle.tally_desk.specs.inside.Turns.{Gives, IsLast, IsBatch, IsBatchRefusal, IsBlockRefusal, IsInBlock, IsReadFault, Takes, TurnStops};
 ghost use Rattle.tally_desk.specs.declared.fault.FeedFault.TheVariants as fault;
@@ -213,7 +213,7 @@ fn whole_batch(
     requires early { turn < most }
     ensures whole { OnOk result (length bytes.now % record_size kind ≡ 0) }
     ensures good { OnOk result
-        (limited_fault most kind (turn * block_size kind + length bytes.now) (turn, bytes.now) ≡ None) }
+        (block_fault most kind (turn * block_size kind + length bytes.now) (turn, bytes.now) ≡ None) }
     ensures value { IfOk result (λ batch. batch ≡ records_in kind bytes.now) }
     ensures count { IfOk result (λ batch.
         record_count batch ≡ length bytes.now / record_size kind) }

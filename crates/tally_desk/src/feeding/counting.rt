@@ -76,22 +76,20 @@ fn count_blocks<I: Input>(
             return Ok(());
         }
     }
-    expect_end(input)?;
+    expect_end(input, most)?;
     Ok(())
 }
 
-/// What the caller of a count of at most so many blocks is told of a fault.
-fn fault_of_count(fault: FeedFault, most: u32) -> CountFault
+/// What the caller of a count is told of a fault.
+fn fault_of_count(fault: FeedFault) -> CountFault
     requires reading { IsReadFault fault }
-    ensures value { IsGivenFor most fault result }
+    ensures value { IsGivenFor fault result }
 {
     match fault {
         FeedFault::Memory => CountFault::Memory,
         FeedFault::Read => CountFault::Read,
         FeedFault::Torn { records, rest } => CountFault::Torn { records, rest },
-        FeedFault::TooLong => CountFault::TooLong {
-            limit: u64::from(most) * 1024,
-        },
+        FeedFault::TooLong { limit } => CountFault::TooLong { limit },
         FeedFault::Bad { at, fault } => CountFault::Bad { at, fault },
         FeedFault::LoginsFull { stored: _ } => unreachable!(),
         FeedFault::ProcsFull { stored: _ } => unreachable!(),
@@ -101,8 +99,8 @@ fn fault_of_count(fault: FeedFault, most: u32) -> CountFault
 
 /// The sums of the chosen of an input's process records. They are read by blocks of 1,024, and none is kept.
 ///
-/// At most `most` blocks are read, up to 262,144 of them. The first fault of the input is named, which is that of `feed` where
-/// `most` is 1,024: `Torn` where the input ends inside a record, `Bad` where a record has no meaning, and `TooLong` where a byte
+/// At most `most` blocks are read, up to 262,144 of them. The first fault of the input is named, which is that of `feed` to a book
+/// with room for `most` blocks: `Torn` where the input ends inside a record, `Bad` where a record has no meaning, and `TooLong` where a byte
 /// follows `most` full blocks. `Memory` and `Read` come where memory runs out or the input fails before. It takes memory
 /// for one block and its batch, about 100 KiB, and for the groups of the sums, whose tables are hashed by the keys.
 #[tactic(auto, using(crate::proofs::CountingLemmas::given_place))]
@@ -133,6 +131,6 @@ pub fn count_input<I: Input>(
     let mut sums = Sums::new(alloc, keys);
     match count_blocks(alloc, input, &mut sums, choice, most) {
         Ok(()) => Ok(sums),
-        Err(fault) => Err(fault_of_count(fault, most)),
+        Err(fault) => Err(fault_of_count(fault)),
     }
 }

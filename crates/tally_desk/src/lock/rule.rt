@@ -5,14 +5,15 @@ ghost use Rattle.tally_desk.specs.inside.Steps.{Draws, Looks, Counts, Leaves, Te
 
 use crate::lock::view::View;
 use atomic_table::{Join, Play, Split, TableRule};
-use tally_book::Book;
+use tally_book::{Book, Room};
 use tally_clock::Clock;
 
-/// What a table opens with: how many callers it has, and the clock of the book's days.
+/// What a table opens with: how many callers it has, the clock of the book's days, and the room of the book.
 #[derive(Drop)]
 pub struct Opening {
     pub callers: u32,
     pub clock: Clock,
+    pub room: Room,
 }
 
 /// The table of so many callers: its words are the calls, the next ticket and the ticket that is

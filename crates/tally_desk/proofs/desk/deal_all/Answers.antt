@@ -13,16 +13,16 @@ deal-requires-clause-some c =
     let n = c.loop-number.number in
     let left = c.loop-number.invariant.left in
     let some : 0 < left.0 = omega (arith, left.1) in
-    (newcomer c.args.opening.now.clock c.args.opening.now.callers n, newcomers c.args.opening.now.clock c.args.opening.now.callers (n + 1) (left.0 - 1), left.2 ∙ ap (λ ns. standing (map (newcomer c.args.opening.now.clock c.args.opening.now.callers) ns)) (first_left n left.0 some))
+    (newcomer c.args.opening.now.clock c.args.opening.now.room c.args.opening.now.callers n, newcomers c.args.opening.now.clock c.args.opening.now.room c.args.opening.now.callers (n + 1) (left.0 - 1), left.2 ∙ ap (λ ns. standing (map (newcomer c.args.opening.now.clock c.args.opening.now.room c.args.opening.now.callers) ns)) (first_left n left.0 some))
 
 pub new-requires : goal.new-requires
 new-requires c =
     let n = c.loop-number.number in
     let left = c.loop-number.invariant.left in
     let some : 0 < left.0 = omega (arith, left.1) in
-    let first : Known = newcomer c.args.opening.now.clock c.args.opening.now.callers n in
-    let dealt = c.deal.ensures.dealt first (newcomers c.args.opening.now.clock c.args.opening.now.callers (n + 1) (left.0 - 1)) (left.2 ∙ ap (λ ns. standing (map (newcomer c.args.opening.now.clock c.args.opening.now.callers) ns)) (first_left n left.0 some)) in
-    (first, dealt.1, refl, newcomer_sound c.args.opening.now.clock c.args.opening.now.callers n c.requires.few c.loop-number-test.true)
+    let first : Known = newcomer c.args.opening.now.clock c.args.opening.now.room c.args.opening.now.callers n in
+    let dealt = c.deal.ensures.dealt first (newcomers c.args.opening.now.clock c.args.opening.now.room c.args.opening.now.callers (n + 1) (left.0 - 1)) (left.2 ∙ ap (λ ns. standing (map (newcomer c.args.opening.now.clock c.args.opening.now.room c.args.opening.now.callers) ns)) (first_left n left.0 some)) in
+    (first, dealt.1, refl, newcomer_sound c.args.opening.now.clock c.args.opening.now.room c.args.opening.now.callers n c.requires.right c.requires.few c.loop-number-test.true, refl)
 
 pub loop-number-preserved : goal.loop-number-preserved
 loop-number-preserved c =
@@ -30,10 +30,10 @@ loop-number-preserved c =
     let id = c.args.lock.now.table.shared.table_id in
     let left = c.loop-number.invariant.left in
     let some : 0 < left.0 = omega (arith, left.1) in
-    let first : Known = newcomer c.args.opening.now.clock c.args.opening.now.callers n in
-    let others : List PassState = map (first_pass id c.args.opening.now.clock c.args.opening.now.callers) (range_with_len (n + 1) (left.0 - 1)) in
+    let first : Known = newcomer c.args.opening.now.clock c.args.opening.now.room c.args.opening.now.callers n in
+    let others : List PassState = map (first_pass id c.args.opening.now.clock c.args.opening.now.room c.args.opening.now.callers) (range_with_len (n + 1) (left.0 - 1)) in
     let more = first_left n left.0 some in
-    let dealt = c.deal.ensures.dealt first (newcomers c.args.opening.now.clock c.args.opening.now.callers (n + 1) (left.0 - 1)) (left.2 ∙ ap (λ ns. standing (map (newcomer c.args.opening.now.clock c.args.opening.now.callers) ns)) more) in
+    let dealt = c.deal.ensures.dealt first (newcomers c.args.opening.now.clock c.args.opening.now.room c.args.opening.now.callers (n + 1) (left.0 - 1)) (left.2 ∙ ap (λ ns. standing (map (newcomer c.args.opening.now.clock c.args.opening.now.room c.args.opening.now.callers) ns)) more) in
     let same : c.deal.result.table_id ≡ id = c.deal.ensures.table.1 ∙ c.loop-number.invariant.table in
     let pass : c.new.result ≡ pass_of id first = c.new.ensures first dealt.1 ∙ ap (λ x. pass_of x first) same in
     let before : List PassState = c.loop-number.passes.items in
@@ -47,6 +47,6 @@ loop-number-preserved c =
         omega (arith, left.1),
         dealt.0,
         ap (λ (ps : List PassState). ps ++ others) now
-            ∙ (append_assoc before (pass_of id first ∷ []) others ∙ (ap (λ (ns : List ℕ). before ++ map (first_pass id c.args.opening.now.clock c.args.opening.now.callers) ns) (sym more) ∙ left.3)),
+            ∙ (append_assoc before (pass_of id first ∷ []) others ∙ (ap (λ (ns : List ℕ). before ++ map (first_pass id c.args.opening.now.clock c.args.opening.now.room c.args.opening.now.callers) ns) (sym more) ∙ left.3)),
       );
     }

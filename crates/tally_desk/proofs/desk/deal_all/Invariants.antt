@@ -12,6 +12,6 @@ invariant-loop-number l = record {
   table : l.seat.table_id ≡ l.lock.table.shared.table_id;
   dealt : vec_len l.passes ≡ l.number;
   room : l.opening.callers ≤ vec_capacity l.passes;
-  left : (rest : ℕ) × (l.number + rest ≡ l.opening.callers) × (l.seat.me ≡ standing (newcomers l.opening.clock l.opening.callers l.number rest))
-      × (l.passes.items ++ map (first_pass l.lock.table.shared.table_id l.opening.clock l.opening.callers) (range_with_len l.number rest) ≡ first_passes l.lock.table.shared.table_id l.opening.clock l.opening.callers);
+  left : (rest : ℕ) × (l.number + rest ≡ l.opening.callers) × (l.seat.me ≡ standing (newcomers l.opening.clock l.opening.room l.opening.callers l.number rest))
+      × (l.passes.items ++ map (first_pass l.lock.table.shared.table_id l.opening.clock l.opening.room l.opening.callers) (range_with_len l.number rest) ≡ first_passes l.lock.table.shared.table_id l.opening.clock l.opening.room l.opening.callers);
 }

@@ -22,7 +22,7 @@ pub invariant_of-pass : goal.invariant_of-pass
 invariant_of-pass g c =
     let o = c.pass.invariant in
     let b = c.post.ensures.posted o.0 o.1 in
-    let t = posted_pass c.pass.inside.seat.table_id o.0 o.3 b.0 b.1 c.args.batch.now _ _ b.2 b.3 in (t.0, t.1, o.2 ∙ t.2, t.3)
+    let t = posted_pass c.pass.inside.seat.table_id o.0 o.3 b.0 b.1 c.args.batch.now _ _ b.2 b.3 in (t.0, t.1, o.2 ∙ t.2, t.3, o.4 ∙ sym t.4.keeps.seen.room)
 
 pub returns : goal.returns
 returns g c =

@@ -9,7 +9,7 @@ pub invariant_of-pass : goal.invariant_of-pass
 invariant_of-pass c =
     let o = c.pass.invariant in
     let t = c.calls.ensures.told o.0 o.1 in
-    (told_of c.calls.result o.0, t.1, o.2, told_sound o.0 c.calls.result t.0 o.3)
+    (told_of c.calls.result o.0, t.1, o.2, told_sound o.0 c.calls.result t.0 o.3, o.4)
 
 pub returns-clause-told : goal.returns-clause-told
 returns-clause-told c =

@@ -184,7 +184,7 @@ returns-in_err-expect_end g c =
           told_fault c.args.choice.now c.args.most bytes _ c.loop-turn.sums c.loop-turn.turn _ so_far
           (last_turn_stops c.args.most Proc c.loop-turn.turn so_far.rest _ last failed.err (λ long. failed.long long so_far.rest so_far.to_come));
       place = (c.loop-turn.turn, c.loop-turn.auto.turn-end, place_after c.args.most c.loop-turn.turn _ last failed.err);
-      reading = end_is_reading _ failed.err;
+      reading = end_is_reading _ _ failed.err;
       failures = tt;
       unfailed = λ other. failed.unfailed other ∙ before.countable;
       read = λ is. first_failed _ _ _ _ _ before.countable before.nature (failed.read is);

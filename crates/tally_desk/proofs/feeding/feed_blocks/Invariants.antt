@@ -4,7 +4,7 @@ use Rattle.tally_desk.specs.Feeds.{Posts}
 use Rattle.tally_desk.specs.Passes.{Keeps}
 use Rattle.tally_desk.specs.Takings.{TakesAtMost}
 use Rattle.tally_desk.proofs.FeedLemmas.{FullPosts, Told}
-use Rattle.tally_desk.proofs.feeding.feed.Given as goal
+use Rattle.tally_desk.proofs.feeding.feed_blocks.Given as goal
 
 abbrev pub invariant-loop-turn : goal.invariant-loop-turn
 invariant-loop-turn g l = record {
@@ -16,5 +16,5 @@ invariant-loop-turn g l = record {
   keeps : Keeps l.initial.pass l.pass;
   posts : FullPosts l.kind (Posts l.initial.pass l.pass) l.turn;
   told : (bytes : List ℕ) → g.I.Input.to_come l.initial.input ≡ Some bytes
-      → Told l.kind (g.I.Input.to_come l.input) (Posts l.initial.pass l.pass) l.turn bytes;
+      → Told l.most l.kind (g.I.Input.to_come l.input) (Posts l.initial.pass l.pass) l.turn bytes;
 }

@@ -1,4 +1,4 @@
-use Rattle.std.proofs.Common.{◌∙◌, ◌<◌, arith, refl, subst, vec_capacity, vec_len}
+use Rattle.std.proofs.Common.{◌∙◌, ◌<◌, ◌*◌, ap, arith, refl, sym, subst, vec_capacity, vec_len}
 use Rattle.std.proofs.lemmas.Result.{err_from_is_err_and}
 use Rattle.std.specs.Io.KnownBytes.{IsAtEnd}
 use Rattle.tally_records.specs.Records.{record_count}
@@ -12,7 +12,7 @@ use Rattle.tally_desk.proofs.KeepLemmas.{keeps_same, keeps_trans}
 use Rattle.tally_desk.proofs.RefusalLemmas.{no_refusal, post_refusal}
 use Rattle.tally_desk.proofs.TakeLemmas.{takes_few, takes_last, takes_next, takes_none}
 use Rattle.tally_desk.proofs.TurnLemmas.{last_turn_stops}
-use Rattle.tally_desk.proofs.feeding.feed.Goals as goal
+use Rattle.tally_desk.proofs.feeding.feed_blocks.Goals as goal
 
 pub loop-turn-init : goal.loop-turn-init
 loop-turn-init g c = record {
@@ -23,7 +23,7 @@ loop-turn-init g c = record {
   ready = within_named c.block_size.result (block_size c.args.kind) (vec_len c.in_ok-block.block) c.block_size.ensures c.in_ok-block.ensures.ready;
   keeps = keeps_same c.args.pass.now;
   posts = full_none c.args.kind c.args.pass.now;
-  told = λ bytes told. begins c.args.kind bytes _ c.args.pass.now told;
+  told = λ bytes told. begins c.args.most c.args.kind bytes _ c.args.pass.now told;
 }
 
 pub next_batch-requires-clause-countable : goal.next_batch-requires-clause-countable
@@ -37,12 +37,6 @@ next_batch-requires-clause-ready g c = c.loop-turn.invariant.ready
 
 pub next_batch-requires-clause-early : goal.next_batch-requires-clause-early
 next_batch-requires-clause-early g c = c.loop-turn-test.true
-
-pub fed_by-requires-clause-few : goal.fed_by-requires-clause-few
-fed_by-requires-clause-few g c = c.loop-turn-test.true
-
-pub fed_by-requires-then-records-lt-BATCH_LIMIT-clause-few : goal.fed_by-requires-then-records-lt-BATCH_LIMIT-clause-few
-fed_by-requires-then-records-lt-BATCH_LIMIT-clause-few g c = c.loop-turn-test.true
 
 pub post-requires : goal.post-requires
 post-requires g c = record { desk = c.loop-turn.invariant.keeps.desk ∙ c.requires.desk }
@@ -61,8 +55,8 @@ returns-in_err-block g c =
       keeps = keeps_same pass;
       counted = tt;
       whole = tt;
-      stops = λ bytes told. told_stops c.args.kind bytes _ pass pass 0 pass.seen fault.Memory (begins c.args.kind bytes _ pass told) tt;
-      posts = full_cut c.args.kind pass pass pass 0 fault.Memory (full_none c.args.kind pass) (omega arith) refl tt;
+      stops = λ bytes told. told_stops c.args.most c.args.kind bytes _ pass pass 0 pass.seen fault.Memory (begins c.args.most c.args.kind bytes _ pass told) tt;
+      posts = full_cut c.args.most c.args.kind pass pass pass 0 fault.Memory (full_none c.args.kind pass) (omega arith) refl tt;
       full = tt;
       failures = tt;
       unfailed = λ _. refl;
@@ -76,7 +70,7 @@ returns-in_err-batch g c =
     let pass = c.loop-turn.pass in
     let failed = c.in_err-batch.ensures in
     rw (p.1, p.2) (record {
-      few = takes_few c.args.kind c.loop-turn.turn _ _ _ before.taken failed.few c.loop-turn-test.true;
+      few = takes_few c.args.kind c.loop-turn.turn _ _ _ before.taken c.args.most failed.few c.loop-turn-test.true;
       end = tt;
       nature = failed.nature ∙ before.nature;
       keeps = before.keeps;
@@ -84,8 +78,8 @@ returns-in_err-batch g c =
       whole = tt;
       stops = λ bytes told.
           let so_far = before.told bytes told in
-          told_stops c.args.kind bytes _ c.args.pass.now pass c.loop-turn.turn pass.seen _ so_far (failed.stops so_far.rest so_far.to_come);
-      posts = full_cut c.args.kind c.args.pass.now pass pass c.loop-turn.turn _ before.posts (within_turns _ c.loop-turn-test.true) refl (in_block c.args.kind c.loop-turn.turn _ failed.place);
+          told_stops c.args.most c.args.kind bytes _ c.args.pass.now pass c.loop-turn.turn pass.seen _ so_far (failed.stops so_far.rest so_far.to_come);
+      posts = full_cut c.args.most c.args.kind c.args.pass.now pass pass c.loop-turn.turn _ before.posts (within_turns _ _ c.loop-turn-test.true) refl (in_block c.args.most c.args.kind c.loop-turn.turn _ failed.place);
       full = no_refusal c.args.kind pass.seen _ failed.reading;
       failures = tt;
       unfailed = λ other. failed.unfailed other ∙ before.countable;
@@ -98,15 +92,15 @@ returns-in_default g c =
     let taken = c.in_ok-batch.ensures in
     let fed = c.fed_by.ensures in
     record {
-      few = takes_few c.args.kind c.loop-turn.turn _ _ _ before.taken taken.few c.loop-turn-test.true;
+      few = takes_few c.args.kind c.loop-turn.turn _ _ _ before.taken c.args.most taken.few c.loop-turn-test.true;
       end = ends_at_none _ _ taken.end c.in_default.is;
       nature = taken.nature ∙ before.nature;
       keeps = before.keeps;
       counted = counts_full c.args.kind _ c.loop-turn.turn c.fed_by.result before.posts (plus_none _ _ fed.batches) (plus_none _ _ fed.records);
       whole = λ bytes told.
           let so_far = before.told bytes told in
-          let end = takes_end 1024 c.args.kind _ c.loop-turn.turn so_far.rest _ c.in_default.is (taken.takes so_far.rest so_far.to_come) in
-          told_end c.args.kind bytes _ c.args.pass.now c.loop-turn.pass c.loop-turn.turn so_far end;
+          let end = takes_end c.args.most c.args.kind _ c.loop-turn.turn so_far.rest _ c.in_default.is (taken.takes so_far.rest so_far.to_come) in
+          told_end c.args.most c.args.kind bytes _ c.args.pass.now c.loop-turn.pass c.loop-turn.turn so_far end;
       stops = tt;
       posts = tt;
       full = tt;
@@ -124,7 +118,7 @@ returns-in_err-post g c =
     let now = c.post.new.pass in
     let batch = some_batch c.args.kind _ c.in-Some.batch c.in-Some.is taken.batch in
     rw (p.1, p.2) (record {
-      few = takes_few c.args.kind c.loop-turn.turn _ _ _ before.taken taken.few c.loop-turn-test.true;
+      few = takes_few c.args.kind c.loop-turn.turn _ _ _ before.taken c.args.most taken.few c.loop-turn-test.true;
       end = tt;
       nature = taken.nature ∙ before.nature;
       keeps = keeps_trans c.args.pass.now c.loop-turn.pass now before.keeps post.keeps;
@@ -132,9 +126,9 @@ returns-in_err-post g c =
       whole = tt;
       stops = λ bytes told.
           let so_far = before.told bytes told in
-          let takes = takes_some 1024 c.args.kind _ c.loop-turn.turn so_far.rest _ c.in-Some.batch c.in-Some.is (taken.takes so_far.rest so_far.to_come) in
-          told_unposted c.args.kind bytes _ c.args.pass.now _ c.loop-turn.pass now c.loop-turn.turn c.in-Some.batch now.seen _ so_far takes post.did post.cause;
-      posts = full_cut c.args.kind c.args.pass.now c.loop-turn.pass now c.loop-turn.turn _ before.posts (within_turns _ c.loop-turn-test.true) post.did (unplaced c.args.kind c.loop-turn.turn _);
+          let takes = takes_some c.args.most c.args.kind _ c.loop-turn.turn so_far.rest _ c.in-Some.batch c.in-Some.is (taken.takes so_far.rest so_far.to_come) in
+          told_unposted c.args.most c.args.kind bytes _ c.args.pass.now _ c.loop-turn.pass now c.loop-turn.turn c.in-Some.batch now.seen _ so_far takes post.did post.cause;
+      posts = full_cut c.args.most c.args.kind c.args.pass.now c.loop-turn.pass now c.loop-turn.turn _ before.posts (within_turns _ _ c.loop-turn-test.true) post.did (unplaced c.args.most c.args.kind c.loop-turn.turn _);
       full = post_refusal now.seen post.legal c.args.kind c.in-Some.batch _ batch post.cause;
       failures = tt;
       unfailed = λ _. taken.failures ∙ before.countable;
@@ -151,7 +145,7 @@ returns-then-records-lt-BATCH_LIMIT g c =
     let some : 0 < c.len-records.result = omega (arith, batch.some, c.len-records.ensures.count) in
     let short : record_count c.in-Some.batch < 1024 = omega (arith, c.len-records.ensures.count, c.if-records-lt-BATCH_LIMIT.true) in
     record {
-      few = takes_few c.args.kind c.loop-turn.turn _ _ _ before.taken taken.few c.loop-turn-test.true;
+      few = takes_few c.args.kind c.loop-turn.turn _ _ _ before.taken c.args.most taken.few c.loop-turn-test.true;
       end = ends_at_short _ _ taken.end c.in-Some.batch c.in-Some.is short;
       nature = taken.nature ∙ before.nature;
       keeps = keeps_trans c.args.pass.now c.loop-turn.pass c.post.new.pass before.keeps post.keeps;
@@ -161,8 +155,8 @@ returns-then-records-lt-BATCH_LIMIT g c =
           (one_more_batch c.len-records.result c.loop-turn.turn _ some fed.batches);
       whole = λ bytes told.
           let so_far = before.told bytes told in
-          let takes = takes_some 1024 c.args.kind _ c.loop-turn.turn so_far.rest _ c.in-Some.batch c.in-Some.is (taken.takes so_far.rest so_far.to_come) in
-          told_short c.args.kind bytes _ c.args.pass.now _ c.loop-turn.pass c.post.new.pass c.loop-turn.turn c.in-Some.batch so_far takes post.did short;
+          let takes = takes_some c.args.most c.args.kind _ c.loop-turn.turn so_far.rest _ c.in-Some.batch c.in-Some.is (taken.takes so_far.rest so_far.to_come) in
+          told_short c.args.most c.args.kind bytes _ c.args.pass.now _ c.loop-turn.pass c.post.new.pass c.loop-turn.turn c.in-Some.batch so_far takes post.did short;
       stops = tt;
       posts = tt;
       full = tt;
@@ -186,8 +180,8 @@ loop-turn-preserved g c =
       posts = full_more c.args.kind c.args.pass.now c.loop-turn.pass c.post.new.pass c.loop-turn.turn c.loop-turn.invariant.posts c.in-Some.batch batch c.in_ok-post.ensures.did full;
       told = λ bytes told.
           let so_far = c.loop-turn.invariant.told bytes told in
-          let takes = takes_some 1024 c.args.kind _ c.loop-turn.turn so_far.rest _ c.in-Some.batch c.in-Some.is (next.takes so_far.rest so_far.to_come) in
-          told_more c.args.kind bytes _ c.args.pass.now _ c.loop-turn.pass c.post.new.pass c.loop-turn.turn c.in-Some.batch so_far takes c.in_ok-post.ensures.did full;
+          let takes = takes_some c.args.most c.args.kind _ c.loop-turn.turn so_far.rest _ c.in-Some.batch c.in-Some.is (next.takes so_far.rest so_far.to_come) in
+          told_more c.args.most c.args.kind bytes _ c.args.pass.now _ c.loop-turn.pass c.post.new.pass c.loop-turn.turn c.in-Some.batch so_far takes c.in_ok-post.ensures.did full;
     }
 
 pub returns-in_err-expect_end : goal.returns-in_err-expect_end
@@ -196,9 +190,9 @@ returns-in_err-expect_end g c =
     let before = c.loop-turn.invariant in
     let pass = c.loop-turn.pass in
     let failed = c.in_err-expect_end.ensures in
-    let last = all_turns c.loop-turn.turn c.loop-turn.auto.turn-end c.loop-turn-test.false in
+    let last = all_turns c.args.most c.loop-turn.turn c.loop-turn.auto.turn-end c.loop-turn-test.false in
     rw (p.1, p.2) (record {
-      few = takes_last c.args.kind c.loop-turn.turn _ _ _ before.taken failed.few c.loop-turn.auto.turn-end;
+      few = takes_last c.args.kind c.loop-turn.turn _ _ _ before.taken c.args.most failed.few c.loop-turn.auto.turn-end;
       end = tt;
       nature = failed.nature ∙ before.nature;
       keeps = before.keeps;
@@ -206,10 +200,10 @@ returns-in_err-expect_end g c =
       whole = tt;
       stops = λ bytes told.
           let so_far = before.told bytes told in
-          told_stops c.args.kind bytes _ c.args.pass.now pass c.loop-turn.turn pass.seen _ so_far
-          (last_turn_stops 1024 c.args.kind c.loop-turn.turn so_far.rest _ last failed.err (λ long. failed.long long so_far.rest so_far.to_come));
-      posts = full_cut c.args.kind c.args.pass.now pass pass c.loop-turn.turn _ before.posts c.loop-turn.auto.turn-end refl (after_all c.args.kind c.loop-turn.turn _ last failed.err);
-      full = end_is_no_refusal c.args.kind pass.seen _ failed.err;
+          told_stops c.args.most c.args.kind bytes _ c.args.pass.now pass c.loop-turn.turn pass.seen _ so_far
+          (last_turn_stops c.args.most c.args.kind c.loop-turn.turn so_far.rest _ last failed.err (λ long. failed.long long so_far.rest so_far.to_come));
+      posts = full_cut c.args.most c.args.kind c.args.pass.now pass pass c.loop-turn.turn _ before.posts c.loop-turn.auto.turn-end refl (after_all c.args.most c.args.kind c.loop-turn.turn _ last failed.err);
+      full = end_is_no_refusal _ c.args.kind pass.seen _ failed.err;
       failures = tt;
       unfailed = λ other. failed.unfailed other ∙ before.countable;
       read = λ is. first_failed _ _ _ _ _ before.countable before.nature (failed.read is);
@@ -219,15 +213,17 @@ pub returns : goal.returns
 returns g c =
     let before = c.loop-turn.invariant in
     let ended = c.in_ok-expect_end.ensures in
+    let last = all_turns c.args.most c.loop-turn.turn c.loop-turn.auto.turn-end c.loop-turn-test.false in
+    let fed = c.fed_by-2.ensures in
     record {
-      few = takes_last c.args.kind c.loop-turn.turn _ _ _ before.taken ended.few c.loop-turn.auto.turn-end;
+      few = takes_last c.args.kind c.loop-turn.turn _ _ _ before.taken c.args.most ended.few c.loop-turn.auto.turn-end;
       end = ended.end;
       nature = ended.nature ∙ before.nature;
       keeps = before.keeps;
-      counted = counts_full c.args.kind _ c.loop-turn.turn _ before.posts (omega arith) (omega arith);
+      counted = counts_full c.args.kind _ c.loop-turn.turn _ before.posts (plus_none _ _ fed.batches ∙ sym last) (plus_none _ _ fed.records ∙ ap (λ n. n * 1024) (sym last));
       whole = λ bytes told.
           let so_far = before.told bytes told in
-          told_end c.args.kind bytes _ c.args.pass.now c.loop-turn.pass c.loop-turn.turn so_far (subst IsAtEnd so_far.to_come ended.ok);
+          told_end c.args.most c.args.kind bytes _ c.args.pass.now c.loop-turn.pass c.loop-turn.turn so_far (subst IsAtEnd so_far.to_come ended.ok);
       stops = tt;
       posts = tt;
       full = tt;
