@@ -41,11 +41,11 @@ _tally() {
         return
     fi
     case ${COMP_WORDS[1]} in
-        last) options='-n --user --line -s --from -t --to --in -p --at --until --csv --paths -f --feeders --east --west --zone -h --help' ;;
-        lastb) options='-n --sum --user --line -s --from -t --to --in --csv --paths -f --feeders --east --west --zone -h --help' ;;
-        ac) options='-d -p --user --line --from --to --in --until --by-file --csv --paths -f --feeders --east --west --zone -h --help' ;;
+        last) options='-n --user --line -s --from -t --to --in -p --at --until --csv --paths -f --millions --feeders --east --west --zone -h --help' ;;
+        lastb) options='-n --sum --user --line -s --from -t --to --in --csv --paths -f --millions --feeders --east --west --zone -h --help' ;;
+        ac) options='-d -p --user --line --from --to --in --until --by-file --csv --paths -f --millions --feeders --east --west --zone -h --help' ;;
         sa) options='-a -m -n -r --uid --from --to --in --names --by-file --csv --paths --feeders --east --west --zone -h --help' ;;
-        all) options='--askers --until --feeders --east --west --zone -h --help' ;;
+        all) options='--askers --until --millions --feeders --east --west --zone -h --help' ;;
         check) options='--csv --paths --east --west --zone -h --help' ;;
         help)
             COMPREPLY=($(compgen -W 'last lastb ac sa all check help' -- "$word"))
@@ -74,7 +74,7 @@ _tally() {
             return
             ;;
         last:--line | lastb:--line | ac:--line | *:--in | sa:--uid) return ;;
-        last:-n | lastb:-n | *:--feeders | *:--east | *:--west | *:--askers) return ;;
+        last:-n | lastb:-n | *:--millions | *:--feeders | *:--east | *:--west | *:--askers) return ;;
     esac
     case ${COMP_WORDS[1]}:$word in
         *:-*) COMPREPLY=($(compgen -W "$options" -- "$word")) ;;

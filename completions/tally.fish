@@ -80,6 +80,7 @@ complete -c tally -n '__tally_report_is last lastb ac sa check' -l csv -d 'Print
 complete -c tally -n '__tally_report_is last lastb check' -l paths -d 'With --csv, print the path of the file of each row'
 complete -c tally -n '__tally_report_is ac sa' -l paths -d 'With --csv and --by-file, print the path of the file of each row'
 complete -c tally -n '__tally_report_is last lastb ac' -s f -r -d 'Read this file, too'
+complete -c tally -n '__tally_report_is last lastb ac all' -l millions -x -d 'Take up to N times 1048576 records of each kind'
 complete -c tally -n '__tally_report_is last lastb ac sa all' -l feeders -x -d 'Read files with up to N threads'
 complete -c tally -n '__tally_report_is last lastb ac sa all check' -l east -x -d 'Minutes east of UTC'
 complete -c tally -n '__tally_report_is last lastb ac sa all check' -l west -x -d 'Minutes west of UTC'

@@ -1,9 +1,9 @@
 -- Worked examples, computed by the definitions.
-use Rattle.std.proofs.Common.{◌≡◌, [], ◌∷◌, None, Some, Err, true, false, map, pos, neg_ℤ, refl, sym, true≢false}
+use Rattle.std.proofs.Common.{◌≡◌, [], ◌∷◌, ◌++◌, None, Some, Err, true, false, map, pos, neg_ℤ, refl, sym, true≢false}
 use Rattle.std.specs.Prelude.{Bool, List, codes}
 use Rattle.clap.proofs.OnLiterals.{clap_on_literals}
 use Rattle.clap.specs.Words.{Row, Text, fault_of}
-use Rattle.clap.specs.declared.error.kind.ErrorKind.TheVariants.{MissingRequiredArgument, UnknownArgument}
+use Rattle.clap.specs.declared.error.kind.ErrorKind.TheVariants.{MissingRequiredArgument, UnknownArgument, ValueValidation}
 use Rattle.tally_moments.specs.declared.moment.Moment.{Moment}
 use Rattle.tally_moments.specs.declared.moment.Moment.TheVariants.{Day, Now, Second, Time}
 use Rattle.tally_records.specs.Choice.{every_login}
@@ -47,6 +47,17 @@ none_named = refl
 letters : map (λ name. fault_of tally_app (name ∷ codes "-f" ∷ codes "w:a" ∷ [])) (codes "ac" ∷ codes "sa" ∷ codes "all" ∷ codes "check" ∷ []) ≡ [] ∷ (UnknownArgument ∷ []) ∷ (UnknownArgument ∷ []) ∷ (UnknownArgument ∷ []) ∷ []
 unfolding tally_app clap_on_literals
 letters = refl
+
+-- reports that keep records have a number of them that they take; `sa` and `check` have none
+kept_records : map (λ name. fault_of tally_app (name ∷ codes "--millions" ∷ codes "2" ∷ codes "w:a" ∷ [])) (codes "last" ∷ codes "lastb" ∷ codes "ac" ∷ codes "sa" ∷ codes "all" ∷ codes "check" ∷ []) ≡ [] ∷ [] ∷ [] ∷ (UnknownArgument ∷ []) ∷ [] ∷ (UnknownArgument ∷ []) ∷ []
+unfolding tally_app clap_on_literals
+kept_records = refl
+
+-- 16,777,216 records are the most, and as many are the most that are shown
+most_records : map (fault_of tally_app) (map (λ n. codes "ac" ∷ codes "--millions" ∷ n ∷ []) (codes "1" ∷ codes "16" ∷ codes "0" ∷ codes "17" ∷ [])) ++ map (fault_of tally_app) (map (λ n. codes "last" ∷ codes "-n" ∷ n ∷ []) (codes "16777216" ∷ codes "16777217" ∷ []))
+    ≡ [] ∷ [] ∷ (ValueValidation ∷ []) ∷ (ValueValidation ∷ []) ∷ [] ∷ (ValueValidation ∷ []) ∷ []
+unfolding tally_app clap_on_literals
+most_records = refl
 
 -- ---- files told apart
 
@@ -149,7 +160,7 @@ period_faults = refl
 
 -- what is wrong on every clock is named before what a clock shows
 abbrev all_of_it : Job
-all_of_it = record { report = report.All; form = form.Text; feeders = 4; askers = 0; offset = pos 0; until = None }
+all_of_it = record { report = report.All; form = form.Text; millions = 1; feeders = 4; askers = 0; offset = pos 0; until = None }
 
 first_fault : settled (record { until = Some (Day (pos 30000)); from = Some (Second (pos 4294967296)); to = None; at = None }) all_of_it (record { until = Some (pos 2592000000); from = Some (pos 4294967296); to = None; at = None })
     ∷ settled (record { until = Some (Day (pos 30000)); from = None; to = None; at = None }) all_of_it (record { until = Some (pos 2592000000); from = None; to = None; at = None }) ∷ []

@@ -29,7 +29,7 @@ abbrev pub limit_rule : Rule
 limit_rule = record (new_rule (codes "limit")) {
   short = Some 110;
   value_names = 1;
-  parser = Some (between 1 1048576);
+  parser = Some (between 1 16777216);
 }
 
 -- `--name`
@@ -51,6 +51,10 @@ sum_rule = long_flag_rule (codes "sum")
 -- `--by-file` of `ac` and `sa`
 abbrev pub by_file_rule : Rule
 by_file_rule = long_flag_rule (codes "by-file")
+
+-- how many times 1,048,576 records are taken
+abbrev pub millions_rule : Rule
+millions_rule = number_rule (codes "millions") (between 1 16) (codes "1")
 
 -- threads that read files
 abbrev pub feeders_rule : Rule
@@ -119,9 +123,9 @@ with_clock app = with_rule (with_rule (with_rule app east_rule) west_rule) zone_
 abbrev pub with_files : Rule → App → App
 with_files files app = with_rule (with_clock (with_rule app feeders_rule)) files
 
--- the same where none has to be named, and `-f` names some, too
+-- the same of a report that keeps records, where none has to be named, and `-f` names some, too
 abbrev pub with_more_files : App → App
-with_more_files app = with_files file_rule (with_rule app more_files_rule)
+with_more_files app = with_files file_rule (with_rule (with_rule app more_files_rule) millions_rule)
 
 -- the users and lines that a report is over
 abbrev pub with_names : App → App
@@ -183,7 +187,10 @@ usage_app = with_files file_rule (with_file_table (with_rule (with_period (with_
 
 -- `all`
 abbrev pub all_app : App
-all_app = with_files some_file_rule (with_rule (with_rule (new_app (codes "all")) askers_rule) until_rule)
+all_app = with_files some_file_rule (with_rule (with_rule (with_rule (new_app (codes "all"))
+    askers_rule)
+    until_rule)
+    millions_rule)
 
 -- `check`
 abbrev pub check_app : App

@@ -24,6 +24,8 @@ TakesForm r form = ⊤
 -- a job that can be run
 pub record IsRunnable (job : Job) : Type 0 where
   pub offset : IsOffset job.offset
+  pub some_millions : 1 ≤ job.millions
+  pub few_millions : job.millions ≤ 16
   pub some_feeders : 1 ≤ job.feeders
   pub few_feeders : job.feeders ≤ 64
   pub few_askers : job.askers ≤ HOST_LIMIT

@@ -50,11 +50,11 @@ is_by_calls Cpu = false
 -- what is asked of a report, before its period is known
 abbrev pub IsReportOf : Report → List Row → Type 0
 IsReportOf (report.Last limit choice within) rows =
-    IsOptional (codes "limit") 1 1048576 rows limit × (choice ≡ login_choice rows) × (within ≡ has_period rows)
+    IsOptional (codes "limit") 1 16777216 rows limit × (choice ≡ login_choice rows) × (within ≡ has_period rows)
 IsReportOf (report.Attempts limit choice) rows =
-    IsFlag (codes "sum") rows false × IsOptional (codes "limit") 1 1048576 rows limit × (choice ≡ login_choice rows)
+    IsFlag (codes "sum") rows false × IsOptional (codes "limit") 1 16777216 rows limit × (choice ≡ login_choice rows)
 IsReportOf (report.AttemptSums limit choice) rows =
-    IsFlag (codes "sum") rows true × IsOptional (codes "limit") 1 1048576 rows limit × (choice ≡ login_choice rows)
+    IsFlag (codes "sum") rows true × IsOptional (codes "limit") 1 16777216 rows limit × (choice ≡ login_choice rows)
 IsReportOf (report.Connect by_day by_user choice) rows =
     IsFlag (codes "by_day") rows by_day × IsFlag (codes "by_user") rows by_user × (choice ≡ login_choice rows)
 IsReportOf (report.Commands order reverse all) rows =
@@ -64,6 +64,12 @@ IsReportOf (report.Users order reverse) rows =
     IsFlag (codes "by_user") rows true × IsFlag (codes "by_calls") rows (is_by_calls order)
     × IsFlag (codes "reverse") rows reverse
 IsReportOf report.All rows = ⊤
+
+-- how many times 1,048,576 records a report takes: `sa` keeps none
+abbrev pub AreMillionsOf : Report → List Row → ℕ → Type 0
+AreMillionsOf (report.Commands order reverse all) rows millions = millions ≡ 1
+AreMillionsOf (report.Users order reverse) rows millions = millions ≡ 1
+AreMillionsOf r rows millions = IsNumber (codes "millions") 1 16 1 rows millions
 
 -- how many askers a report has: only that of all has any
 abbrev pub AreAskersOf : Report → List Row → ℕ → Type 0
@@ -81,6 +87,7 @@ pub record IsOffsetOf (rows : List Row) (offset : ℤ) : Type 0 where
 -- the matches set all of a job but its form and its moments, which are not settled
 pub record SetsJob (rows : List Row) (job : Job) : Type 0 where
   pub report : IsReportOf job.report rows
+  pub millions : AreMillionsOf job.report rows job.millions
   pub feeders : IsNumber (codes "feeders") 1 64 4 rows job.feeders
   pub askers : AreAskersOf job.report rows job.askers
   pub offset : IsOffsetOf rows job.offset

@@ -1,7 +1,7 @@
 //! The arguments of the command line.
 ghost use Rattle.std.specs.Prelude.{◌≡◌, false};
 ghost use Rattle.clap.specs.Words.{rule_of};
-ghost use Rattle.tally_line.specs.CommandLine.{askers_rule, by_file_rule, csv_rule, feeders_rule, file_rule, flag_rule, lettered_rule, limit_rule, long_flag_rule, minutes_rule, more_files_rule};
+ghost use Rattle.tally_line.specs.CommandLine.{askers_rule, by_file_rule, csv_rule, feeders_rule, file_rule, flag_rule, lettered_rule, limit_rule, long_flag_rule, millions_rule, minutes_rule, more_files_rule};
 ghost use Rattle.tally_line.specs.CommandLine.{number_rule, paths_rule, repeated_rule, some_file_rule, sum_rule, until_rule, word_rule, zone_rule};
 
 use clap::builder::ValueParser;
@@ -16,7 +16,7 @@ pub(crate) fn limit<'a>(alloc: Global, help: &'a str) -> Arg<'a>
         .short('n')
         .value_name("N")
         .help(help)
-        .value_parser(value_parser!(u32).range(1..=1_048_576))
+        .value_parser(value_parser!(u32).range(1..=16_777_216))
 }
 
 pub(crate) fn flag<'a>(alloc: Global, id: &'a str, short: char, help: &'a str) -> Arg<'a>
@@ -78,6 +78,15 @@ pub(crate) fn askers<'a>(alloc: Global) -> Arg<'a>
 {
     number(alloc, "askers", value_parser!(u32).range(0..=64), "0").help(
         "Ask reports with N threads while files are read, and print none of them, 0 to 64",
+    )
+}
+
+pub(crate) fn millions<'a>(alloc: Global) -> Arg<'a>
+    ensures rule { rule_of result ≡ millions_rule }
+    ensures local { result.global ≡ false }
+{
+    number(alloc, "millions", value_parser!(u32).range(1..=16), "1").help(
+        "Take up to N times 1048576 records of each kind, as in --millions 4, 1 to 16",
     )
 }
 

@@ -1,25 +1,21 @@
 //! The command line as `clap` reads it.
-ghost use Rattle.std.specs.Prelude.{◌≡◌, IfOk, false};
-ghost use Rattle.clap.specs.Words.{App, Rule, new_app, rule_of, with_rule, with_subcommand};
-ghost use Rattle.tally_line.specs.CommandLine.{all_app, attempts_app, connect_app, check_app, last_app, tally_app, top_app, usage_app, with_clock, with_file_table, with_files, with_lettered_period, with_more_files, with_names, with_period, with_table, with_usage_flags};
+ghost use Rattle.std.specs.Prelude.{IfOk};
+ghost use Rattle.clap.specs.Words.{App, new_app, with_subcommand};
+ghost use Rattle.tally_line.specs.CommandLine.{all_app, attempts_app, connect_app, check_app, last_app, tally_app, top_app, usage_app, with_usage_flags};
 ghost use Rattle.tally_line.specs.inside.Commands.{IsCommand};
 
 use crate::args::{
-    askers, by_file, csv, feeders, file, flag, lettered, limit, minutes, more_files, paths,
-    repeated, some_file, sum, until, word, zone,
+    askers, file, flag, lettered, limit, millions, repeated, some_file, sum, until, word,
 };
-use clap::{Arg, Command};
-use std::alloc::{AllocError, Global};
+use crate::shared::{
+    Made, with, with_clock, with_file_table, with_lettered_period, with_more_files, with_names,
+    with_options, with_period, with_table,
+};
+use clap::Command;
+use std::alloc::Global;
 
 /// The version, and by what its proofs were checked.
 const VERSION: &str = "1.0.0\nproved with Rattle, logic dac8208d650f15bf";
-
-const FROM: &str =
-    "Report from MOMENT on: a date as 2026-07-01, a time as 2026-07-01T10:30, seconds as @1782864000, or now";
-
-const TO: &str = "Report up to, without, MOMENT, which is as for --from";
-
-const IN: &str = "Report on a year, a month or a day, as 2026, 2026-07 or 2026-07-31";
 
 const LOGINS: &str =
     "Read the login records of FILE [default: /var/log/wtmp, or /var/lib/wtmpdb/wtmp.db]";
@@ -28,9 +24,6 @@ const FAILED_LOGINS: &str = "Read the failed logins of FILE [default: /var/log/b
 
 const PROCESSES: &str =
     "Read the process records of FILE [default: /var/log/account/pacct, or /var/account/pacct]";
-
-/// A command, where there was memory for it.
-type Made<'a> = Result<Command<'a>, AllocError>;
 
 /// The program's command, over words without the program's own name.
 #[inline(never)]
@@ -56,16 +49,6 @@ fn with_under<'a>(command: Made<'a>, under: Made<'a>) -> Made<'a>
     command.subcommand(under)
 }
 
-/// The command with an argument.
-#[inline(never)]
-fn with<'a>(command: Made<'a>, arg: Arg<'a>) -> Made<'a>
-    ensures { (app : App) (rule : Rule) → IfOk command.entry (IsCommand app) → rule_of arg.entry ≡ rule
-        → arg.entry.global ≡ false → IfOk result (IsCommand (with_rule app rule)) }
-{
-    let command = command?;
-    command.arg(arg)
-}
-
 fn top<'a>(alloc: Global) -> Made<'a>
     ensures { IfOk result (IsCommand top_app) }
 {
@@ -86,7 +69,7 @@ fn last<'a>(alloc: Global) -> Made<'a>
     ensures { IfOk result (IsCommand last_app) }
 {
     let about = "List login sessions and running times, as last(1) does";
-    let help = "Show the latest N stays of each file, as in -n 5, 1 to 1048576 [default: all]";
+    let help = "Show the latest N stays of each file, as in -n 5, 1 to 16777216 [default: all]";
     let command = with(Ok(named(alloc, "last", about)), limit(alloc, help));
     let command = with_names(
         alloc,
@@ -108,7 +91,7 @@ fn attempts<'a>(alloc: Global) -> Made<'a>
 {
     let about = "List failed logins, as lastb(8) does";
     let help =
-        "Show the latest N attempts of each file, or the first N sums, as in -n 5, 1 to 1048576 [default: all]";
+        "Show the latest N attempts of each file, or the first N sums, as in -n 5, 1 to 16777216 [default: all]";
     let command = with(Ok(named(alloc, "lastb", about)), limit(alloc, help));
     let command = with(command, sum(alloc));
     let command = with_names(
@@ -171,6 +154,7 @@ fn all<'a>(alloc: Global) -> Made<'a>
     let about = "Print last for each login file, then ac, then sa";
     let command = with(Ok(named(alloc, "all", about)), askers(alloc));
     let command = with(command, until(alloc));
+    let command = with(command, millions(alloc));
     let help = "Read login records of w:PATH, process records of p:PATH";
     with_options(alloc, command, some_file(alloc, help))
 }
@@ -215,88 +199,6 @@ fn with_usage_flags<'a>(alloc: Global, command: Made<'a>) -> Made<'a>
         flag(alloc, "by_calls", 'n', "Order by calls, not by cpu time"),
     );
     with(command, flag(alloc, "reverse", 'r', "Reverse the order"))
-}
-
-/// The users and lines that sessions or failed logins are chosen by.
-#[inline(never)]
-fn with_names<'a>(alloc: Global, command: Made<'a>, user: &'a str, line: &'a str) -> Made<'a>
-    ensures { (app : App) → IfOk command.entry (IsCommand app) → IfOk result (IsCommand (with_names app)) }
-{
-    let command = with(command, repeated(alloc, "user", "NAME", user));
-    with(command, repeated(alloc, "line", "NAME", line))
-}
-
-/// The period that a report is over.
-#[inline(never)]
-fn with_period<'a>(alloc: Global, command: Made<'a>) -> Made<'a>
-    ensures { (app : App) → IfOk command.entry (IsCommand app) → IfOk result (IsCommand (with_period app)) }
-{
-    let command = with(command, word(alloc, "from", "MOMENT", FROM));
-    let command = with(command, word(alloc, "to", "MOMENT", TO));
-    with(command, word(alloc, "in", "PERIOD", IN))
-}
-
-/// The same with the letters that last(1) has.
-#[inline(never)]
-fn with_lettered_period<'a>(alloc: Global, command: Made<'a>) -> Made<'a>
-    ensures { (app : App) → IfOk command.entry (IsCommand app) → IfOk result (IsCommand (with_lettered_period app)) }
-{
-    let command = with(command, lettered(alloc, "from", 's', FROM));
-    let command = with(command, lettered(alloc, "to", 't', TO));
-    with(command, word(alloc, "in", "PERIOD", IN))
-}
-
-/// What makes the report a table, and gives the table paths.
-#[inline(never)]
-fn with_table<'a>(alloc: Global, command: Made<'a>) -> Made<'a>
-    ensures { (app : App) → IfOk command.entry (IsCommand app) → IfOk result (IsCommand (with_table app)) }
-{
-    let command = with(command, csv(alloc));
-    with(command, paths(alloc))
-}
-
-/// The same of a report that may be on each file by itself.
-#[inline(never)]
-fn with_file_table<'a>(alloc: Global, command: Made<'a>) -> Made<'a>
-    ensures { (app : App) → IfOk command.entry (IsCommand app) → IfOk result (IsCommand (with_file_table app)) }
-{
-    let command = with(command, by_file(alloc));
-    with_table(alloc, command)
-}
-
-/// The clock that times are shown by.
-#[inline(never)]
-fn with_clock<'a>(alloc: Global, command: Made<'a>, east: &'a str, west: &'a str) -> Made<'a>
-    ensures { (app : App) → IfOk command.entry (IsCommand app) → IfOk result (IsCommand (with_clock app)) }
-{
-    let command = with(command, minutes(alloc, "east", east));
-    let command = with(command, minutes(alloc, "west", west));
-    with(command, zone(alloc))
-}
-
-/// The options that each report has, and its files.
-#[inline(never)]
-fn with_options<'a>(alloc: Global, command: Made<'a>, files: Arg<'a>) -> Made<'a>
-    ensures { (app : App) (rule : Rule) → IfOk command.entry (IsCommand app) → rule_of files.entry ≡ rule
-        → files.entry.global ≡ false → IfOk result (IsCommand (with_files rule app)) }
-{
-    let command = with(command, feeders(alloc));
-    let command = with_clock(
-        alloc,
-        command,
-        "Show times, cut days and read moments M minutes east of UTC, 0 to 1439; 60 for +0100",
-        "Show times, cut days and read moments M minutes west of UTC, 0 to 1439; 300 for -0500",
-    );
-    with(command, files)
-}
-
-/// The same where no file has to be named, and `-f` names some, too.
-#[inline(never)]
-fn with_more_files<'a>(alloc: Global, command: Made<'a>, files: &'a str) -> Made<'a>
-    ensures { (app : App) → IfOk command.entry (IsCommand app) → IfOk result (IsCommand (with_more_files app)) }
-{
-    let command = with(command, more_files(alloc));
-    with_options(alloc, command, file(alloc, files))
 }
 
 /// A command with no argument.

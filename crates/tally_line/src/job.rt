@@ -57,6 +57,8 @@ pub enum Form {
 pub struct Job {
     pub report: Report,
     pub form: Form,
+    /// How many times 1,048,576 records a file may have, and all files together of each kind, 1 to 16.
+    pub millions: u32,
     /// How many threads read the files, 1 to 64.
     pub feeders: u32,
     /// How many threads ask reports meanwhile, up to 128. Their reports are not printed.

@@ -4,7 +4,7 @@ ghost use Rattle.clap.specs.Words.{found_of, rows_of};
 ghost use Rattle.tally_line.specs.Jobs.{IsRunnable, TakesForm};
 ghost use Rattle.tally_line.specs.Lines.{AsksForm, IsFormOf, name_of};
 ghost use Rattle.tally_line.specs.Named.{AreNamed};
-ghost use Rattle.tally_line.specs.Options.{AreAskersOf, IsFlag, IsNumber, IsOffsetOf, IsOptional, IsReportOf, SetsJob, is_by_calls};
+ghost use Rattle.tally_line.specs.Options.{AreAskersOf, AreMillionsOf, IsFlag, IsNumber, IsOffsetOf, IsOptional, IsReportOf, SetsJob, is_by_calls};
 ghost use Rattle.tally_line.specs.declared.job.Report.{Report};
 
 use crate::job::{Form, Job, Report};
@@ -22,7 +22,7 @@ pub(crate) fn report_of(name: &str, matches: &ArgMatches<'_>) -> Option<Report>
 {
     match name {
         "last" => Some(Report::Last {
-            limit: optional(matches, "limit", 1, 1_048_576),
+            limit: optional(matches, "limit", 1, 16_777_216),
             choice: login_choice(matches),
             within: has_period(matches),
         }),
@@ -43,7 +43,7 @@ fn attempts_report(matches: &ArgMatches<'_>) -> Report
     ensures named { name_of result ≡ codes "lastb" }
     ensures options { IsReportOf result (rows_of (found_of matches.now)) }
 {
-    let limit = optional(matches, "limit", 1, 1_048_576);
+    let limit = optional(matches, "limit", 1, 16_777_216);
     let choice = login_choice(matches);
     if flag(matches, "sum") {
         Report::AttemptSums { limit, choice }
@@ -91,10 +91,23 @@ pub(crate) fn job_from(report: Report, matches: &ArgMatches<'_>) -> Job
     Job {
         report,
         form: form_of(report, matches),
+        millions: millions_of(report, matches),
         feeders: number(matches, "feeders", 1, 64, 4),
         askers: askers_of(report, matches),
         offset: offset_of(matches),
         until: None,
+    }
+}
+
+/// How many times 1,048,576 records are taken: `sa` keeps none.
+fn millions_of(report: Report, matches: &ArgMatches<'_>) -> u32
+    ensures some { 1 ≤ result }
+    ensures few { result ≤ 16 }
+    ensures millions { AreMillionsOf report (rows_of (found_of matches.now)) result }
+{
+    match report {
+        Report::Commands { .. } | Report::Users { .. } => 1,
+        _ => number(matches, "millions", 1, 16, 1),
     }
 }
 

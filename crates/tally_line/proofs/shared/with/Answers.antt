@@ -3,7 +3,7 @@ use Rattle.std.proofs.lemmas.Result.{IfOk-weaker}
 use Rattle.std.specs.Prelude.{IfOk}
 use Rattle.tally_line.proofs.CommandLemmas.{adds_arg}
 use Rattle.tally_line.specs.inside.Commands.{IsCommand}
-use Rattle.tally_line.proofs.command.with.Goals as goal
+use Rattle.tally_line.proofs.shared.with.Goals as goal
 
 pub returns : goal.returns
 returns c = λ app rule is rule_is local. IfOk-weaker c.arg.result _ _

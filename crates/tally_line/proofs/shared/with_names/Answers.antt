@@ -1,4 +1,4 @@
-use Rattle.tally_line.proofs.command.with_names.Goals as goal
+use Rattle.tally_line.proofs.shared.with_names.Goals as goal
 
 pub returns : goal.returns
 returns c = λ app is.

@@ -1,6 +1,0 @@
-use Rattle.tally_line.proofs.command.with_more_files.Goals as goal
-
-pub returns : goal.returns
-returns c = λ app is.
-    let more = c.with-command.ensures _ _ is c.more_files.ensures.rule c.more_files.ensures.local in
-    c.with_options.ensures _ _ more c.file.ensures.rule c.file.ensures.local
