@@ -63,7 +63,7 @@ within-next sessions new s k short was is =
     subst (λ (w : Sessions). AreWithin w (k + 1)) (sym is)
     (record { open_count = opened.0; open_seconds = opened.1; crashed_count = crashed.0; crashed_seconds = crashed.1 })
 
-pub light-within : (sessions : Sessions) (k : ℕ) → k ≤ 2 ^ 20 → AreWithin sessions k → AreLight sessions
+pub light-within : (sessions : Sessions) (k : ℕ) → k ≤ 2 ^ 24 → AreWithin sessions k → AreLight sessions
 light-within sessions k few within = record {
   open_count = omega (arith, few, within.open_count);
   open_seconds = omega (arith, few, within.open_seconds);

@@ -5,7 +5,6 @@ use Rattle.tally_wtmpdb.specs.Causes.{IsCauseIn}
 use Rattle.tally_wtmpdb.specs.Table.{AreUnsound, HaveNoDatabase}
 use Rattle.tally_wtmpdb.specs.declared.refusal.DatabaseFault.{DatabaseFault}
 use Rattle.tally_wtmpdb.specs.declared.refusal.DatabaseFault.TheVariants.{Memory, NotRead, Unfinished, Changing, TooLarge, AutoVacuum, OtherTexts, NotMade}
-use Rattle.tally_wtmpdb.specs.declared.refusal.TheConstants.{RECORD_LIMIT}
 
 -- what a database begins with
 abbrev pub is_database : List ℕ → Bool
@@ -27,13 +26,13 @@ has_other_texts db = (slice_index db 59 == 2) || (slice_index db 59 == 3)
 abbrev pub AreRefused : (log db : List ℕ) → Type 0
 AreRefused log db = HaveNoDatabase log db ⊎ AreUnsound log db
 
--- why the bytes of a database and of the files beside it give no login records
-abbrev pub IsCauseOf : (journal log db : List ℕ) → DatabaseFault → Type 0
-IsCauseOf journal log db Memory = ⊤
-IsCauseOf journal log db NotRead = ⊥
-IsCauseOf journal log db Unfinished = is_unfinished journal ≡ true
-IsCauseOf journal log db Changing = ⊥
-IsCauseOf journal log db TooLarge = ⊥
-IsCauseOf journal log db AutoVacuum = (has_auto_vacuum db ≡ true) × AreRefused log db
-IsCauseOf journal log db OtherTexts = (has_other_texts db ≡ true) × AreRefused log db
-IsCauseOf journal log db (NotMade fault) = IsCauseIn log db RECORD_LIMIT fault
+-- why the bytes of a database and of the files beside it give no login records, or more than so many
+abbrev pub IsCauseOf : (most : ℕ) (journal log db : List ℕ) → DatabaseFault → Type 0
+IsCauseOf most journal log db Memory = ⊤
+IsCauseOf most journal log db NotRead = ⊥
+IsCauseOf most journal log db Unfinished = is_unfinished journal ≡ true
+IsCauseOf most journal log db Changing = ⊥
+IsCauseOf most journal log db TooLarge = ⊥
+IsCauseOf most journal log db AutoVacuum = (has_auto_vacuum db ≡ true) × AreRefused log db
+IsCauseOf most journal log db OtherTexts = (has_other_texts db ≡ true) × AreRefused log db
+IsCauseOf most journal log db (NotMade fault) = IsCauseIn log db most fault

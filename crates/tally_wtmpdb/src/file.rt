@@ -44,22 +44,29 @@ where
 
 /// The bytes of the login records in the database of a path. Its log stands beside the file itself, which the path may lead to.
 #[inline(never)]
-fn logins_of<R: Files>(rt: &R, alloc: Global, path: &str) -> Result<Vec<u8>, DatabaseFault>
+fn logins_of<R: Files>(
+    rt: &R,
+    alloc: Global,
+    path: &str,
+    most: usize,
+) -> Result<Vec<u8>, DatabaseFault>
 where
     R::File: Drop,
 {
     let real = rt.canonicalize(alloc, path)?;
     let Snapshot { journal, log, db } = settled(rt, alloc, real.as_str())?;
-    made(alloc, &journal, &log, &db)
+    made(alloc, &journal, &log, &db, most)
 }
 
-/// The bytes of the login records in the file of a path, where that is a database; `None` where it is none.
+/// The bytes of the login records in the file of a path, where that is a database; `None` where it is none. A database of more than
+/// `most` records is refused.
 ///
 /// Nothing is written, locked or made beside it: the file, its `-wal` and its `-journal` are read until two readings agree.
 pub fn logins_in<R: Files>(
     rt: &R,
     alloc: Global,
     path: &str,
+    most: usize,
 ) -> Result<Option<Vec<u8>>, DatabaseFault>
 where
     R::File: Drop,
@@ -67,6 +74,6 @@ where
     if !is_database_at(rt, alloc, path)? {
         return Ok(None);
     }
-    let bytes = logins_of(rt, alloc, path)?;
+    let bytes = logins_of(rt, alloc, path, most)?;
     Ok(Some(bytes))
 }

@@ -9,9 +9,6 @@ use std::alloc::{AllocError, Global};
 use std::io::{self, ErrorKind};
 use thiserror::Error;
 
-/// The most login records, those of one run.
-const RECORD_LIMIT: usize = 1_048_576;
-
 /// Why a database gives no login records.
 #[derive(Debug, Drop, Error)]
 pub enum DatabaseFault {
@@ -88,7 +85,7 @@ fn has_other_texts(db: &[u8]) -> bool
 
 /// Why a database that is refused is so: by its header where that tells it, or else as it was found.
 fn refused(db: &[u8], found: WtmpdbFault) -> DatabaseFault
-    ensures { (journal log : List ℕ) → AreRefused log db.now → IsCauseIn log db.now RECORD_LIMIT found → IsCauseOf journal log db.now result }
+    ensures { (most : ℕ) (journal log : List ℕ) → AreRefused log db.now → IsCauseIn log db.now most found → IsCauseOf most journal log db.now result }
 {
     if has_auto_vacuum(db) {
         DatabaseFault::AutoVacuum
@@ -99,19 +96,26 @@ fn refused(db: &[u8], found: WtmpdbFault) -> DatabaseFault
     }
 }
 
-/// The bytes of the login records in a database of these bytes, beside a log and a journal that begins so.
-pub fn made(alloc: Global, journal: &[u8], log: &[u8], db: &[u8]) -> Result<Vec<u8>, DatabaseFault>
+/// The bytes of the login records in a database of these bytes, beside a log and a journal that begins so. More than `most` are refused.
+pub fn made(
+    alloc: Global,
+    journal: &[u8],
+    log: &[u8],
+    db: &[u8],
+    most: usize,
+) -> Result<Vec<u8>, DatabaseFault>
     ensures logins { IfOk result (λ bytes. AreLoginsOf log.now db.now bytes.items) }
     ensures finished { OnOk result (is_unfinished journal.now ≡ false) }
-    ensures cause { IfErr result (IsCauseOf journal.now log.now db.now) }
+    ensures cause { IfErr result (IsCauseOf most journal.now log.now db.now) }
 {
     if is_unfinished(journal) {
         return Err(DatabaseFault::Unfinished);
     }
-    match read_logins(alloc, log, db, RECORD_LIMIT) {
+    match read_logins(alloc, log, db, most) {
         Ok(bytes) => Ok(bytes),
         Err(WtmpdbFault::Memory) => Err(DatabaseFault::Memory),
-        Err(found @ (WtmpdbFault::NoDatabase | WtmpdbFault::Unsound)) => Err(refused(db, found)),
+        Err(WtmpdbFault::NoDatabase) => Err(refused(db, WtmpdbFault::NoDatabase)),
+        Err(WtmpdbFault::Unsound) => Err(refused(db, WtmpdbFault::Unsound)),
         Err(found) => Err(DatabaseFault::NotMade(found)),
     }
 }
