@@ -13,6 +13,7 @@ use Rattle.tally_book.specs.declared.history.Call.TheVariants.{Posted, Asked}
 use Rattle.tally_book.specs.Contents.{Contents}
 use Rattle.tally_book.specs.Books.{IsCall, IsLegal, calls_of, caller_of}
 use Rattle.tally_book.specs.Deeds.{EntriesArePosts, SameOfEachHost, deed, deeds_of, logins_added, procs_added, procs_of_host}
+use Rattle.tally_book.specs.Rooms.{batches_in}
 use Rattle.tally_desk.specs.Blocks.{feed_fault}
 use Rattle.tally_desk.specs.Batches.{records_in}
 use Rattle.tally_desk.specs.Passes.{HasDone, PassState, Stands, deeds, first_pass, first_passes}
@@ -67,15 +68,15 @@ pub record Ended {I : Type 0} (to_come : I → Option (List ℕ)) (can_fail : I 
   pub worked : AreWorkedThrough to_come can_fail asking sources passes b failure
 
 -- where the passes are those of a new desk
-pub ended_of : {I : Type 0} {to_come : I → Option (List ℕ)} {can_fail : I → Bool} {asking : Asking} {sources : List (Source I)} {b : Contents} {failure : Option Failure} (id : _) (clock : ClockRows) (callers : ℕ) (passes : List PassState) → passes ≡ first_passes id clock callers → b.callers ≡ callers → length sources ≤ callers
-    → IsLegal b → EntriesArePosts b → AreWorkedThrough to_come can_fail asking sources passes b failure → Ended to_come can_fail asking sources passes (first_pass id clock 0 0) b failure
-ended_of id clock callers passes new same enough legal posts worked =
-    let first = are_first (first_pass id clock callers) callers passes new in
+pub ended_of : {I : Type 0} {to_come : I → Option (List ℕ)} {can_fail : I → Bool} {asking : Asking} {sources : List (Source I)} {b : Contents} {failure : Option Failure} (id : _) (clock : ClockRows) (room callers : ℕ) (passes : List PassState) → passes ≡ first_passes id clock room callers → b.callers ≡ callers → length sources ≤ callers
+    → IsLegal b → EntriesArePosts b → AreWorkedThrough to_come can_fail asking sources passes b failure → Ended to_come can_fail asking sources passes (first_pass id clock room 0 0) b failure
+ended_of id clock room callers passes new same enough legal posts worked =
+    let first = are_first (first_pass id clock room callers) callers passes new in
     record {
       legal = legal;
       all = first.count ∙ sym same;
       enough = omega (arith, first.count, enough);
-      first = λ k l. let is = first.each k (first_pass id clock 0 0) l in (ap (λ (p : PassState). p.number) is, ap deeds is);
+      first = λ k l. let is = first.each k (first_pass id clock room 0 0) l in (ap (λ (p : PassState). p.number) is, ap deeds is);
       posts = posts;
       worked = worked;
     }
@@ -99,6 +100,13 @@ module _ {I : Type 0} {to_come : I → Option (List ℕ)} {can_fail : I → Bool
       let has : deeds_of u.pass.number b ≡ deeds u.pass = All-contains (λ (t : Task I). HasDone b t.pass) ended.worked.tasks u ended.worked.did r.1 in
       record { task = u; held = r.1; number = mine; outcome_is = r.2.outcome_is; done = ap (λ n. deeds_of n b) (sym mine) ∙ has }
 
+  -- the book's room is that of each pass
+  pub room_at : (host : ℕ) → host < length passes → b.room ≡ (get_or passes host d).seen.room
+  room_at host near =
+      let r = ended.worked.carried.each host d near in
+      let stands = All-contains (λ (t : Task I). Stands b t.pass) ended.worked.tasks r.0 ended.worked.stand r.1 in
+      stands.seen.room ∙ r.2.keeps.seen.room
+
   -- the book's clock is that of the first pass
   pub same_clock : 0 < b.callers → b.clock ≡ (get_or passes 0 d).seen.clock
   same_clock l =
@@ -108,12 +116,16 @@ module _ {I : Type 0} {to_come : I → Option (List ℕ)} {can_fail : I → Bool
       stands.seen.clock ∙ r.2.keeps.seen.clock
 
   -- what a caller before the failure did is its file
-  pub host_posted : (host : ℕ) → host < b.callers → IsBefore host failure → (q : PassState) × FilePosted to_come (slice_get sources host) q × (deeds_of host b ≡ deeds q)
+  pub host_posted : (host : ℕ) → host < b.callers → IsBefore host failure → (q : PassState) × FilePosted b.room to_come (slice_get sources host) q × (deeds_of host b ≡ deeds q)
   host_posted host l before =
       let m = did host l in
       let near : host < length passes = omega (arith, ended.all, l) in
-      let whole = done_before ended.worked.tasks failure m.task ended.worked.least ended.worked.explained m.held (subst (λ n. IsBefore n failure) (sym m.number) before) in
-      (m.task.pass, posted_file to_come can_fail asking (slice_get sources host) (get_or passes host d) m.task.pass m.task.outcome (ended.first host near).1 m.outcome_is whole, m.done)
+      let whole = done_before ended.worked.tasks failure m.task ended.worked.least ended.worked.explained m.held (subst (λ n. IsBefore n failure) (sym m.number) before) in (
+        m.task.pass,
+        subst (λ room. FilePosted room to_come (slice_get sources host) m.task.pass) (sym (room_at host near))
+            (posted_file to_come can_fail asking (slice_get sources host) (get_or passes host d) m.task.pass m.task.outcome (ended.first host near).1 m.outcome_is whole),
+        m.done,
+      )
 
   -- a source that tells is that of its place
   pub told_at : (inputs : List Told) (k : ℕ) (s : Source I) → Tell to_come sources inputs → slice_get sources k ≡ Some s → (s.kind ≡ (get_or inputs k no_input).kind) × (to_come s.input ≡ Some (get_or inputs k no_input).bytes)
@@ -124,20 +136,20 @@ module _ {I : Type 0} {to_come : I → Option (List ℕ)} {can_fail : I → Bool
       (ap (λ (x : Source I). x.kind) (sym is) ∙ t.kind, ap (λ (x : Source I). to_come x.input) (sym is) ∙ t.bytes)
 
   -- a source before the failure is good
-  pub good_before : (inputs : List Told) → Tell to_come sources inputs → (k : ℕ) → k < length sources → IsBefore k failure → IsGood (get_or inputs k no_input)
+  pub good_before : (inputs : List Told) → Tell to_come sources inputs → (k : ℕ) → k < length sources → IsBefore k failure → IsGood b.room (get_or inputs k no_input)
   good_before inputs tell k l before =
       let near : k < b.callers = omega (arith, l, ended.enough, ended.all) in
       let p = host_posted k near before in
       ⊎_elim
       (λ (found : (s : Source I) × (slice_get sources k ≡ Some s)).
       let t = told_at inputs k found.0 tell found.1 in
-      let file = subst (λ o. FilePosted to_come o p.0) found.1 p.1 in
-      subst (λ kind. feed_fault kind (get_or inputs k no_input).bytes ≡ None) t.0 (file (get_or inputs k no_input).bytes t.1).0)
+      let file = subst (λ o. FilePosted b.room to_come o p.0) found.1 p.1 in
+      subst (λ kind. feed_fault (batches_in b.room) kind (get_or inputs k no_input).bytes ≡ None) t.0 (file (get_or inputs k no_input).bytes t.1).0)
       (λ (never : (slice_get sources k ≡ None) × (length sources ≤ k)). absurd (omega (arith, never.1, l)))
       (source_or_none sources k)
 
-  pub good_all : (inputs : List Told) → Tell to_come sources inputs → ((k : ℕ) → IsBefore k failure) → All IsGood inputs
-  good_all inputs tell before = All-from_get_or IsGood inputs no_input (λ k l. good_before inputs tell k (omega (arith, l, tell.0)) (before k))
+  pub good_all : (inputs : List Told) → Tell to_come sources inputs → ((k : ℕ) → IsBefore k failure) → All (IsGood b.room) inputs
+  good_all inputs tell before = All-from_get_or (IsGood b.room) inputs no_input (λ k l. good_before inputs tell k (omega (arith, l, tell.0)) (before k))
 
   file_at : (inputs : List Told) (k : ℕ) → get_or (map records_told inputs) k (records_told no_input) ≡ records_told (get_or inputs k no_input)
   file_at inputs k = get_or-map records_told inputs k no_input
@@ -157,13 +169,13 @@ module _ {I : Type 0} {to_come : I → Option (List ℕ)} {can_fail : I → Bool
       let t = told_at inputs host found.0 tell found.1 in
       let i : Told = get_or inputs host no_input in
       let near : host < length files = omega (arith, count, slice_get_within sources host found.0 found.1) in
-      let added : Added (deeds p.0) (records_in found.0.kind i.bytes) = (subst (λ o. FilePosted to_come o p.0) found.1 p.1 i.bytes t.1).1 in
+      let added : Added (deeds p.0) (records_in found.0.kind i.bytes) = (subst (λ o. FilePosted b.room to_come o p.0) found.1 p.1 i.bytes t.1).1 in
       let file : records_in found.0.kind i.bytes ≡ get_or files host (records_told no_input) = ap (λ kind. records_in kind i.bytes) t.0 ∙ sym (file_at inputs host) in (
         logins ∙ added.logins ∙ ap logins_in file ∙ sym (logins_of_file files host (records_told no_input) near),
         procs ∙ added.procs ∙ ap procs_in file ∙ sym (procs_of_file files host (records_told no_input) near),
       ))
       (λ (never : (slice_get sources host ≡ None) × (length sources ≤ host)).
-      let added : AddedNothing (deeds p.0) = subst (λ o. FilePosted to_come o p.0) never.0 p.1 in
+      let added : AddedNothing (deeds p.0) = subst (λ o. FilePosted b.room to_come o p.0) never.0 p.1 in
       let past : length files ≤ host = omega (arith, count, never.1) in (
         logins ∙ added.logins ∙ sym (no_logins_past files host past),
         procs ∙ added.procs ∙ sym (no_procs_past files host past),
@@ -185,7 +197,7 @@ module _ {I : Type 0} {to_come : I → Option (List ℕ)} {can_fail : I → Bool
   }
 
   -- the calls are few
-  pub few : length b.calls ≤ 4224
+  pub few : length b.calls ≤ 34944
   few = few_calls b ended.legal ended.posts
       (All-weaker (IsCall b.callers b.clock b.logins b.procs) (λ c. caller_of c < b.callers) (λ c h. caller_in b.callers b.clock b.logins b.procs c h) b.calls ended.legal.sound)
       (λ host l.

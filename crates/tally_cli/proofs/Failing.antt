@@ -7,6 +7,7 @@ use Rattle.std.specs.Prelude.{IfSome, slice_get}
 use Rattle.std.specs.List.{flat_map}
 use Rattle.tally_book.specs.Contents.{Contents}
 use Rattle.tally_book.specs.Deeds.{deeds_of, logins_added, procs_added}
+use Rattle.tally_book.specs.Rooms.{batches_in}
 use Rattle.tally_desk.specs.Batches.{records_in}
 use Rattle.tally_desk.specs.Feeds.{Posts, Stops}
 use Rattle.tally_desk.specs.Passes.{HasDone, PassState, Stands, deeds}
@@ -30,7 +31,7 @@ use Rattle.tally_cli.proofs.Outcomes.{IsBefore}
 use Rattle.tally_cli.proofs.Limits.{ask_allowed, feed_allowed, feed_full, few_seen, not_full, prefix_length}
 use Rattle.tally_cli.proofs.Shares.{refused_much}
 use Rattle.tally_cli.proofs.Faults.{IsAskFailure, IsFailureOf, IsFeedFailure, caller_is, failure_is, file_cause, file_is, no_asker}
-use Rattle.tally_cli.proofs.Ended.{Ended, few, good_before, no_input, source_or_none, told_at}
+use Rattle.tally_cli.proofs.Ended.{Ended, few, good_before, no_input, room_at, source_or_none, told_at}
 use Rattle.tally_cli.proofs.TooMany.{too_many}
 
 module _ {I : Type 0} {to_come : I → Option (List ℕ)} {can_fail : I → Bool} {asking : Asking} {sources : List (Source I)} {passes : List PassState} {d : PassState} {b : Contents} {failure : Option Failure}
@@ -45,6 +46,7 @@ module _ {I : Type 0} {to_come : I → Option (List ℕ)} {can_fail : I → Bool
     pub failure_is : IsFailureOf to_come can_fail asking (slice_get sources host) old new host f
     pub stands : Stands b new
     pub fresh : deeds old ≡ []
+    pub room : old.seen.room ≡ b.room
     pub done : deeds_of host b ≡ deeds new
 
   pub failed : (f : Failure) → failure ≡ Some f → Failed f
@@ -69,6 +71,7 @@ module _ {I : Type 0} {to_come : I → Option (List ℕ)} {can_fail : I → Bool
         new = t.pass;
         failure_is = own;
         stands = All-contains (λ (x : Task I). Stands b x.pass) ended.worked.tasks t ended.worked.stand least.1;
+        room = ap (λ (x : PassState). x.seen.room) (get_or_default passes host from.1.1 d near) ∙ sym (room_at ended host near);
         fresh = ap deeds (get_or_default passes host from.1.1 d near) ∙ (ended.first host near).1;
         done = ap (λ n. deeds_of n b) (sym number) ∙ All-contains (λ (x : Task I). HasDone b x.pass) ended.worked.tasks t ended.worked.did least.1;
       }
@@ -87,10 +90,10 @@ module _ {I : Type 0} {to_come : I → Option (List ℕ)} {can_fail : I → Bool
       (source_or_none sources own.host)
 
   -- what the failure tells of the sources
-  pub cause_is : (f : Failure) → failure ≡ Some f → (inputs : List Told) → Tell to_come sources inputs → IsReadCause inputs (run_fault f)
+  pub cause_is : (f : Failure) → failure ≡ Some f → (inputs : List Told) → Tell to_come sources inputs → IsReadCause b.room inputs (run_fault f)
   cause_is f e inputs tell =
       let own = failed f e in
-      by_source (λ x. IsReadCause inputs (run_fault x)) f own
+      by_source (λ x. IsReadCause b.room inputs (run_fault x)) f own
       (λ source found fed.
       let l : own.host < length sources = slice_get_within sources own.host source found in
       let in_inputs : own.host < length inputs = omega (arith, l, tell.0) in
@@ -100,21 +103,21 @@ module _ {I : Type 0} {to_come : I → Option (List ℕ)} {can_fail : I → Bool
       subst (λ (x : Option (List ℕ) × Kind). FailedToFeed x.0 (can_fail source.input) x.1 own.old own.new fed.fault) (λ j. (t.1 j, t.0 j)) fed.failed in
       record {
         near = in_inputs;
-        earlier = λ k x m. subst IsGood (get_or_default inputs k no_input x (omega (arith, m, in_inputs))) (good_before ended inputs tell k (omega (arith, m, l)) (own.before k m));
-        own = λ x. subst (λ y. IsFileCause inputs y fed.fault) (get_or_default inputs own.host no_input x in_inputs) (file_cause inputs i own.old own.new (can_fail source.input) fed.fault told
+        earlier = λ k x m. subst (IsGood b.room) (get_or_default inputs k no_input x (omega (arith, m, in_inputs))) (good_before ended inputs tell k (omega (arith, m, l)) (own.before k m));
+        own = λ x. subst (λ y. IsFileCause b.room inputs y fed.fault) (get_or_default inputs own.host no_input x in_inputs) (file_cause b.room inputs i own.old own.new (can_fail source.input) fed.fault told own.room
             (λ stored is.
-            let at = subst (Stops i.kind i.bytes (Posts own.old own.new) own.new.seen) is (told.stops i.bytes refl) in
+            let at = subst (Stops (batches_in b.room) i.kind i.bytes (Posts own.old own.new) own.new.seen) is (subst (λ r. Stops (batches_in r) i.kind i.bytes (Posts own.old own.new) own.new.seen fed.fault) own.room (told.stops i.bytes refl)) in
             let room = too_many ended (λ (x : Entry). x.host) (λ (x : Entry). x.item) logins_added (λ x. length (logins_in x)) (λ x. refl) (λ q. refl) b.logins ended.posts.logins inputs tell own.host (length (logins_in (records_in i.kind at.next))) l
-            (omega (arith, ap (λ ds. length (flat_map logins_added ds)) own.done, refused_much logins_added (λ x. length (logins_in x)) (λ x. refl) (λ q. refl) i.kind i.bytes own.old own.new at.next at.left own.fresh at.cut)) in
-            omega (arith, at.cause.1, prefix_length own.new.seen.logins b.logins own.stands.seen.logins, room))
+            (omega (arith, ap (λ ds. length (flat_map logins_added ds)) own.done, refused_much logins_added (λ x. length (logins_in x)) (λ x. refl) (λ q. refl) (batches_in b.room) i.kind i.bytes own.old own.new at.next at.left own.fresh at.cut)) in
+            omega (arith, at.cause.1, own.stands.seen.room, prefix_length own.new.seen.logins b.logins own.stands.seen.logins, room))
             (λ stored is.
-            let at = subst (Stops i.kind i.bytes (Posts own.old own.new) own.new.seen) is (told.stops i.bytes refl) in
+            let at = subst (Stops (batches_in b.room) i.kind i.bytes (Posts own.old own.new) own.new.seen) is (subst (λ r. Stops (batches_in r) i.kind i.bytes (Posts own.old own.new) own.new.seen fed.fault) own.room (told.stops i.bytes refl)) in
             let room = too_many ended (λ (x : ProcEntry). x.host) (λ (x : ProcEntry). x.item) procs_added (λ x. length (procs_in x)) (λ x. refl) (λ q. refl) b.procs ended.posts.procs inputs tell own.host (length (procs_in (records_in i.kind at.next))) l
-            (omega (arith, ap (λ ds. length (flat_map procs_added ds)) own.done, refused_much procs_added (λ x. length (procs_in x)) (λ x. refl) (λ q. refl) i.kind i.bytes own.old own.new at.next at.left own.fresh at.cut)) in
-            omega (arith, at.cause.1, prefix_length own.new.seen.procs b.procs own.stands.seen.procs, room))
+            (omega (arith, ap (λ ds. length (flat_map procs_added ds)) own.done, refused_much procs_added (λ x. length (procs_in x)) (λ x. refl) (λ q. refl) (batches_in b.room) i.kind i.bytes own.old own.new at.next at.left own.fresh at.cut)) in
+            omega (arith, at.cause.1, own.stands.seen.room, prefix_length own.new.seen.procs b.procs own.stands.seen.procs, room))
             (not_full i.kind own.new.seen fed.fault told.full (few_seen b own.new (few ended) own.stands)));
       })
-      (λ past ask. All-from_get_or IsGood inputs no_input (λ k l.
+      (λ past ask. All-from_get_or (IsGood b.room) inputs no_input (λ k l.
       let m : k < length sources = omega (arith, l, tell.0) in
       good_before ended inputs tell k m (own.before k (omega (arith, m, past)))))
 
@@ -146,12 +149,12 @@ module _ {I : Type 0} {to_come : I → Option (List ℕ)} {can_fail : I → Bool
       by_source (λ x. IsNamed (length sources) callers (run_fault x)) f own (λ source found fed. slice_get_within sources own.host source found) (λ past ask. (past, omega (arith, own.near, is)))
 
   -- a full list is that of the file's kind
-  pub full_list : (f : Failure) → failure ≡ Some f → IsFullList sources (run_fault f)
+  pub full_list : (f : Failure) → failure ≡ Some f → IsFullList b.room sources (run_fault f)
   full_list f e =
       let own = failed f e in
-      by_source (λ x. IsFullList sources (run_fault x)) f own
+      by_source (λ x. IsFullList b.room sources (run_fault x)) f own
       (λ source found fed.
-      let logins : length own.new.seen.logins ≤ 1048576 = omega (arith, prefix_length own.new.seen.logins b.logins own.stands.seen.logins, ended.legal.few_logins) in
-      let procs : length own.new.seen.procs ≤ 1048576 = omega (arith, prefix_length own.new.seen.procs b.procs own.stands.seen.procs, ended.legal.few_procs) in
-      feed_full sources own.host source (λ s. get_or_from_slice_get sources own.host source s found) own.new.seen fed.fault fed.failed.full logins procs)
+      let logins : length own.new.seen.logins ≤ b.room = omega (arith, prefix_length own.new.seen.logins b.logins own.stands.seen.logins, ended.legal.few_logins) in
+      let procs : length own.new.seen.procs ≤ b.room = omega (arith, prefix_length own.new.seen.procs b.procs own.stands.seen.procs, ended.legal.few_procs) in
+      feed_full b.room sources own.host source (λ s. get_or_from_slice_get sources own.host source s found) own.new.seen fed.fault fed.failed.full (sym own.stands.seen.room) logins procs)
       (λ past ask. tt)

@@ -1,6 +1,8 @@
 -- What a failure shows of the caller's work.
 use Rattle.std.proofs.Common.{◌≡◌, ℕ, ◌<◌, Bool, List, Option, Some, None, refl, sym, ap, subst}
 use Rattle.tally_book.specs.declared.fault.AskFault.{AskFault}
+use Rattle.tally_book.specs.Rooms.{batches_in}
+use Rattle.tally_desk.specs.Blocks.{feed_fault}
 use Rattle.tally_desk.specs.Passes.{PassState}
 use Rattle.tally_desk.specs.Rounds.{AskStops}
 use Rattle.tally_desk.specs.declared.fault.FeedFault.{FeedFault}
@@ -55,16 +57,16 @@ failure_is to_come can_fail asking None p q (outcome.Asked n) number failure h e
 failure_is to_come can_fail asking None p q (outcome.AskFailed f) number failure h e = record { fault = f; is = ap (pick failure) e; stops = h }
 
 -- the cause of a source's fault, where a full list has its own
-pub file_cause : (inputs : List Told) (i : Told) (old new : PassState) (can_fail : Bool) (fault : FeedFault) → FailedToFeed (Some i.bytes) can_fail i.kind old new fault
-    → ((stored : _) → fault ≡ feed.LoginsFull stored → 1048576 < good_logins inputs) → ((stored : _) → fault ≡ feed.ProcsFull stored → 1048576 < good_procs inputs) → (fault ≡ feed.CallsFull → ⊥) → IsFileCause inputs i fault
-file_cause inputs i old new can_fail feed.Memory h logins procs calls = tt
-file_cause inputs i old new can_fail feed.Read h logins procs calls = tt
-file_cause inputs i old new can_fail (feed.Torn records rest) h logins procs calls = (h.stops i.bytes refl).fault_is
-file_cause inputs i old new can_fail feed.TooLong h logins procs calls = (h.stops i.bytes refl).fault_is
-file_cause inputs i old new can_fail (feed.Bad at fault) h logins procs calls = (h.stops i.bytes refl).fault_is
-file_cause inputs i old new can_fail (feed.LoginsFull stored) h logins procs calls = logins stored refl
-file_cause inputs i old new can_fail (feed.ProcsFull stored) h logins procs calls = procs stored refl
-file_cause inputs i old new can_fail feed.CallsFull h logins procs calls = calls refl
+pub file_cause : (room : ℕ) (inputs : List Told) (i : Told) (old new : PassState) (can_fail : Bool) (fault : FeedFault) → FailedToFeed (Some i.bytes) can_fail i.kind old new fault → old.seen.room ≡ room
+    → ((stored : _) → fault ≡ feed.LoginsFull stored → room < good_logins room inputs) → ((stored : _) → fault ≡ feed.ProcsFull stored → room < good_procs room inputs) → (fault ≡ feed.CallsFull → ⊥) → IsFileCause room inputs i fault
+file_cause room inputs i old new can_fail feed.Memory h same logins procs calls = tt
+file_cause room inputs i old new can_fail feed.Read h same logins procs calls = tt
+file_cause room inputs i old new can_fail (feed.Torn records rest) h same logins procs calls = subst (λ r. feed_fault (batches_in r) i.kind i.bytes ≡ Some (feed.Torn records rest)) same (h.stops i.bytes refl).fault_is
+file_cause room inputs i old new can_fail (feed.TooLong limit) h same logins procs calls = subst (λ r. feed_fault (batches_in r) i.kind i.bytes ≡ Some (feed.TooLong limit)) same (h.stops i.bytes refl).fault_is
+file_cause room inputs i old new can_fail (feed.Bad at fault) h same logins procs calls = subst (λ r. feed_fault (batches_in r) i.kind i.bytes ≡ Some (feed.Bad at fault)) same (h.stops i.bytes refl).fault_is
+file_cause room inputs i old new can_fail (feed.LoginsFull stored) h same logins procs calls = logins stored refl
+file_cause room inputs i old new can_fail (feed.ProcsFull stored) h same logins procs calls = procs stored refl
+file_cause room inputs i old new can_fail feed.CallsFull h same logins procs calls = calls refl
 
 abbrev host_in : RunFault → ℕ
 host_in (run.File host fault) = host

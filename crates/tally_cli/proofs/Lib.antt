@@ -28,4 +28,5 @@ pub mod Turns
 pub mod UsageRuns
 pub mod WorkedApart
 pub mod WorkedCounts
+pub mod WorkedRooms
 pub mod WorkedRows

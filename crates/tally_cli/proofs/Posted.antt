@@ -3,6 +3,7 @@ use Rattle.std.proofs.Common.{◌≡◌, ℕ, ◌<◌, ◌≤◌, Bool, List, []
 use Rattle.std.specs.List.{flat_map}
 use Rattle.tally_book.specs.declared.question.Question.{Question}
 use Rattle.tally_book.specs.Deeds.{Ask as AskDeed, Deed, logins_added, procs_added, procs_of_host}
+use Rattle.tally_book.specs.Rooms.{batches_in}
 use Rattle.tally_desk.specs.Blocks.{feed_fault}
 use Rattle.tally_desk.specs.Batches.{records_in}
 use Rattle.tally_desk.specs.Feeds.{good_batches, post_of}
@@ -60,21 +61,21 @@ pub record AddedNothing (ds : List Deed) : Type 0 where
   pub procs : flat_map procs_added ds ≡ []
 
 -- what a caller posted of its work that was done whole: its file, or nothing where it has none
-abbrev pub FilePosted : {I : Type 0} → (I → Option (List ℕ)) → Option (Source I) → PassState → Type 0
-FilePosted to_come (Some source) q = (bytes : List ℕ) → to_come source.input ≡ Some bytes
-    → (feed_fault source.kind bytes ≡ None) × Added (deeds q) (records_in source.kind bytes)
-FilePosted to_come None q = AddedNothing (deeds q)
+abbrev pub FilePosted : {I : Type 0} → ℕ → (I → Option (List ℕ)) → Option (Source I) → PassState → Type 0
+FilePosted room to_come (Some source) q = (bytes : List ℕ) → to_come source.input ≡ Some bytes
+    → (feed_fault (batches_in room) source.kind bytes ≡ None) × Added (deeds q) (records_in source.kind bytes)
+FilePosted room to_come None q = AddedNothing (deeds q)
 
 pub posted_file : {I : Type 0} (to_come : I → Option (List ℕ)) (can_fail : I → Bool) (asking : Asking) (source : Option (Source I)) (p q : PassState) (o : Outcome) → deeds p ≡ [] → IsOutcome to_come can_fail (work_of asking source) p q o → IsDone o
-    → FilePosted to_come source q
+    → FilePosted p.seen.room to_come source q
 posted_file to_come can_fail asking (Some s) p q outcome.Untried e h d = absurd d
 posted_file to_come can_fail asking (Some s) p q (outcome.Fed fed) e h d = λ bytes told.
     let whole = h.whole bytes told in
-    let is : deeds q ≡ map post_of (good_batches s.kind bytes) = whole.all ∙ ap (λ (ds : List Deed). ds ++ map post_of (good_batches s.kind bytes)) e in (
+    let is : deeds q ≡ map post_of (good_batches (batches_in p.seen.room) s.kind bytes) = whole.all ∙ ap (λ (ds : List Deed). ds ++ map post_of (good_batches (batches_in p.seen.room) s.kind bytes)) e in (
       whole.no_fault,
       record {
-        logins = ap (flat_map logins_added) is ∙ posted_records logins_added logins_in (λ b. refl) (good_batches s.kind bytes) ∙ whole.joined.logins;
-        procs = ap (flat_map procs_added) is ∙ posted_records procs_added procs_in (λ b. refl) (good_batches s.kind bytes) ∙ whole.joined.procs;
+        logins = ap (flat_map logins_added) is ∙ posted_records logins_added logins_in (λ b. refl) (good_batches (batches_in p.seen.room) s.kind bytes) ∙ whole.joined.logins;
+        procs = ap (flat_map procs_added) is ∙ posted_records procs_added procs_in (λ b. refl) (good_batches (batches_in p.seen.room) s.kind bytes) ∙ whole.joined.procs;
       },
     )
 posted_file to_come can_fail asking (Some s) p q (outcome.FeedFailed f) e h d = absurd d

@@ -24,7 +24,7 @@ use Rattle.tally_cli.specs.Apart.{Apart, apart_text, file_table, file_text, file
 use Rattle.tally_cli.specs.Output.{answers_of, form_text, login_entries, proc_entries, questions_of, table_of}
 use Rattle.tally_cli.specs.declared.fault.RunFault.{RunFault}
 use Rattle.tally_cli.specs.declared.fault.RunFault.TheVariants.{Asker, Callers, File, Memory, Write}
-use Rattle.tally_cli.specs.Runs.{IsAllowed, IsCause, IsFailedRun, IsFullList, IsGood, IsNamed, IsUnwrittenBefore, Tell, Told, failed_writes, fault_from, output_told, records_told}
+use Rattle.tally_cli.specs.Runs.{IsAllowed, IsCause, IsFailedRun, IsFullList, IsGood, IsNamed, IsUnwrittenBefore, Tell, Told, failed_writes, fault_from, output_told, records_told, room_of}
 use Rattle.tally_cli.specs.inside.RunSteps.{AreRead, IsPrintFault, IsReadCause}
 
 -- the kinds that the sources tell
@@ -48,7 +48,7 @@ host_entries host (e ∷ es) = one_entry host e es (e.host == host) refl (host_e
 pub output_is : {I : Type 0} (to_come : I → Option (List ℕ)) (clock : ClockRows) (apart : Apart) (job : Job) (sources : List (Source I)) (inputs : List Told) (b : Contents) {kinds shown : List Kind} {lent : List (Source I)}
     → shown ≡ kinds → kinds ≡ map (λ (s : Source I). s.kind) lent → lent ≡ sources
     → ((logins others : List Entry) (procs rest : List ProcEntry) → SameOfEachHost logins others procs rest → (clock : ClockRows) (q : Question) → answer_of clock q logins procs ≡ answer_of clock q others rest)
-    → Tell to_come sources inputs → AreRead inputs b
+    → Tell to_come sources inputs → AreRead (room_of job) inputs b
     → apart_text clock apart job shown b.logins b.procs ≡ output_told clock apart job inputs
 output_is {I} to_come clock apart job sources inputs b {shown = shown} e f h order tell read =
     let logins : List Entry = login_entries (map records_told inputs) in
@@ -127,12 +127,12 @@ faults_are P (Ok value) fault is fact = tt
 faults_are P (Err found) fault is fact = subst P (sym is) fact
 
 -- what a fault of reading shows, where nothing was written
-read_cause : (inputs : List Told) (now : OutputNow) (fault : RunFault) → IsReadCause inputs fault → IsCause inputs now now fault
-read_cause inputs now Memory cause = inl (λ told. refl)
-read_cause inputs now (Callers count) cause = tt
-read_cause inputs now (File host fault) cause = cause
-read_cause inputs now (Asker caller fault) cause = cause
-read_cause inputs now Write cause = absurd cause
+read_cause : (room : ℕ) (inputs : List Told) (now : OutputNow) (fault : RunFault) → IsReadCause room inputs fault → IsCause room inputs now now fault
+read_cause room inputs now Memory cause = inl (λ told. refl)
+read_cause room inputs now (Callers count) cause = tt
+read_cause room inputs now (File host fault) cause = cause
+read_cause room inputs now (Asker caller fault) cause = cause
+read_cause room inputs now Write cause = absurd cause
 
 unwritten : (now : OutputNow) (fault : RunFault) → IsUnwrittenBefore now now fault
 unwritten now Memory = tt
@@ -143,9 +143,9 @@ unwritten now Write = tt
 
 -- a run that failed before it wrote
 pub failed_unwritten : {I : Type 0} {to_come : I → Option (List ℕ)} {can_fail : I → Bool} {clock : ClockRows} {apart : Apart} {job : Job} {sources : List (Source I)} {now : OutputNow} {fault : RunFault}
-    → IsAllowed (length sources + job.askers) fault → IsNamed (length sources) (length sources + job.askers) fault → IsFullList sources fault
+    → IsAllowed (length sources + job.askers) fault → IsNamed (length sources) (length sources + job.askers) fault → IsFullList (room_of job) sources fault
     → ((host : ℕ) → fault ≡ File host feed.Read → (s : Source I) → can_fail (slice_index_or sources host s).input ≡ true)
-    → ((inputs : List Told) → Tell to_come sources inputs → IsReadCause inputs fault) → IsFailedRun to_come can_fail clock apart job sources now now fault
+    → ((inputs : List Told) → Tell to_come sources inputs → IsReadCause (room_of job) inputs fault) → IsFailedRun to_come can_fail clock apart job sources now now fault
 failed_unwritten {clock = clock} {apart = apart} {job = job} {now = now} {fault = fault} allowed named full read cause = record {
   allowed = allowed;
   named = named;
@@ -153,14 +153,14 @@ failed_unwritten {clock = clock} {apart = apart} {job = job} {now = now} {fault 
   read = read;
   unwritten = unwritten now fault;
   told = λ inputs tell. record {
-    cause = read_cause inputs now fault (cause inputs tell);
+    cause = read_cause (room_of job) inputs now fault (cause inputs tell);
     prefix = λ told. record { front = []; rest = output_told clock apart job inputs; appended = sym (append-nil now.written); whole = refl };
   };
 }
 
 -- a run that failed in printing, of files that are good
 pub failed_printing : {I : Type 0} {to_come : I → Option (List ℕ)} {can_fail : I → Bool} {clock : ClockRows} {apart : Apart} {job : Job} {sources : List (Source I)} {old new : OutputNow} (fault : RunFault)
-    → IsPrintFault fault → ((inputs : List Told) → Tell to_come sources inputs → All IsGood inputs × (IsTrue old.tells → AppendsPrefix old.written new.written (output_told clock apart job inputs)))
+    → IsPrintFault fault → ((inputs : List Told) → Tell to_come sources inputs → All (IsGood (room_of job)) inputs × (IsTrue old.tells → AppendsPrefix old.written new.written (output_told clock apart job inputs)))
     → IsFailedRun to_come can_fail clock apart job sources old new fault
 failed_printing Memory printing told = record {
   allowed = tt;

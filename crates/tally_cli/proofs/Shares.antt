@@ -6,6 +6,7 @@ use Rattle.std.proofs.lemmas.List.Sums.{sum_by-append, sum_by-cons}
 use Rattle.std.specs.List.{All, filter, flat_map, sum_by}
 use Rattle.tally_book.specs.declared.question.Question.{Question}
 use Rattle.tally_book.specs.Deeds.{Ask as AskDeed, Deed}
+use Rattle.tally_book.specs.Rooms.{batches_in}
 use Rattle.tally_desk.specs.Batches.{records_in}
 use Rattle.tally_desk.specs.Blocks.{good_blocks}
 use Rattle.tally_desk.specs.Feeds.{IsCut, good_batches, post_of}
@@ -73,8 +74,8 @@ module _ {R : Type 0} (added : Deed → List R) (size : Records → ℕ) (posted
   much ds = length (flat_map added ds)
 
   -- how much the good blocks of an input hold
-  abbrev pub good : Kind → List ℕ → ℕ
-  good kind bytes = sum_by size (good_batches kind bytes)
+  abbrev pub good : ℕ → Kind → List ℕ → ℕ
+  good most kind bytes = sum_by size (good_batches most kind bytes)
 
   posted_much : (bs : List Records) → much (map post_of bs) ≡ sum_by size bs
   posted_much [] = refl
@@ -87,27 +88,27 @@ module _ {R : Type 0} (added : Deed → List R) (size : Records → ℕ) (posted
   fresh_much : (p q : PassState) (bs : List Records) → deeds p ≡ [] → deeds q ≡ deeds p ++ map post_of bs → much (deeds q) ≡ sum_by size bs
   fresh_much p q bs e h = ap much (h ∙ ap (λ (ds : List Deed). ds ++ map post_of bs) e) ∙ posted_much bs
 
-  split_good : (kind : Kind) (bytes : List ℕ) (done left : List (List ℕ)) → good_blocks kind bytes ≡ done ++ left → good kind bytes ≡ sum_by size (map (records_in kind) done) + sum_by size (map (records_in kind) left)
-  split_good kind bytes done left e =
+  split_good : (most : ℕ) (kind : Kind) (bytes : List ℕ) (done left : List (List ℕ)) → good_blocks most kind bytes ≡ done ++ left → good most kind bytes ≡ sum_by size (map (records_in kind) done) + sum_by size (map (records_in kind) left)
+  split_good most kind bytes done left e =
       ap (λ l. sum_by size (map (records_in kind) l)) e ∙ ap (sum_by size) (map-append (records_in kind) done left) ∙ sum_by-append size (map (records_in kind) done) (map (records_in kind) left)
 
-  cut_much : (kind : Kind) (bytes : List ℕ) (p q : PassState) (left : List (List ℕ)) → deeds p ≡ [] → IsCut kind bytes (λ bs. deeds q ≡ deeds p ++ map post_of bs) left → much (deeds q) + sum_by size (map (records_in kind) left) ≤ good kind bytes
-  cut_much kind bytes p q left e cut = omega (arith, fresh_much p q (map (records_in kind) cut.done) e cut.some, split_good kind bytes cut.done left cut.good)
+  cut_much : (most : ℕ) (kind : Kind) (bytes : List ℕ) (p q : PassState) (left : List (List ℕ)) → deeds p ≡ [] → IsCut most kind bytes (λ bs. deeds q ≡ deeds p ++ map post_of bs) left → much (deeds q) + sum_by size (map (records_in kind) left) ≤ good most kind bytes
+  cut_much most kind bytes p q left e cut = omega (arith, fresh_much p q (map (records_in kind) cut.done) e cut.some, split_good most kind bytes cut.done left cut.good)
 
-  stopped_much : (kind : Kind) (bytes : List ℕ) (can_fail : Bool) (p q : PassState) (fault : FeedFault) → deeds p ≡ [] → FailedToFeed (Some bytes) can_fail kind p q fault → much (deeds q) ≤ good kind bytes
-  stopped_much kind bytes can_fail p q feed.Memory e h = let cut = h.stops bytes refl in omega (arith, cut_much kind bytes p q cut.0 e cut.1)
-  stopped_much kind bytes can_fail p q feed.Read e h = let cut = h.stops bytes refl in omega (arith, cut_much kind bytes p q cut.0 e cut.1)
-  stopped_much kind bytes can_fail p q (feed.Torn records rest) e h = omega (arith, fresh_much p q (good_batches kind bytes) e (h.stops bytes refl).all)
-  stopped_much kind bytes can_fail p q feed.TooLong e h = omega (arith, fresh_much p q (good_batches kind bytes) e (h.stops bytes refl).all)
-  stopped_much kind bytes can_fail p q (feed.Bad at fault) e h = omega (arith, fresh_much p q (good_batches kind bytes) e (h.stops bytes refl).all)
-  stopped_much kind bytes can_fail p q (feed.LoginsFull stored) e h = let at = h.stops bytes refl in omega (arith, cut_much kind bytes p q (at.next ∷ at.left) e at.cut)
-  stopped_much kind bytes can_fail p q (feed.ProcsFull stored) e h = let at = h.stops bytes refl in omega (arith, cut_much kind bytes p q (at.next ∷ at.left) e at.cut)
-  stopped_much kind bytes can_fail p q feed.CallsFull e h = let at = h.stops bytes refl in omega (arith, cut_much kind bytes p q (at.next ∷ at.left) e at.cut)
+  stopped_much : (kind : Kind) (bytes : List ℕ) (can_fail : Bool) (p q : PassState) (fault : FeedFault) → deeds p ≡ [] → FailedToFeed (Some bytes) can_fail kind p q fault → much (deeds q) ≤ good (batches_in p.seen.room) kind bytes
+  stopped_much kind bytes can_fail p q feed.Memory e h = let cut = h.stops bytes refl in omega (arith, cut_much (batches_in p.seen.room) kind bytes p q cut.0 e cut.1)
+  stopped_much kind bytes can_fail p q feed.Read e h = let cut = h.stops bytes refl in omega (arith, cut_much (batches_in p.seen.room) kind bytes p q cut.0 e cut.1)
+  stopped_much kind bytes can_fail p q (feed.Torn records rest) e h = omega (arith, fresh_much p q (good_batches (batches_in p.seen.room) kind bytes) e (h.stops bytes refl).all)
+  stopped_much kind bytes can_fail p q (feed.TooLong limit) e h = omega (arith, fresh_much p q (good_batches (batches_in p.seen.room) kind bytes) e (h.stops bytes refl).all)
+  stopped_much kind bytes can_fail p q (feed.Bad at fault) e h = omega (arith, fresh_much p q (good_batches (batches_in p.seen.room) kind bytes) e (h.stops bytes refl).all)
+  stopped_much kind bytes can_fail p q (feed.LoginsFull stored) e h = let at = h.stops bytes refl in omega (arith, cut_much (batches_in p.seen.room) kind bytes p q (at.next ∷ at.left) e at.cut)
+  stopped_much kind bytes can_fail p q (feed.ProcsFull stored) e h = let at = h.stops bytes refl in omega (arith, cut_much (batches_in p.seen.room) kind bytes p q (at.next ∷ at.left) e at.cut)
+  stopped_much kind bytes can_fail p q feed.CallsFull e h = let at = h.stops bytes refl in omega (arith, cut_much (batches_in p.seen.room) kind bytes p q (at.next ∷ at.left) e at.cut)
 
   -- what a caller that has a file did is no more than its good blocks
-  pub file_much : {I : Type 0} (to_come : I → Option (List ℕ)) (can_fail : I → Bool) (asking : Asking) (s : Source I) (bytes : List ℕ) (p q : PassState) (o : Outcome) → to_come s.input ≡ Some bytes → deeds p ≡ [] → IsOutcome to_come can_fail (work_of asking (Some s)) p q o → much (deeds q) ≤ good s.kind bytes
+  pub file_much : {I : Type 0} (to_come : I → Option (List ℕ)) (can_fail : I → Bool) (asking : Asking) (s : Source I) (bytes : List ℕ) (p q : PassState) (o : Outcome) → to_come s.input ≡ Some bytes → deeds p ≡ [] → IsOutcome to_come can_fail (work_of asking (Some s)) p q o → much (deeds q) ≤ good (batches_in p.seen.room) s.kind bytes
   file_much to_come can_fail asking s bytes p q outcome.Untried told e h = omega (arith, ap much (ap deeds h ∙ e))
-  file_much to_come can_fail asking s bytes p q (outcome.Fed fed) told e h = omega (arith, fresh_much p q (good_batches s.kind bytes) e (h.whole bytes told).all)
+  file_much to_come can_fail asking s bytes p q (outcome.Fed fed) told e h = omega (arith, fresh_much p q (good_batches (batches_in p.seen.room) s.kind bytes) e (h.whole bytes told).all)
   file_much to_come can_fail asking s bytes p q (outcome.FeedFailed f) told e h = stopped_much s.kind bytes (can_fail s.input) p q f e (subst (λ t. FailedToFeed t (can_fail s.input) s.kind p q f) told h)
   file_much to_come can_fail asking s bytes p q (outcome.Asked n) told e h = absurd h
   file_much to_come can_fail asking s bytes p q (outcome.AskFailed f) told e h = absurd h
@@ -121,5 +122,5 @@ module _ {R : Type 0} (added : Deed → List R) (size : Records → ℕ) (posted
   asker_much to_come can_fail asking p q (outcome.AskFailed f) e h = ap much (h.some ∙ ap (λ (ds : List Deed). ds ++ map AskDeed h.done) e) ∙ asked_much h.done
 
   -- a refused block and what was posted before it are among the good blocks
-  pub refused_much : (kind : Kind) (bytes : List ℕ) (p q : PassState) (next : List ℕ) (left : List (List ℕ)) → deeds p ≡ [] → IsCut kind bytes (λ bs. deeds q ≡ deeds p ++ map post_of bs) (next ∷ left) → much (deeds q) + size (records_in kind next) ≤ good kind bytes
-  refused_much kind bytes p q next left e cut = omega (arith, cut_much kind bytes p q (next ∷ left) e cut, sum_by-cons size (records_in kind next) (map (records_in kind) left))
+  pub refused_much : (most : ℕ) (kind : Kind) (bytes : List ℕ) (p q : PassState) (next : List ℕ) (left : List (List ℕ)) → deeds p ≡ [] → IsCut most kind bytes (λ bs. deeds q ≡ deeds p ++ map post_of bs) (next ∷ left) → much (deeds q) + size (records_in kind next) ≤ good most kind bytes
+  refused_much most kind bytes p q next left e cut = omega (arith, cut_much most kind bytes p q (next ∷ left) e cut, sum_by-cons size (records_in kind next) (map (records_in kind) left))

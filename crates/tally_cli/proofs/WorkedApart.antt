@@ -50,7 +50,7 @@ by_file : map (is_by_file two) (report.Connect true true every_login ∷ report.
 by_file = refl
 
 abbrev job_in : Form → Job
-job_in form = record { report = report.All; form = form; feeders = 4; askers = 0; offset = pos 0; until = None }
+job_in form = record { report = report.All; form = form; millions = 1; feeders = 4; askers = 0; offset = pos 0; until = None }
 
 -- a text has no path, and a table has paths where they are asked for
 shown : has_paths two (job_in Text) ∷ has_paths two (job_in Csv) ∷ has_paths (record two { paths = false }) (job_in Csv) ∷ [] ≡ false ∷ true ∷ false ∷ []

@@ -1,6 +1,8 @@
 -- What is known when a run ends.
-use Rattle.std.specs.Prelude.{◌≡◌, ◌⊎◌, ◌+◌, ◌++◌, ◌<◌, ◌≤◌, ℕ, Bool, true, IsTrue, List, Option, None, Some, Result, Ok, Err, ⊤, length, map, min, slice_index_or, sum_by, ◌-◌, ◌^◌}
+use Rattle.std.specs.Prelude.{◌≡◌, ◌⊎◌, ◌*◌, ◌+◌, ◌++◌, ◌<◌, ◌≤◌, ℕ, Bool, true, IsTrue, List, Option, None, Some, Result, Ok, Err, ⊤, length, map, min, slice_index_or, sum_by, ◌-◌, ◌^◌}
 use Rattle.std.specs.List.{All}
+use Rattle.tally_book.specs.Rooms.{batches_in}
+use Rattle.tally_book.specs.declared.room.TheConstants.{MILLION}
 use Rattle.tally_clock.specs.Rows.{ClockRows}
 use Rattle.tally_desk.specs.Batches.{records_in, stored_kind}
 use Rattle.tally_desk.specs.Blocks.{feed_fault}
@@ -21,7 +23,6 @@ use Rattle.tally_book.specs.declared.fault.AskFault.TheVariants as ask
 use Rattle.tally_desk.specs.declared.fault.FeedFault.TheVariants as feed
 use Rattle.tally_print.specs.declared.output.PrintFault.TheVariants as print
 use Rattle.tally_sessions.specs.declared.sessions.TheConstants as sessions
-use Rattle.tally_usage.specs.declared.entry.TheConstants as usage
 
 -- an input that tells its bytes, and what kind of records they are
 pub record Told : Type 0 where
@@ -42,13 +43,17 @@ Tell to_come sources inputs = (length inputs ≡ length sources)
 abbrev pub IsReadable : {I : Type 0} → (I → ℕ) → Source I → Type 0
 IsReadable failures source = failures source.input < 2 ^ 64 - 1
 
--- the first fault of an input
-abbrev pub fault_of : Told → Option FeedFault
-fault_of input = feed_fault input.kind input.bytes
+-- how many records of each kind a run of a job has room for, in a file and in all files
+abbrev pub room_of : Job → ℕ
+room_of job = MILLION * job.millions
+
+-- the first fault of an input, where there is room for so many records
+abbrev pub fault_of : ℕ → Told → Option FeedFault
+fault_of room input = feed_fault (batches_in room) input.kind input.bytes
 
 -- an input has no fault
-abbrev pub IsGood : Told → Type 0
-IsGood input = fault_of input ≡ None
+abbrev pub IsGood : ℕ → Told → Type 0
+IsGood room input = fault_of room input ≡ None
 
 -- the records of an input
 abbrev pub records_told : Told → Records
@@ -59,27 +64,27 @@ abbrev pub output_told : ClockRows → Apart → Job → List Told → List ℕ
 output_told clock apart job inputs = output_apart clock apart job (map (λ i. i.kind) inputs) (map records_told inputs)
 
 -- how many login records the good blocks of the inputs hold
-abbrev pub good_logins : List Told → ℕ
-good_logins inputs = sum_by (λ i. sum_by (λ b. length (logins_in b)) (good_batches i.kind i.bytes)) inputs
+abbrev pub good_logins : ℕ → List Told → ℕ
+good_logins room inputs = sum_by (λ i. sum_by (λ b. length (logins_in b)) (good_batches (batches_in room) i.kind i.bytes)) inputs
 
 -- how many process records the good blocks of the inputs hold
-abbrev pub good_procs : List Told → ℕ
-good_procs inputs = sum_by (λ i. sum_by (λ b. length (procs_in b)) (good_batches i.kind i.bytes)) inputs
+abbrev pub good_procs : ℕ → List Told → ℕ
+good_procs room inputs = sum_by (λ i. sum_by (λ b. length (procs_in b)) (good_batches (batches_in room) i.kind i.bytes)) inputs
 
 -- why a source is at fault: a fault of its own is its first, a full list comes of all good blocks together
-abbrev pub IsFileCause : List Told → Told → FeedFault → Type 0
-IsFileCause inputs input feed.Memory = ⊤
-IsFileCause inputs input feed.Read = ⊤
-IsFileCause inputs input (feed.LoginsFull stored) = sessions.ENTRY_LIMIT < good_logins inputs
-IsFileCause inputs input (feed.ProcsFull stored) = usage.ENTRY_LIMIT < good_procs inputs
-IsFileCause inputs input feed.CallsFull = ⊥
-IsFileCause inputs input fault = fault_of input ≡ Some fault
+abbrev pub IsFileCause : ℕ → List Told → Told → FeedFault → Type 0
+IsFileCause room inputs input feed.Memory = ⊤
+IsFileCause room inputs input feed.Read = ⊤
+IsFileCause room inputs input (feed.LoginsFull stored) = room < good_logins room inputs
+IsFileCause room inputs input (feed.ProcsFull stored) = room < good_procs room inputs
+IsFileCause room inputs input feed.CallsFull = ⊥
+IsFileCause room inputs input fault = fault_of room input ≡ Some fault
 
 -- the source with this number is the first at fault
-pub record IsFirstFault (inputs : List Told) (host : ℕ) (fault : FeedFault) : Type 0 where
+pub record IsFirstFault (room : ℕ) (inputs : List Told) (host : ℕ) (fault : FeedFault) : Type 0 where
   pub near : host < length inputs
-  pub earlier : (k : ℕ) (i : Told) → k < host → IsGood (slice_index_or inputs k i)
-  pub own : (i : Told) → IsFileCause inputs (slice_index_or inputs host i) fault
+  pub earlier : (k : ℕ) (i : Told) → k < host → IsGood room (slice_index_or inputs k i)
+  pub own : (i : Told) → IsFileCause room inputs (slice_index_or inputs host i) fault
 
 -- nothing was written, where the output tells
 abbrev pub IsUnwritten : OutputNow → OutputNow → Type 0
@@ -94,12 +99,12 @@ IsUnwrittenBefore old new (Asker caller fault) = IsUnwritten old new
 IsUnwrittenBefore old new Write = ⊤
 
 -- what a fault shows of the sources
-abbrev pub IsCause : List Told → OutputNow → OutputNow → RunFault → Type 0
-IsCause inputs old new Memory = IsUnwritten old new ⊎ All IsGood inputs
-IsCause inputs old new (Callers count) = ⊤
-IsCause inputs old new (File host fault) = IsFirstFault inputs host fault
-IsCause inputs old new (Asker caller fault) = All IsGood inputs
-IsCause inputs old new Write = All IsGood inputs
+abbrev pub IsCause : ℕ → List Told → OutputNow → OutputNow → RunFault → Type 0
+IsCause room inputs old new Memory = IsUnwritten old new ⊎ All (IsGood room) inputs
+IsCause room inputs old new (Callers count) = ⊤
+IsCause room inputs old new (File host fault) = IsFirstFault room inputs host fault
+IsCause room inputs old new (Asker caller fault) = All (IsGood room) inputs
+IsCause room inputs old new Write = All (IsGood room) inputs
 
 -- so many callers are refused: there are none, or more than a desk has passes
 abbrev pub IsWrongNumber : ℕ → Type 0
@@ -114,10 +119,10 @@ abbrev pub HasNoRoom : ℕ → ℕ → Type 0
 HasNoRoom limit stored = (stored ≤ limit) × (limit < stored + BATCH_LIMIT)
 
 -- a full list is that in which the file's records are stored, and names how many it has
-abbrev pub IsFullList : {I : Type 0} → List (Source I) → RunFault → Type 0
-IsFullList sources (File host (feed.LoginsFull stored)) = HasNoRoom sessions.ENTRY_LIMIT stored × ((s : Source _) → stored_kind (slice_index_or sources host s).kind ≡ Login)
-IsFullList sources (File host (feed.ProcsFull stored)) = HasNoRoom usage.ENTRY_LIMIT stored × ((s : Source _) → (slice_index_or sources host s).kind ≡ Proc)
-IsFullList sources fault = ⊤
+abbrev pub IsFullList : {I : Type 0} → ℕ → List (Source I) → RunFault → Type 0
+IsFullList room sources (File host (feed.LoginsFull stored)) = HasNoRoom room stored × ((s : Source _) → stored_kind (slice_index_or sources host s).kind ≡ Login)
+IsFullList room sources (File host (feed.ProcsFull stored)) = HasNoRoom room stored × ((s : Source _) → (slice_index_or sources host s).kind ≡ Proc)
+IsFullList room sources fault = ⊤
 
 -- a number of callers is refused only where it is none or above 128, no file for the number of calls, and an asker for want of memory alone
 abbrev pub IsAllowed : ℕ → RunFault → Type 0
@@ -145,7 +150,7 @@ failed_writes (Err fault) = 0
 
 -- a whole run over sources that tell their bytes
 pub record IsReported (clock : ClockRows) (apart : Apart) (job : Job) (old new : OutputNow) (inputs : List Told) : Type 0 where
-  pub good : All IsGood inputs
+  pub good : All (IsGood (room_of job)) inputs
   pub written : IsTrue old.tells → new.written ≡ old.written ++ output_told clock apart job inputs
 
 -- what is so of a run that answers `Ok`, by the output before and after it
@@ -156,14 +161,14 @@ pub record IsWholeRun {I : Type 0} (to_come : I → Option (List ℕ)) (clock : 
 
 -- a failed run over sources that tell their bytes
 pub record IsCutShort (clock : ClockRows) (apart : Apart) (job : Job) (old new : OutputNow) (fault : RunFault) (inputs : List Told) : Type 0 where
-  pub cause : IsCause inputs old new fault
+  pub cause : IsCause (room_of job) inputs old new fault
   pub prefix : IsTrue old.tells → AppendsPrefix old.written new.written (output_told clock apart job inputs)
 
 -- what is so of a run that answers a fault: a read failed only where the input can fail
 pub record IsFailedRun {I : Type 0} (to_come : I → Option (List ℕ)) (can_fail : I → Bool) (clock : ClockRows) (apart : Apart) (job : Job) (sources : List (Source I)) (old new : OutputNow) (fault : RunFault) : Type 0 where
   pub allowed : IsAllowed (length sources + job.askers) fault
   pub named : IsNamed (length sources) (length sources + job.askers) fault
-  pub full : IsFullList sources fault
+  pub full : IsFullList (room_of job) sources fault
   pub read : (host : ℕ) → fault ≡ File host feed.Read → (s : Source _) → can_fail (slice_index_or sources host s).input ≡ true
   pub unwritten : IsUnwrittenBefore old new fault
   pub told : (inputs : List Told) → Tell to_come sources inputs → IsCutShort clock apart job old new fault inputs

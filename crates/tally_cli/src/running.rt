@@ -6,9 +6,9 @@ ghost use Rattle.tally_desk.specs.Passes.{HasDone, Stands, first_passes};
 ghost use Rattle.tally_desk.specs.declared.fault.FeedFault.TheVariants as feed_fault_of;
 ghost use Rattle.tally_print.specs.Output.{IsWritable};
 ghost use Rattle.tally_cli.specs.Apart.{apart_of};
-ghost use Rattle.tally_cli.specs.Runs.{IsReadable, IsAllowed, IsFailedRun, IsFullList, IsNamed, IsWholeRun, IsWrongNumber, Tell, Told, callers_fault, failed_writes};
+ghost use Rattle.tally_cli.specs.Runs.{IsReadable, IsAllowed, IsFailedRun, IsFullList, IsNamed, IsWholeRun, IsWrongNumber, Tell, Told, callers_fault, failed_writes, room_of};
 ghost use Rattle.tally_line.specs.Jobs.{IsRunnable};
-ghost use Rattle.tally_cli.specs.inside.RunSteps.{AreRead, AreWorkedThrough, IsReadCause, IsUnprinted, run_fault};
+ghost use Rattle.tally_cli.specs.inside.RunSteps.{AreRead, AreWorkedThrough, IsReadCause, IsUnprinted, most_calls, run_fault};
 
 pub(crate) mod apart;
 mod by_file;
@@ -39,7 +39,7 @@ use std::alloc::{AllocError, Global};
 use std::hash::RandomState;
 use std::sync::Wait;
 use std::thread::Threads;
-use tally_book::{Book, entries_are_posts, host_order_is_enough};
+use tally_book::{Book, Room, entries_are_posts, host_order_is_enough};
 use tally_clock::Clock;
 use tally_desk::{Desk, Gate, Input, OpenFault, Pass};
 use tally_line::Job;
@@ -80,20 +80,32 @@ fn callers_of(sources: usize, askers: u32) -> Result<u32, RunFault>
     Ok(callers)
 }
 
-/// A desk of so many callers, whose book has an equal clock.
+/// The room of a job's book: that of so many millions.
+fn room_for(job: &Job) -> Room
+    requires { IsRunnable job.now }
+    ensures { result ≡ room_of job.now }
+{
+    match Room::of_millions(job.millions) {
+        Some(room) => room,
+        None => unreachable!(),
+    }
+}
+
+/// A desk of so many callers, whose book has an equal clock and the room.
 fn open(
     alloc: Global,
     keys: RandomState,
     clock: &Clock,
+    room: Room,
     callers: u32,
 ) -> Result<(Desk, Vec<Pass>), AllocError>
     requires some { 0 < callers }
     requires few { callers ≤ HOST_LIMIT }
     ensures opened { IfOk result (λ r. (r.0.callers ≡ callers)
-        × (r.1.items ≡ first_passes r.0.id clock.now callers)) }
+        × (r.1.items ≡ first_passes r.0.id clock.now room callers)) }
 {
     let clock = clock.try_copy(alloc)?;
-    match Desk::open_on(alloc, keys, clock, callers) {
+    match Desk::open_with_room(alloc, keys, clock, room, callers) {
         Ok(opened) => Ok(opened),
         Err(OpenFault::Memory) => Err(AllocError),
         Err(OpenFault::Callers(_)) => unreachable!(),
@@ -161,19 +173,19 @@ fn feed_all<R: Threads + Wait + Sync, I: Input + Send, G: Gate + Sync>(
     requires some { 0 < callers }
     requires few { callers ≤ HOST_LIMIT }
     requires readable { All (IsReadable I.failures) sources.items }
-    ensures whole { IfOk result (λ b. (inputs : List Told) → Tell I.to_come sources.items inputs → AreRead inputs b) }
+    ensures whole { IfOk result (λ b. (inputs : List Told) → Tell I.to_come sources.items inputs → AreRead (room_of job.now) inputs b) }
     ensures callers { IfOk result (λ b. b.callers ≡ callers) }
     ensures clock { IfOk result (λ b. b.clock ≡ clock.now) }
-    ensures calls { IfOk result (λ b. length b.calls ≤ 4224) }
-    ensures cause { IfErr result (λ f. (inputs : List Told) → Tell I.to_come sources.items inputs → IsReadCause inputs f) }
+    ensures calls { IfOk result (λ b. length b.calls ≤ most_calls) }
+    ensures cause { IfErr result (λ f. (inputs : List Told) → Tell I.to_come sources.items inputs → IsReadCause (room_of job.now) inputs f) }
     ensures allowed { IfErr result (IsAllowed callers) }
     ensures named { IfErr result (IsNamed (length sources.items) callers) }
-    ensures full { IfErr result (IsFullList sources.items) }
+    ensures full { IfErr result (IsFullList (room_of job.now) sources.items) }
     ensures unprinted { IfErr result IsUnprinted }
     ensures read { IfErr result (λ f. (host : ℕ) → f ≡ RunFault.File host feed_fault_of.Read
         → (s : Source _) → I.can_fail (slice_index_or sources.items host s).input ≡ true) }
 {
-    let (desk, passes) = open(alloc, keys, clock, callers)?;
+    let (desk, passes) = open(alloc, keys, clock, room_for(job), callers)?;
     let feeders = job.feeders as usize;
     entries_are_posts();
     let asking = Asking::beside(job);

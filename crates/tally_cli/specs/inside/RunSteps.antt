@@ -1,8 +1,11 @@
 -- What each step of a run knows.
-use Rattle.std.specs.Prelude.{ℕ, Bool, List, Option, ⊤, map}
+use Rattle.std.specs.Prelude.{◌*◌, ◌+◌, ℕ, Bool, List, Option, ⊤, map}
 use Rattle.std.specs.List.{All}
 use Rattle.tally_book.specs.Contents.{Contents}
 use Rattle.tally_book.specs.Deeds.{SameOfEachHost}
+use Rattle.tally_book.specs.Rooms.{batches_in}
+use Rattle.tally_book.specs.declared.room.TheConstants.{MILLION, MOST_MILLIONS}
+use Rattle.tally_sessions.specs.declared.sessions.TheConstants.{HOST_LIMIT}
 use Rattle.tally_desk.specs.Passes.{HasDone, PassState, Stands}
 use Rattle.tally_cli.specs.inside.Deals.{AreCarriedOut}
 use Rattle.tally_cli.specs.inside.Failures.{IsLeast}
@@ -18,18 +21,18 @@ use Rattle.tally_cli.specs.declared.running.task.Task.{Task}
 use Rattle.tally_cli.specs.Runs.{Told, IsGood, records_told, IsFirstFault}
 use Rattle.tally_cli.specs.declared.running.gather.Cause.TheVariants as cause
 
--- the inputs have no fault, and the book has just their records, each under its number
-pub record AreRead (inputs : List Told) (b : Contents) : Type 0 where
-  pub good : All IsGood inputs
+-- the inputs have no fault where there is so much room, and the book has just their records, each under its number
+pub record AreRead (room : ℕ) (inputs : List Told) (b : Contents) : Type 0 where
+  pub good : All (IsGood room) inputs
   pub same : SameOfEachHost b.logins (login_entries (map records_told inputs)) b.procs (proc_entries (map records_told inputs))
 
 -- what a fault of reading shows of the sources
-abbrev pub IsReadCause : List Told → RunFault → Type 0
-IsReadCause inputs Memory = ⊤
-IsReadCause inputs (Callers count) = ⊤
-IsReadCause inputs (File host fault) = IsFirstFault inputs host fault
-IsReadCause inputs (Asker caller fault) = All IsGood inputs
-IsReadCause inputs Write = ⊥
+abbrev pub IsReadCause : ℕ → List Told → RunFault → Type 0
+IsReadCause room inputs Memory = ⊤
+IsReadCause room inputs (Callers count) = ⊤
+IsReadCause room inputs (File host fault) = IsFirstFault room inputs host fault
+IsReadCause room inputs (Asker caller fault) = All (IsGood room) inputs
+IsReadCause room inputs Write = ⊥
 
 -- the fault of a run in which a caller failed for this cause
 abbrev pub fault_from_cause : ℕ → Cause → RunFault
@@ -59,3 +62,7 @@ pub record AreWorkedThrough {I : Type 0} (to_come : I → Option (List ℕ)) (ca
   pub least : IsLeast tasks failure
   pub did : All (λ t. HasDone book t.pass) tasks
   pub stand : All (λ t. Stands book t.pass) tasks
+
+-- the most calls before a report: the full batches of both kinds, and of each caller one batch that is not full or the questions of an asker
+abbrev pub most_calls : ℕ
+most_calls = 2 * batches_in (MILLION * MOST_MILLIONS) + HOST_LIMIT * 17

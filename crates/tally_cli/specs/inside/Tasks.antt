@@ -3,6 +3,7 @@ use Rattle.std.specs.Prelude.{◌≡◌, ◌<◌, ◌∷◌, [], ℕ, Bool, List
 use Rattle.std.specs.List.{All, Contains}
 use Rattle.tally_book.specs.declared.question.Question.{Question}
 use Rattle.tally_book.specs.declared.question.Question.TheVariants as questions
+use Rattle.tally_book.specs.Rooms.{batches_in}
 use Rattle.tally_desk.specs.Feeds.{Counts, IsFeedRefusal, IsStopped, IsWhole, Posts, Stops}
 use Rattle.tally_desk.specs.Passes.{DeskState, Keeps, PassState}
 use Rattle.tally_desk.specs.Rounds.{AskStops, Asks, in_rounds}
@@ -44,12 +45,12 @@ HasFailed o = ⊥
 -- a feed that reached the end of its input
 pub record HasFed (told : Option (List ℕ)) (kind : Kind) (old new : PassState) (fed : Fed) : Type 0 where
   pub counted : (batches : List Records) × Posts old new batches × Counts kind batches fed
-  pub whole : (bytes : List ℕ) → told ≡ Some bytes → IsWhole kind bytes (Posts old new)
+  pub whole : (bytes : List ℕ) → told ≡ Some bytes → IsWhole (batches_in old.seen.room) kind bytes (Posts old new)
 
 -- a feed that was refused
 pub record FailedToFeed (told : Option (List ℕ)) (can_fail : Bool) (kind : Kind) (old new : PassState) (fault : FeedFault) : Type 0 where
-  pub posts : IsStopped kind (Posts old new) fault
-  pub stops : (bytes : List ℕ) → told ≡ Some bytes → Stops kind bytes (Posts old new) new.seen fault
+  pub posts : IsStopped (batches_in old.seen.room) kind (Posts old new) fault
+  pub stops : (bytes : List ℕ) → told ≡ Some bytes → Stops (batches_in old.seen.room) kind bytes (Posts old new) new.seen fault
   pub full : IsFeedRefusal kind new.seen fault
   pub read : fault ≡ Read → can_fail ≡ true
 

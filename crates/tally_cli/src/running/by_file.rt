@@ -6,7 +6,7 @@ ghost use Rattle.tally_cli.specs.Apart.{apart_of, by_file_text, file_table, file
 ghost use Rattle.tally_cli.specs.Output.{report_text};
 ghost use Rattle.tally_cli.specs.Runs.{failed_writes};
 ghost use Rattle.tally_cli.specs.inside.Parts.{HasPart, part_alone, part_text};
-ghost use Rattle.tally_cli.specs.inside.RunSteps.{IsPrintFault};
+ghost use Rattle.tally_cli.specs.inside.RunSteps.{IsPrintFault, most_calls};
 ghost use Rattle.tally_line.specs.Jobs.{IsRunnable};
 ghost use Rattle.tally_line.specs.declared.job.Report.TheVariants as reports;
 ghost use Rattle.tally_print.specs.Output.{IsWritable, Prints, failed_calls};
@@ -106,7 +106,7 @@ fn print_all<R: Threads + Sync, O: Output>(
     requires hosts { length kinds.now ≤ book.old.callers }
     requires few { book.old.callers ≤ HOST_LIMIT }
     requires some { 0 < book.old.callers }
-    requires calls { length book.old.calls ≤ 4224 }
+    requires calls { length book.old.calls ≤ most_calls }
     requires clock { book.old.clock ≡ clock.now }
     requires writable { IsWritable (O.state out.old) }
     ensures writes { Prints (O.state out.old) (O.state out.new) result (failed_writes result)
@@ -140,7 +140,7 @@ fn print_by_file<R: Threads + Sync, O: Output>(
     requires hosts { length kinds.now ≤ book.old.callers }
     requires few { book.old.callers ≤ HOST_LIMIT }
     requires some { 0 < book.old.callers }
-    requires calls { length book.old.calls ≤ 4224 }
+    requires calls { length book.old.calls ≤ most_calls }
     requires clock { book.old.clock ≡ clock.now }
     requires writable { IsWritable (O.state out.old) }
     ensures writes { Prints (O.state out.old) (O.state out.new) result (failed_writes result)
@@ -168,7 +168,7 @@ pub(crate) fn print_files_of<R: Threads + Sync, O: Output>(
     requires hosts { length kinds.now ≤ book.callers }
     requires few { book.callers ≤ HOST_LIMIT }
     requires some { 0 < book.callers }
-    requires calls { length book.calls ≤ 4224 }
+    requires calls { length book.calls ≤ most_calls }
     requires clock { book.clock ≡ clock.now }
     requires writable { IsWritable (O.state out.old) }
     ensures writes { Prints (O.state out.old) (O.state out.new) result (failed_writes result)

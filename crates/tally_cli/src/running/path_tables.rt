@@ -6,7 +6,7 @@ ghost use Rattle.tally_cli.specs.Apart.{apart_of, path_csv_of};
 ghost use Rattle.tally_cli.specs.Output.{answers_of, table_of};
 ghost use Rattle.tally_cli.specs.Runs.{failed_writes};
 ghost use Rattle.tally_cli.specs.inside.Paths.{section_text};
-ghost use Rattle.tally_cli.specs.inside.RunSteps.{IsPrintFault};
+ghost use Rattle.tally_cli.specs.inside.RunSteps.{IsPrintFault, most_calls};
 ghost use Rattle.tally_line.specs.Jobs.{IsRunnable};
 ghost use Rattle.tally_print.specs.AttemptSections.{attempt_answers};
 ghost use Rattle.tally_print.specs.Output.{IsWritable, Prints, failed_calls};
@@ -127,7 +127,7 @@ pub(crate) fn print_paths_of<R: Threads + Sync, O: Output>(
     requires hosts { length kinds.now ≤ book.callers }
     requires few { book.callers ≤ HOST_LIMIT }
     requires some { 0 < book.callers }
-    requires calls { length book.calls ≤ 4224 }
+    requires calls { length book.calls ≤ most_calls }
     requires clock { book.clock ≡ clock.now }
     requires writable { IsWritable (O.state out.old) }
     ensures writes { Prints (O.state out.old) (O.state out.new) result (failed_writes result)

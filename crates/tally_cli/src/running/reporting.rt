@@ -5,7 +5,7 @@ ghost use Rattle.tally_book.specs.Answers.{HasDays, answer_of};
 ghost use Rattle.tally_cli.specs.Apart.{apart_of, apart_text};
 ghost use Rattle.tally_cli.specs.Output.{form_text, questions_of, report_text};
 ghost use Rattle.tally_cli.specs.Runs.{failed_writes};
-ghost use Rattle.tally_cli.specs.inside.RunSteps.{IsPrintFault};
+ghost use Rattle.tally_cli.specs.inside.RunSteps.{IsPrintFault, most_calls};
 ghost use Rattle.tally_line.specs.Jobs.{IsRunnable};
 ghost use Rattle.tally_line.specs.declared.job.Report.TheVariants as reports;
 ghost use Rattle.tally_print.specs.Output.{IsWritable, Prints, failed_calls};
@@ -67,7 +67,7 @@ pub(crate) fn answers_in<R: Threads + Sync>(
     requires hosts { length kinds.now ≤ book.old.callers }
     requires few { book.old.callers ≤ HOST_LIMIT }
     requires some { 0 < book.old.callers }
-    requires calls { length book.old.calls ≤ 4224 }
+    requires calls { length book.old.calls ≤ most_calls }
     ensures value { IfOk result (λ answers. answers.items ≡ map (λ q. answer_of book.old.clock q book.old.logins book.old.procs)
         (questions_of job.now.report job.now.offset kinds.now job.now.until)) }
     ensures days { IfOk result (λ answers. All HasDays answers.items) }
@@ -89,7 +89,7 @@ fn answers_of<R: Threads + Sync>(
     requires hosts { length kinds.now ≤ book.callers }
     requires few { book.callers ≤ HOST_LIMIT }
     requires some { 0 < book.callers }
-    requires calls { length book.calls ≤ 4224 }
+    requires calls { length book.calls ≤ most_calls }
     ensures value { IfOk result (λ answers. answers.items ≡ map (λ q. answer_of book.clock q book.logins book.procs)
         (questions_of job.now.report job.now.offset kinds.now job.now.until)) }
     ensures days { IfOk result (λ answers. All HasDays answers.items) }
@@ -109,7 +109,7 @@ fn sections_in<R: Threads + Sync>(
     requires hosts { length kinds.now ≤ book.old.callers }
     requires few { book.old.callers ≤ HOST_LIMIT }
     requires some { 0 < book.old.callers }
-    requires calls { length book.old.calls ≤ 4224 }
+    requires calls { length book.old.calls ≤ most_calls }
     ensures callers { OnOk result (book.new.callers ≡ book.old.callers) }
     ensures logins { OnOk result (book.new.logins ≡ book.old.logins) }
     ensures value { IfOk result (λ sections. map (answer_in book.old.logins) sections.items
@@ -134,7 +134,7 @@ pub(crate) fn sections_of<R: Threads + Sync>(
     requires hosts { length kinds.now ≤ book.callers }
     requires few { book.callers ≤ HOST_LIMIT }
     requires some { 0 < book.callers }
-    requires calls { length book.calls ≤ 4224 }
+    requires calls { length book.calls ≤ most_calls }
     ensures value { IfOk result (λ r. map (answer_in r.1.entries) r.0.items
         ≡ map (λ q. answer_of book.clock q book.logins book.procs) (questions_of job.now.report job.now.offset kinds.now job.now.until)) }
     ensures hosts { IfOk result (λ r. All (NamesHostBelow r.1.hosts) r.0.items) }
@@ -216,7 +216,7 @@ fn print_answers_of<R: Threads + Sync, O: Output>(
     requires hosts { length kinds.now ≤ book.callers }
     requires few { book.callers ≤ HOST_LIMIT }
     requires some { 0 < book.callers }
-    requires calls { length book.calls ≤ 4224 }
+    requires calls { length book.calls ≤ most_calls }
     requires clock { book.clock ≡ clock.now }
     requires writable { IsWritable (O.state out.old) }
     ensures writes { Prints (O.state out.old) (O.state out.new) result (failed_writes result)
@@ -249,7 +249,7 @@ pub(crate) fn report<R: Threads + Sync, O: Output>(
     requires hosts { length kinds.now ≤ book.callers }
     requires few { book.callers ≤ HOST_LIMIT }
     requires some { 0 < book.callers }
-    requires calls { length book.calls ≤ 4224 }
+    requires calls { length book.calls ≤ most_calls }
     requires clock { book.clock ≡ clock.now }
     requires writable { IsWritable (O.state out.old) }
     ensures writes { Prints (O.state out.old) (O.state out.new) result (failed_writes result)

@@ -1,11 +1,12 @@
-use Rattle.std.proofs.Common.{◌∙◌, ℕ, ap, arith, subst, sym}
+use Rattle.std.proofs.Common.{◌≡◌, ◌∙◌, ◌<◌, ℕ, ap, arith, length, subst, sym}
+use Rattle.std.specs.List.{All}
 use Rattle.tally_desk.specs.Passes.{PassState}
-use Rattle.tally_cli.proofs.Ended.{ended_of, few, good_all, same_clock, same_hosts}
+use Rattle.tally_cli.proofs.Ended.{ended_of, few, good_all, room_at, same_clock, same_hosts}
 use Rattle.tally_cli.proofs.Failing.{allowed, can_fail_at, cause_is, full_list, named}
 use Rattle.tally_cli.proofs.FirstPasses.{are_first}
 use Rattle.tally_cli.proofs.Outcomes.{IsBefore}
-use Rattle.tally_cli.specs.Runs.{IsAllowed, IsFullList, IsNamed}
-use Rattle.tally_cli.specs.inside.RunSteps.{IsReadCause}
+use Rattle.tally_cli.specs.Runs.{IsAllowed, IsFullList, IsGood, IsNamed, room_of}
+use Rattle.tally_cli.specs.inside.RunSteps.{IsReadCause, run_fault}
 use Rattle.tally_cli.proofs.running.feed_all.Goals as goal
 
 pub work_through-requires-clause-callers : goal.work_through-requires-clause-callers
@@ -25,15 +26,18 @@ pub returns-in-None-clause-whole : goal.returns-in-None-clause-whole
 returns-in-None-clause-whole g c = λ inputs tell.
     let opened = c.in_ok-desk.ensures.opened in
     let book = c.in_ok-book.ensures in
-    let ended = ended_of c.in_ok-desk.desk.id c.args.clock.now _ c.in_ok-desk.passes.items opened.1 (book.callers ∙ opened.0) (omega (arith, c.requires.callers)) book.legal (c.entries_are_posts.ensures c.in_ok-book.book book.legal) book.worked in
+    let ended = ended_of c.in_ok-desk.desk.id c.args.clock.now _ _ c.in_ok-desk.passes.items opened.1 (book.callers ∙ opened.0) (omega (arith, c.requires.callers)) book.legal (c.entries_are_posts.ensures c.in_ok-book.book book.legal) book.worked in
     let before : (k : ℕ) → IsBefore k c.in_ok-book.failure = λ k. subst (IsBefore k) (sym c.in-None.is) tt in
-    record { good = good_all ended inputs tell before; same = same_hosts ended inputs tell before }
+    let first = are_first _ _ _ opened.1 in
+    let near : 0 < length c.in_ok-desk.passes.items = omega (arith, first.count, opened.0, c.requires.some) in
+    let room : c.in_ok-book.book.room ≡ room_of c.args.job.now = room_at ended 0 near ∙ ap (λ (p : PassState). p.seen.room) (first.each 0 _ near) ∙ c.room_for.ensures in
+    record { good = subst (λ room. All (IsGood room) inputs) room (good_all ended inputs tell before); same = same_hosts ended inputs tell before }
 
 pub returns-in-None-clause-clock : goal.returns-in-None-clause-clock
 returns-in-None-clause-clock g c =
     let opened = c.in_ok-desk.ensures.opened in
     let book = c.in_ok-book.ensures in
-    let ended = ended_of c.in_ok-desk.desk.id c.args.clock.now _ c.in_ok-desk.passes.items opened.1 (book.callers ∙ opened.0) (omega (arith, c.requires.callers)) book.legal (c.entries_are_posts.ensures c.in_ok-book.book book.legal) book.worked in
+    let ended = ended_of c.in_ok-desk.desk.id c.args.clock.now _ _ c.in_ok-desk.passes.items opened.1 (book.callers ∙ opened.0) (omega (arith, c.requires.callers)) book.legal (c.entries_are_posts.ensures c.in_ok-book.book book.legal) book.worked in
     let first = are_first _ _ _ opened.1 in
     same_clock ended (omega (arith, book.callers, opened.0, c.requires.some)) ∙ ap (λ (p : PassState). p.seen.clock) (first.each 0 _ (omega (arith, first.count, opened.0, c.requires.some)))
 
@@ -41,15 +45,18 @@ pub returns-in-None-clause-calls : goal.returns-in-None-clause-calls
 returns-in-None-clause-calls g c =
     let opened = c.in_ok-desk.ensures.opened in
     let book = c.in_ok-book.ensures in
-    few (ended_of c.in_ok-desk.desk.id c.args.clock.now _ c.in_ok-desk.passes.items opened.1 (book.callers ∙ opened.0) (omega (arith, c.requires.callers)) book.legal (c.entries_are_posts.ensures c.in_ok-book.book book.legal) book.worked)
+    few (ended_of c.in_ok-desk.desk.id c.args.clock.now _ _ c.in_ok-desk.passes.items opened.1 (book.callers ∙ opened.0) (omega (arith, c.requires.callers)) book.legal (c.entries_are_posts.ensures c.in_ok-book.book book.legal) book.worked)
 
 pub returns-in-Some : goal.returns-in-Some
 returns-in-Some g c =
     let opened = c.in_ok-desk.ensures.opened in
     let book = c.in_ok-book.ensures in
     let passes = c.in_ok-desk.passes.items in
-    let ended = ended_of c.in_ok-desk.desk.id c.args.clock.now _ passes opened.1 (book.callers ∙ opened.0) (omega (arith, c.requires.callers)) book.legal (c.entries_are_posts.ensures c.in_ok-book.book book.legal) book.worked in
-    let count = (are_first _ _ _ opened.1).count in
+    let ended = ended_of c.in_ok-desk.desk.id c.args.clock.now _ _ passes opened.1 (book.callers ∙ opened.0) (omega (arith, c.requires.callers)) book.legal (c.entries_are_posts.ensures c.in_ok-book.book book.legal) book.worked in
+    let first = are_first _ _ _ opened.1 in
+    let count = first.count in
+    let near : 0 < length passes = omega (arith, count, opened.0, c.requires.some) in
+    let room : c.in_ok-book.book.room ≡ room_of c.args.job.now = room_at ended 0 near ∙ ap (λ (p : PassState). p.seen.room) (first.each 0 _ near) ∙ c.room_for.ensures in
     let value = c.fault_of.ensures.value in
     let failure = c.in-Some.failure in
     let is = c.in-Some.is in
@@ -58,10 +65,10 @@ returns-in-Some g c =
       callers = tt;
       clock = tt;
       calls = tt;
-      cause = λ inputs tell. subst (IsReadCause inputs) (sym value) (cause_is ended failure is inputs tell);
+      cause = λ inputs tell. subst (IsReadCause _ inputs) (sym value) (subst (λ room. IsReadCause room inputs (run_fault failure)) room (cause_is ended failure is inputs tell));
       allowed = subst (IsAllowed _) (sym value) (allowed ended failure is _);
       named = subst (IsNamed _ _) (sym value) (named ended failure is _ (omega (arith, count, c.requires.callers)));
-      full = subst (IsFullList c.args.sources.items) (sym value) (full_list ended failure is);
+      full = subst (IsFullList _ c.args.sources.items) (sym value) (subst (λ room. IsFullList room c.args.sources.items (run_fault failure)) room (full_list ended failure is));
       unprinted = c.fault_of.ensures.unprinted;
       read = λ host told s. can_fail_at ended failure is host (sym value ∙ told) s;
     }
