@@ -9,7 +9,7 @@ use Rattle.tally_desk.specs.declared.fault.CountFault.TheVariants as count
 use Rattle.tally_desk.specs.declared.fault.FeedFault.{FeedFault}
 use Rattle.tally_desk.specs.declared.fault.FeedFault.TheVariants as feed
 use Rattle.tally.specs.declared.subject.Cause.{Cause}
-use Rattle.tally.specs.declared.subject.Cause.TheVariants.{Content, Reading}
+use Rattle.tally.specs.declared.subject.Cause.TheVariants.{Content, Reading, Room}
 use Rattle.tally.specs.declared.subject.Subject.{Subject}
 
 -- why a file was not read to its end, where a hint helps
@@ -17,6 +17,9 @@ abbrev pub feed_cause : FeedFault → Option Cause
 feed_cause (feed.Torn records rest) = Some Content
 feed_cause (feed.Bad at fault) = Some Content
 feed_cause feed.Read = Some Reading
+feed_cause (feed.TooLong limit) = Some Room
+feed_cause (feed.LoginsFull stored) = Some Room
+feed_cause (feed.ProcsFull stored) = Some Room
 feed_cause fault = None
 
 -- the same of a file that was counted

@@ -12,6 +12,9 @@ use tally_check_text::Origin;
 use tally_terminal::{Followed, Progress};
 use tally_wtmpdb::{DatabaseFault, logins_in};
 
+/// The most login records of a database that are checked, as many as of a file.
+const RECORD_LIMIT: usize = 1_048_576;
+
 /// Where the records that were checked come from.
 #[derive(Drop)]
 pub(crate) enum Records {
@@ -107,7 +110,7 @@ where
     R::File: Drop,
     R::Reader: Drop,
 {
-    match logins_in(rt, rt.alloc(), path) {
+    match logins_in(rt, rt.alloc(), path, RECORD_LIMIT) {
         Ok(Some(records)) => Ok(Checked {
             records: Records::Made,
             findings: findings_made(rt, keys, path, records)?,

@@ -2,10 +2,11 @@
 
 use crate::faults::not_opened;
 use crate::looking::{about_unread, looks_of};
+use crate::room::wider_room;
 use crate::subject::{Cause, Subject};
 use std::process::ExitCode;
 use std::rt::Files;
-use tally_cli::{FileArg, Report};
+use tally_cli::{FileArg, Job, Report};
 use tally_kinds::Looks;
 use tally_terminal::{About, ErrorsTo, FileHint, Shown, about_looks};
 
@@ -31,7 +32,29 @@ where
     match cause {
         Cause::Content => about_looks(report, file.kind, looks_of(rt, path)?),
         Cause::Reading => about_unread(rt, path),
+        Cause::Room => None,
     }
+}
+
+/// Prints a hint on a file that was not read to its end: on what it looks like, or on the room for its records.
+fn hint_cause<R: Files + Eprint + AllocGlobal>(
+    rt: &R,
+    to: ErrorsTo,
+    job: &Job,
+    files: &[FileArg],
+    file: &FileArg,
+    cause: Cause,
+)
+where
+    R::File: Drop,
+{
+    if let Cause::Room = cause {
+        if let Some(wider) = wider_room(rt, job.millions, file.kind, files) {
+            let _ = eprintln!(rt; "hint: {wider}");
+        }
+    }
+    let about = about_file(rt, &job.report, file, cause);
+    hint(rt, Shown::new(file.path.as_str(), to), about);
 }
 
 /// Prints a hint on the file of a fault, where there is one. It stays apart, so that a run needs no stack for it.
@@ -39,7 +62,7 @@ where
 pub(crate) fn hint_on<R: Files + Eprint + AllocGlobal>(
     rt: &R,
     to: ErrorsTo,
-    report: &Report,
+    job: &Job,
     files: &[FileArg],
     subject: Option<Subject>,
 )
@@ -50,8 +73,7 @@ where
         return;
     };
     if let Some(file) = files.get(subject.host as usize) {
-        let about = about_file(rt, report, file, subject.cause);
-        hint(rt, Shown::new(file.path.as_str(), to), about);
+        hint_cause(rt, to, job, files, file, subject.cause);
     }
 }
 

@@ -22,7 +22,7 @@ fn look_at<F: Read + Drop>(alloc: Global, file: F, size: u64) -> Option<Looks>
 }
 
 /// The size of the file of a path. A pipe, a device and standard input are not looked at.
-fn size_of<R: Files>(rt: &R, path: &str) -> Option<u64> {
+pub(crate) fn size_of<R: Files>(rt: &R, path: &str) -> Option<u64> {
     let found = fs::metadata(rt, path).ok()?;
     if !found.is_file() || path == STANDARD_INPUT {
         return None;

@@ -13,6 +13,7 @@ mod now;
 mod opened;
 mod program;
 mod reporting;
+mod room;
 mod running;
 mod subject;
 mod users;

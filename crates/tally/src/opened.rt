@@ -121,19 +121,21 @@ where
     }
 }
 
-/// What is read of the file of a path, where it is to have records of this kind: a database has login records.
+/// What is read of the file of a path, where it is to have records of this kind: a database has login records, and is refused where it
+/// has more than `most`.
 fn open_as<'a, R: Files + Input>(
     rt: &R,
     alloc: Global,
     kind: Kind,
     path: &'a str,
+    most: usize,
 ) -> Result<Opened<R::File, R::Reader>, OpenFault<'a>>
 where
     R::File: Drop,
     ensures { IfErr result (NamesPath path.now) }
 {
     if kind == Kind::Login {
-        match logins_in(rt, alloc, path) {
+        match logins_in(rt, alloc, path, most) {
             Ok(Some(records)) => return Ok(Opened::Made(Cursor::new(records))),
             Ok(None) => {}
             Err(found) => return Err(OpenFault::Database(path, found)),
@@ -151,6 +153,7 @@ fn source_of<'a, R: Files + Input + Clock + Eprint>(
     alloc: Global,
     progress: &Progress<'a, R>,
     file: &'a FileArg,
+    most: usize,
 ) -> Result<Source<FileReading<'a, R, R::File, R::Reader>>, OpenFault<'a>>
 where
     R::File: Drop,
@@ -159,7 +162,7 @@ where
     ensures fault { IfErr result (NamesPath (string_bytes file.now.path)) }
 {
     let path = file.path.as_str();
-    let opened = open_as(rt, alloc, file.kind, path)?;
+    let opened = open_as(rt, alloc, file.kind, path, most)?;
     let followed = Followed::new(opened, progress, Some(file.kind), path);
     Ok(Source {
         kind: file.kind,
@@ -167,13 +170,14 @@ where
     })
 }
 
-/// Opens the files in order, up to the first that cannot be opened. It stays apart, so that a run needs no stack for it.
+/// Opens the files in order, up to the first that cannot be opened or is a database of more than `most` login records. It stays apart, so that a run needs no stack for it.
 #[inline(never)]
 pub(crate) fn open_all<'a, R: Files + Input + Clock + Eprint>(
     rt: &R,
     alloc: Global,
     progress: &Progress<'a, R>,
     files: &'a [FileArg],
+    most: usize,
 ) -> Result<Sources<'a, R, R::File, R::Reader>, OpenFault<'a>>
 where
     R::File: Drop,
@@ -184,7 +188,7 @@ where
 {
     let mut sources = Vec::new(alloc);
     for at in 0..files.len() {
-        let source = source_of(rt, alloc, progress, &files[at])?;
+        let source = source_of(rt, alloc, progress, &files[at], most)?;
         sources.push(source)?;
     }
     Ok(sources)

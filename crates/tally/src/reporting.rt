@@ -6,6 +6,7 @@ use crate::defaults::default_files;
 use crate::faults::{FAULT, database_fault, fault, not_opened};
 use crate::hints::hinted_not_opened;
 use crate::opened::{OpenFault, ROOT, hold_closed_streams, open_all};
+use crate::room::records_of;
 use crate::running::run_over;
 use std::hash::RandomState;
 use std::os::fd::AsRawFd;
@@ -36,7 +37,7 @@ where
     requires { IsRunnable job.now }
 {
     let progress = Progress::new(rt, to);
-    let sources = match open_all(rt, rt.alloc(), &progress, files) {
+    let sources = match open_all(rt, rt.alloc(), &progress, files, records_of(job)) {
         Ok(sources) => sources,
         Err(OpenFault::Memory) => return fault(rt, FAULT, Memory),
         Err(OpenFault::NotOpened(path)) => return hinted_not_opened(rt, to, path),

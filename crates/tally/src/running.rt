@@ -51,7 +51,7 @@ where
         Err(found) => {
             let subject = usage_subject(&found);
             let status = usage_fault(rt, to, files, found, out.writer().is_reader_gone());
-            hint_on(rt, to, &job.report, files, subject);
+            hint_on(rt, to, job, files, subject);
             status
         }
     }
@@ -91,7 +91,7 @@ where
         Err(found) => {
             let subject = run_subject(&found);
             let status = run_fault(rt, to, files, found, out.writer().is_reader_gone());
-            hint_on(rt, to, &job.report, files, subject);
+            hint_on(rt, to, job, files, subject);
             status
         }
     }

@@ -12,6 +12,8 @@ pub(crate) enum Cause {
     Content,
     /// A read failed.
     Reading,
+    /// It has more records than the run takes, by itself or with the others.
+    Room,
 }
 
 /// The file that a hint is on, by its number from 0, and why.
@@ -27,6 +29,9 @@ fn feed_cause(found: &FeedFault) -> Option<Cause>
     match found {
         FeedFault::Bad { .. } | FeedFault::Torn { .. } => Some(Cause::Content),
         FeedFault::Read => Some(Cause::Reading),
+        FeedFault::TooLong { .. } | FeedFault::LoginsFull { .. } | FeedFault::ProcsFull { .. } => {
+            Some(Cause::Room)
+        }
         _ => None,
     }
 }
