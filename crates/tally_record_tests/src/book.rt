@@ -7,7 +7,8 @@ use std::alloc::Global;
 use std::hash::RandomState;
 use std::process::Abort;
 use std::random::RandomSource;
-use tally_book::{AskFault, Book, Counts, PostFault, Question, Receipt, Served};
+use tally_book::{AskFault, Book, Counts, PostFault, Question, Receipt, Room, Served};
+use tally_clock::Clock;
 use tally_records::{Batch, EVERY_LOGIN};
 
 /// Posts as a caller, of which the book has some.
@@ -63,15 +64,17 @@ struct Limits {
     asked: Option<AskFault>,
 }
 
-/// The limits of a new book that is filled with the batch.
+/// The limits of a new book of so much room that is filled with the batch.
 fn limits_of<R: Abort + AllocGlobal + RandomSource>(
     rt: &R,
+    room: Room,
     batch: &Batch,
     empty: &Batch,
 ) -> Limits {
     let alloc = rt.alloc();
     let keys = RandomState::new(rt).expect(rt, "random bytes");
-    let mut book = Book::new(alloc, keys, 1).expect(rt, "a book");
+    let clock = Clock::utc(alloc);
+    let mut book = Book::with_room(alloc, keys, clock, room, 1).expect(rt, "a book");
     let refused = filled(&mut book, batch);
     let then = post(&mut book, 0, empty);
     let calls = book.calls().len();
@@ -90,13 +93,14 @@ fn expect_full<R: Abort + AllocGlobal + RandomSource>(
     rt: &R,
     batch: &Batch,
     empty: &Batch,
+    room: Room,
     fault: PostFault,
     stored: Counts,
 ) {
-    let Limits { refused, then, .. } = limits_of(rt, batch, empty);
+    let Limits { refused, then, .. } = limits_of(rt, room, batch, empty);
     expect_equal(rt, &refused, &Some(fault));
     let receipt = then.expect(rt, "a receipt");
-    expect_equal(rt, &receipt.call, &1025);
+    expect_equal(rt, &receipt.call, &(u64::from(room.batches()) + 1));
     expect_equal(rt, &receipt.after, &stored);
 }
 
@@ -114,7 +118,8 @@ fn a_book_full_of_login_records_takes_an_empty_batch_alone(rt: HostRuntime) {
     let batch = logins_of(rt, 393_216);
     let empty = logins_of(rt, 0);
     let fault = PostFault::LoginsFull { stored: 1_048_576 };
-    expect_full(rt, &batch, &empty, fault, counts(1_048_576, 0));
+    let room = Room::usual();
+    expect_full(rt, &batch, &empty, room, fault, counts(1_048_576, 0));
     drop(empty);
     drop(batch);
 }
@@ -133,16 +138,42 @@ fn a_book_full_of_process_records_takes_an_empty_batch_alone(rt: HostRuntime) {
     let batch = procs_of(rt, 65_536);
     let empty = procs_of(rt, 0);
     let fault = PostFault::ProcsFull { stored: 1_048_576 };
-    expect_full(rt, &batch, &empty, fault, counts(0, 1_048_576));
+    let room = Room::usual();
+    expect_full(rt, &batch, &empty, room, fault, counts(0, 1_048_576));
     drop(empty);
     drop(batch);
+}
+
+#[test]
+fn a_book_with_room_for_two_millions_takes_as_many(rt: HostRuntime) {
+    let rt = &rt;
+    let batch = procs_of(rt, 65_536);
+    let empty = procs_of(rt, 0);
+    let room = Room::of_millions(2).expect(rt, "room for two millions");
+    let fault = PostFault::ProcsFull { stored: 2_097_152 };
+    expect_full(rt, &batch, &empty, room, fault, counts(0, 2_097_152));
+    drop(empty);
+    drop(batch);
+}
+
+#[test]
+fn no_room_has_none_or_17_millions(rt: HostRuntime) {
+    for (millions, records) in [
+        (0, None),
+        (1, Some(1_048_576)),
+        (16, Some(16_777_216)),
+        (17, None),
+    ] {
+        let room = Room::of_millions(millions).map(|room| room.records());
+        expect_equal(&rt, &room, &records);
+    }
 }
 
 #[test]
 fn a_history_holds_65536_calls(rt: HostRuntime) {
     let rt = &rt;
     let empty = procs_of(rt, 0);
-    let full = limits_of(rt, &empty, &empty);
+    let full = limits_of(rt, Room::usual(), &empty, &empty);
     drop(empty);
     expect_equal(rt, &full.refused, &Some(PostFault::CallsFull));
     expect_equal(rt, &full.calls, &65_536);

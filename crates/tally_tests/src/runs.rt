@@ -18,6 +18,7 @@ use tally_records::Kind;
 const JOB: Job = Job {
     report: Report::All,
     form: Form::Text,
+    millions: 1,
     feeders: 2,
     askers: 1,
     offset: 0,

@@ -1,13 +1,14 @@
 //! Feeds of inputs in memory.
 ghost use Rattle.std.specs.Prelude.{◌-◌, ◌^◌, ◌<◌};
 
-use crate::desk::makers::{Turns, Zeros, closed_with, opened, twos};
+use crate::desk::makers::{Turns, Zeros, closed_with, opened, opened_with_room, twos};
 use crate::equal::expect_equal;
 use std::alloc::Global;
 use std::process::Abort;
 use std::random::RandomSource;
 use std::sync::Wait;
 use std::sync::atomic::{AtomicU64, Ordering};
+use tally_book::Room;
 use tally_desk::{Bytes, Fed, FeedFault, Input, OpenGate, feed};
 use tally_records::{Kind, RecordFault};
 
@@ -115,8 +116,28 @@ fn wherever_a_record_is_torn_nothing_is_posted(rt: HostRuntime) {
 
 #[test]
 fn endless_zeros_are_the_most_login_records(rt: HostRuntime) {
-    let want = Err(FeedFault::TooLong);
+    let want = Err(FeedFault::TooLong { limit: 1_048_576 });
     expect_fed(&rt, rt.alloc(), Kind::Login, Zeros, want, 1_048_576);
+}
+
+#[test]
+fn a_desk_with_room_for_two_millions_takes_as_many_of_an_input(rt: HostRuntime) {
+    let rt = &rt;
+    let alloc = rt.alloc();
+    let room = Room::of_millions(2).expect(rt, "room for two millions");
+    let (desk, mut pass) = opened_with_room(rt, alloc, room);
+    let outcome = feed(
+        rt,
+        alloc,
+        &desk,
+        &mut pass,
+        Kind::Login,
+        &mut Zeros,
+        &OpenGate,
+    );
+    let [logins, _, _] = closed_with(rt, alloc, desk, pass);
+    expect_equal(rt, &outcome, &Err(FeedFault::TooLong { limit: 2_097_152 }));
+    expect_equal(rt, &logins, &2_097_152);
 }
 
 #[test]

@@ -9,7 +9,8 @@ use std::process::Abort;
 use std::random::RandomSource;
 use std::sync::atomic::{AtomicU64, Ordering};
 use std::{io, thread};
-use tally_book::Book;
+use tally_book::{Book, Room};
+use tally_clock::Clock;
 use tally_desk::{Desk, Gate, Input, InputFault, Pass};
 use tally_records::Batch;
 
@@ -23,6 +24,24 @@ pub(crate) fn opened<R: Abort + RandomSource>(rt: &R, alloc: Global) -> (Desk, P
     ensures { result.1.desk ≡ result.0.id }
 {
     let (desk, mut passes) = Desk::open(alloc, new_keys(rt), 1).expect(rt, "a desk of one caller");
+    let Some(pass) = passes.pop() else {
+        unreachable!()
+    };
+    drop(passes);
+    (desk, pass)
+}
+
+/// The same with so much room.
+pub(crate) fn opened_with_room<R: Abort + RandomSource>(
+    rt: &R,
+    alloc: Global,
+    room: Room,
+) -> (Desk, Pass)
+    ensures { result.1.desk ≡ result.0.id }
+{
+    let clock = Clock::utc(alloc);
+    let opened = Desk::open_with_room(alloc, new_keys(rt), clock, room, 1);
+    let (desk, mut passes) = opened.expect(rt, "a desk of one caller");
     let Some(pass) = passes.pop() else {
         unreachable!()
     };

@@ -121,6 +121,6 @@ fn endless_interrupts_are_a_failed_read(rt: HostRuntime) {
 #[test]
 fn a_record_past_the_limit_is_too_long(rt: HostRuntime) {
     let reader = steady(65_536, 67_108_928);
-    let want = Err(FeedFault::TooLong);
+    let want = Err(FeedFault::TooLong { limit: 1_048_576 });
     expect_read(&rt, rt.alloc(), reader, want, 1_048_576);
 }

@@ -108,6 +108,7 @@ file,user,line,remote,start,start_at,begin,end,end_time,end_at,seconds,within
     let job = Job {
         report,
         form: Form::Csv,
+        millions: 1,
         feeders: 4,
         askers: 2,
         offset: 0,

@@ -101,6 +101,7 @@ impl Numbers {
         Job {
             report: Report::Users { order, reverse },
             form: self.form(),
+            millions: 1,
             feeders: 1 + self.below(7),
             askers: 0,
             offset: 0,
@@ -122,6 +123,7 @@ impl Numbers {
                 all,
             },
             form: self.form(),
+            millions: 1,
             feeders: 1 + self.below(7),
             askers: 0,
             offset: 0,

@@ -40,7 +40,7 @@ fn last_may_be_limited(rt: HostRuntime) {
         ("last f", Wanted::Last(None)),
         ("last -n 1 f", Wanted::Last(Some(1))),
         ("last f -n 2", Wanted::Last(Some(2))),
-        ("last -n 1048576 f", Wanted::Last(Some(1_048_576))),
+        ("last -n 16777216 f", Wanted::Last(Some(16_777_216))),
     ];
     expect_each(&rt, &rows);
 }
@@ -81,6 +81,41 @@ fn feeders_askers_and_the_offset_are_set(rt: HostRuntime) {
 }
 
 #[test]
+fn records_are_taken_by_the_million(rt: HostRuntime) {
+    let rows = [
+        ("last f", Wanted::Millions(1)),
+        ("last --millions 16 f", Wanted::Millions(16)),
+        ("lastb f --millions=2", Wanted::Millions(2)),
+        ("ac --millions 1 -dp f", Wanted::Millions(1)),
+        ("ac --feeders 3 f", Wanted::Millions(1)),
+        ("all --millions 4 --feeders 2 w:f", Wanted::Millions(4)),
+        ("all p:f", Wanted::Millions(1)),
+        ("sa f", Wanted::Millions(1)),
+        ("sa -m f", Wanted::Millions(1)),
+    ];
+    expect_each(&rt, &rows);
+}
+
+#[test]
+fn other_millions_are_refused(rt: HostRuntime) {
+    let lines = "\
+last --millions 0 f
+last --millions 17 f
+lastb --millions many f
+ac --millions -1 f
+ac --millions=-16 f
+ac --millions 1.5 f
+ac --millions 1048576 f
+last --millions
+last --millions 1 --millions 2 f
+all --millions 32 w:f
+sa --millions 2 f
+sa --millions 1 f
+check --millions 2 f";
+    expect_all(&rt, lines, Wanted::Usage);
+}
+
+#[test]
 fn other_words_are_refused(rt: HostRuntime) {
     let lines = "\
 x
@@ -94,7 +129,7 @@ ac --east 1440 f
 ac --east -1 f
 --east 1 ac f
 last -n 0 f
-last -n 1048577 f
+last -n 16777217 f
 last -n x f
 last --feeders 0 f
 last --feeders 65 f

@@ -32,6 +32,7 @@ pub(crate) fn text_job(report: Report, feeders: u32, askers: u32) -> Job
     Job {
         report,
         form: Form::Text,
+        millions: 1,
         feeders,
         askers,
         offset: 0,

@@ -37,6 +37,8 @@ pub(crate) enum Wanted<'a> {
     Until(Report, Moment),
     /// All reports by so many feeders and askers, at an offset.
     All(u32, u32, i32),
+    /// Any report of up to so many times 1,048,576 records.
+    Millions(u32),
     /// Any report as a table.
     Csv,
     /// Any report that tells its files apart so.
@@ -69,6 +71,7 @@ fn plain(report: Report) -> Job {
     Job {
         report,
         form: Form::Text,
+        millions: 1,
         feeders: 4,
         askers: 0,
         offset: 0,
@@ -155,6 +158,7 @@ fn is_run(
     wanted: Wanted<'_>,
 ) -> bool {
     match wanted {
+        Wanted::Millions(millions) => job.millions == millions,
         Wanted::Csv => job.form == Form::Csv,
         Wanted::Apart(asked) => apart == asked,
         Wanted::Zone(word) => is_zone(zone, word),

@@ -14,7 +14,7 @@ fn lastb_lists_and_counts_failed_logins(rt: HostRuntime) {
         ("lastb", Wanted::Attempts(None)),
         ("lastb f", Wanted::Attempts(None)),
         ("lastb -n 1 f", Wanted::Attempts(Some(1))),
-        ("lastb f -n 1048576", Wanted::Attempts(Some(1_048_576))),
+        ("lastb f -n 16777216", Wanted::Attempts(Some(16_777_216))),
         ("lastb --sum f", Wanted::AttemptSums(None)),
         ("lastb f -n 3 --sum", Wanted::AttemptSums(Some(3))),
     ];
@@ -94,7 +94,7 @@ lastb --uid 0 f
 lastb --sum --sum f
 lastb --sum=1 f
 lastb -n 0 f
-lastb -n 1048577 f
+lastb -n 16777217 f
 lastb -s 20260701 f
 lastb --in 2026-07 --from @5 f
 last --sum f

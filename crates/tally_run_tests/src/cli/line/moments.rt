@@ -76,6 +76,7 @@ fn a_moment_is_settled_on_the_clock_of_the_run(rt: HostRuntime) {
     let job = Job {
         report: Report::All,
         form: Form::Text,
+        millions: 1,
         feeders: 4,
         askers: 0,
         offset: 60,
