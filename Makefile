@@ -1,5 +1,5 @@
 # The worked rows that `make test` runs are those whose needs are all listed here.
-ROWS = ac,ac -d,ac -f,ac -p,all,askers,by-file,check,choice,clock,csv,database,feeders,files,full-device,last,last -f,last -n,lastb,lastb --sum,lastb -f,lastb -n,moment,names,offset,paths,period,sa,sa -a,sa -m,sa -n,sa -r,uid,until,version3,zone
+ROWS = ac,ac -d,ac -f,ac -p,all,askers,by-file,check,choice,clock,csv,database,feeders,files,full-device,last,last -f,last -n,lastb,lastb --sum,lastb -f,lastb -n,millions,moment,names,offset,paths,period,sa,sa -a,sa -m,sa -n,sa -r,uid,until,version3,zone
 PREFIX ?= /usr/local
 PROGRAM = crates/tally/out/tally
 INTO = $(DESTDIR)$(PREFIX)
@@ -36,6 +36,7 @@ test-big:
 	rows/tools/run --only "$(ROWS),big" $(PROGRAM) endless-zeros-ac
 	rows/tools/surroundings --big $(PROGRAM)
 	rows/tools/volume --big $(PROGRAM)
+	rows/tools/millions --big $(PROGRAM)
 
 # The pictures of docs/pictures, by gnuplot from the files of examples/.
 pictures: build

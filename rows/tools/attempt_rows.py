@@ -195,7 +195,7 @@ def add_words(row, U):
     refused('at-of-lastb', 'An attempt takes no time.', ['--at', '@0'])
     refused('days-of-lastb', 'A flag of ac.', ['-d'])
     refused('limit-of-lastb-zero', 'At least 1.', ['-n', '0'], 'lastb,lastb -n')
-    refused('limit-of-lastb-too-great', 'At most 1,048,576.', ['-n', '1048577'], 'lastb,lastb -n')
+    refused('limit-of-lastb-too-great', 'At most 16,777,216.', ['-n', '16777217'], 'lastb,lastb -n')
     refused('nine-users-of-lastb', 'Up to eight times.', [word for letter in 'abcdefghi' for word in ('--user', letter)], 'lastb,choice', MANY_USERS)
     refused('from-after-to-of-lastb', 'A period goes forward.', ['--from', '@2', '--to', '@1'], 'lastb,choice', BACKWARD)
     row('sum-of-last', 'last', 'An option of lastb alone.', ['last', '--sum', 'f'], '', None, 2, {'f': b''})

@@ -376,6 +376,15 @@ row('most-files', 'ac,files', '128 files are read.', ['ac'] + 128 * ['f'], lines
 # --- feeders and all
 
 row('no-feeders', 'last,feeders', '--feeders 0 is refused.', ['last', '--feeders', '0', 'f'], '', None, 2, {'f': b''})
+row('no-millions', 'ac,millions', 'A run takes one million of records at least.', ['ac', '--millions', '0', 'f'], '', None, 2, {'f': b''})
+row('17-millions', 'last,millions', 'And 16 millions at most.', ['last', '--millions', '17', 'f'], '', None, 2, {'f': b''})
+row('many-millions', 'lastb,millions', 'A word is no number.', ['lastb', '--millions', 'many', 'f'], '', None, 2, {'f': b''})
+row('millions-of-sa', 'sa,millions', 'sa keeps no record, and has no such option.', ['sa', '--millions', '2', 'f'], '', None, 2, {'f': MAKE})
+row('millions-of-a-check', 'check,millions', 'Nor has check.', ['check', '--millions', '2', 'f'], '', None, 2, {'f': b''})
+row('16-millions', 'last,millions', 'A short file is read as without the option.', ['last', '--millions', '16', 'f'], ONE_HOUR_LAST, files={'f': ONE_HOUR})
+row('16-millions-of-all', 'all,feeders,askers,millions', 'So are the files of all, while askers ask.',
+    ['all', '--millions', '16', '--feeders', '2', '--askers', '1', 'w:f', 'w:g'], TWO_HOSTS_ALL, files={'f': BLOCKS_ANN, 'g': BLOCKS_BOB})
+row('limit-of-last-too-great', 'last,last -n', 'At most 16,777,216 stays.', ['last', '-n', '16777217', 'f'], '', None, 2, {'f': b''})
 row('two-feeders', 'ac,files,feeders', 'Two files of two blocks each through two feeders.',
     ['ac', '--feeders', '2', 'f', 'g'], lines('total                        3.00'),
     files={'f': BLOCKS_ANN, 'g': BLOCKS_BOB})
@@ -851,6 +860,7 @@ show, `examples/`. No two have one name.
     tools/databases TALLY_BINARY              random databases of wtmpdb, whole, damaged and foreign, beside the slow definitions of tables.py
     tools/sizes TALLY_BINARY                  every report over files of many sizes, with ample memory
     tools/volume TALLY_BINARY                 `sa` over more records than a book holds, and the memory that it takes
+    tools/millions TALLY_BINARY               reports that keep records over more than one million of them
     tools/thresholds TALLY_BINARY             users on days, and named users, over files at and over each size at which `ac` goes another way
     tools/readers TALLY_BINARY                tables, as other programs read them
     tools/schedules TALLY_BINARY              many files with many numbers of threads
@@ -875,7 +885,7 @@ In a folder:
 
 Needs: `ac`, `last`, `lastb`, `sa`, `all`, `check` are the subcommands, with `ac -d` and the like for flags; `offset` is
 `--east` and `--west`; `clock` that clock changes move sessions; `files` several files; `feeders`, `askers`,
-`until`, `csv` and `zone` these options; `moment` that `--until` takes more than a number of seconds; `choice` reports on some users,
+`until`, `csv`, `zone` and `millions` these options; `moment` that `--until` takes more than a number of seconds; `choice` reports on some users,
 some lines or a period; `uid` and `period` the same of `sa`, users by number; `names` the names of users from a file; `by-file` that `ac` and
 `sa` report on each file by itself; `paths` that a table has the paths of files; `database` that a login file may be a database of wtmpdb; `version3` acct records of version 3; `big` an input of 402 MB; `full-device` /dev/full.
 

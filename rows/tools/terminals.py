@@ -131,6 +131,26 @@ FOLLOWED = (
 )
 
 
+def hint_on_room(place):
+    """Which option takes the records of files that were too many, where their sizes tell it; without a size, which takes more."""
+    for name, records in (('long', 1048577), ('half', 786432), ('longer', 3145729), ('longest', 16777217)):
+        with open(place.path(name), 'wb') as file:
+            file.truncate(384 * records)
+    many, full = b'tally: %s: more than %d records\n', b'tally: half: too many login records\n'
+    for words, fault, hint in (
+            (('ac', 'long'), many % (b'long', 1048576), b'--millions 2 takes as many'),
+            (('last', 'longer'), many % (b'longer', 1048576), b'--millions 4 takes as many'),
+            (('ac', '--millions', '2', 'longer'), many % (b'longer', 2097152), b'--millions 4 takes as many'),
+            (('lastb', '--feeders', '1', 'half', 'half'), full, b'--millions 2 takes as many'),
+            (('ac', 'longest'), many % (b'longest', 1048576), None)):
+        done, said = place.on_terminal(*words)
+        said = re.sub(rb'(%s[^\r\n]*records)+%s' % (ERASE, ERASE), b'', said)
+        same((done.returncode, done.stdout, said), (1, b'', fault + (b'hint: ' + hint + b'\n' if hint else b'')), '%s: ' % (words,))
+    with open(place.path('long'), 'rb') as file:
+        said = place.on_terminal('ac', '/dev/stdin', stdin=file)[1]
+    assert said.endswith(many % (b'/dev/stdin', 1048576) + b'hint: --millions 2 takes more\n'), said
+
+
 def followed_on_a_terminal(place):
     """Where a run takes more than a second, a terminal says how far it is, by the end of a long path, and nothing of it is left."""
     path = 'p' * 10 + '\x1b' + 'q' * 39
@@ -178,5 +198,5 @@ def followed_nowhere_else(place):
 
 
 CASES = (path_on_a_terminal, faulty_file_on_a_terminal, refused_word_on_a_terminal, report_on_a_terminal, hints_on_a_terminal,
-         hint_on_a_path, no_hint_on_what_is_read_once, hint_on_a_file_of_another_user, followed_on_a_terminal, followed_check_on_a_terminal,
+         hint_on_a_path, no_hint_on_what_is_read_once, hint_on_a_file_of_another_user, hint_on_room, followed_on_a_terminal, followed_check_on_a_terminal,
          followed_up_to_the_report, followed_nowhere_else)
