@@ -1,5 +1,6 @@
 //! Feeds of readers: all at once, little at a time, interrupted and failing.
 ghost use Rattle.std.specs.Prelude.{◌≡◌, OnOk};
+ghost use Rattle.tally_book.specs.Rooms.{batches_in};
 ghost use Rattle.tally_desk.specs.Feeds.{IsWhole, Posts};
 
 use crate::desk::feeding::{THREE, expect_fed, fed};
@@ -33,7 +34,7 @@ fn fed_whole<R: Wait>(
     bytes: &[u8],
 ) -> Result<Fed, FeedFault>
     requires { pass.old.desk ≡ desk.now.id }
-    ensures { OnOk result (IsWhole Kind.Proc bytes.now (Posts pass.old pass.new)) }
+    ensures { OnOk result (IsWhole (batches_in pass.old.seen.room) Kind.Proc bytes.now (Posts pass.old pass.new)) }
 {
     let mut input = Reading::new(bytes);
     feed(rt, alloc, desk, pass, Kind::Proc, &mut input, &OpenGate)
