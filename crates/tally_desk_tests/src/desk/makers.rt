@@ -23,12 +23,7 @@ pub(crate) fn new_keys<R: Abort + RandomSource>(rt: &R) -> RandomState {
 pub(crate) fn opened<R: Abort + RandomSource>(rt: &R, alloc: Global) -> (Desk, Pass)
     ensures { result.1.desk ≡ result.0.id }
 {
-    let (desk, mut passes) = Desk::open(alloc, new_keys(rt), 1).expect(rt, "a desk of one caller");
-    let Some(pass) = passes.pop() else {
-        unreachable!()
-    };
-    drop(passes);
-    (desk, pass)
+    opened_with_room(rt, alloc, Room::usual())
 }
 
 /// The same with so much room.
