@@ -8,7 +8,10 @@ pub mod Kept
 pub mod NamedUsers
 pub mod Names
 pub mod Numbers
+pub mod Running
+pub mod Slots
 pub mod Spans
+pub mod Steps
 pub mod Stored
 pub mod Sums
 pub mod Tables

@@ -8,13 +8,15 @@
 //! that it shows. `connect` has the rows of connect time: `chosen_sums` sums the sessions of a choice, `walk` goes over them, `cut` cuts one
 //! where the offset of a clock changes, `span` counts the days of a part, `user_sums` sums by user, `day_sums` by day,
 //! `day_user_rows` by both, in maps by `keys`, or `day_table`, where it is small enough (`day_table_size`), filled by
-//! `day_table_sums` and read by `day_table_rows`; `sums` is what rows and tracks add up. `sessions` holds the
+//! `day_table_sums` and read by `day_table_rows`; `sums` is what rows and tracks add up. `connect_sums` counts the records of a host and
+//! keeps none: `running` goes forward over them, `lines` ends and begins the sessions on lines, a `slot` is the latest of one line. `sessions` holds the
 //! tracks of all hosts, which `of_entries` makes of a list, each thread those of some hosts; an `entry`
 //! and a stay are plain values, `times` are rows, `days` and `laws` state laws.
 #![tactic(auto)]
 
 mod chosen;
 mod connect;
+mod connect_sums;
 mod days;
 mod entries;
 mod entry;
@@ -24,6 +26,7 @@ mod sums;
 mod times;
 mod track;
 
+pub use crate::connect_sums::ConnectSums;
 pub use crate::days::days_add_up;
 pub use crate::entries::Entries;
 pub use crate::entries::iter::EntryIter;

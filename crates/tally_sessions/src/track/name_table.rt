@@ -154,7 +154,7 @@ impl NameTable {
     }
 
     /// Where a name stands. From now on it is first looked for there.
-    fn find(&mut self, name: &Key) -> Option<usize>
+    pub(crate) fn find(&mut self, name: &Key) -> Option<usize>
         ensures found { IfSome result (λ i. StandsAt self.old i name.now) }
         ensures absent { IfNone result (lookup (bytes_eq name.now) self.old.entries ≡ None) }
         ensures same { self.new ≡ self.old }
@@ -170,7 +170,7 @@ impl NameTable {
     }
 
     /// Enters a name that is new, in the room that there is for it, and answers its place.
-    fn push(&mut self, name: Key, number: u64) -> usize
+    pub(crate) fn push(&mut self, name: Key, number: u64) -> usize
         requires room { 0 < self.old.spare }
         requires new { lookup (bytes_eq name) self.old.entries ≡ None }
         ensures place { result ≡ length self.old.entries }

@@ -1,0 +1,5 @@
+-- Connect time of records that are not kept.
+pub mod CountLemmas
+pub mod KeptLemmas
+pub mod SlotLemmas
+pub mod TotalLemmas

@@ -1,0 +1,97 @@
+//! Connect time of a host's login records, which are counted and let go.
+ghost use Rattle.std.specs.Prelude.{◌≡◌, ◌≤◌, ◌+◌, ◌-◌, ◌*◌, ◌^◌, ◌↔◌, [], IsTrue, OnErr, OnOk};
+ghost use Rattle.tally_records.specs.Records.{IsLogins, logins_in, record_count};
+ghost use Rattle.tally_sessions.specs.ConnectSums.{CountsMore, IsAbout, IsCountOf};
+ghost use Rattle.tally_sessions.specs.Stays.{stays_from};
+ghost use Rattle.tally_sessions.specs.Totals.{session_seconds, user_seconds};
+
+mod lines;
+mod running;
+mod slot;
+
+use crate::connect_sums::running::Running;
+use crate::sessions::ENTRY_LIMIT;
+use std::alloc::Global;
+use std::hash::RandomState;
+use std::marker::Model;
+use std::ops::Deref;
+use tally_records::{Batch, Key, Memory, Name};
+
+/// The connect time of the sessions of one host's login records, as ac(1) counts it. No record is kept: its memory goes by
+/// the lines and the users of logins, and not by how many records there were.
+#[derive(Drop)]
+pub struct ConnectSums {
+    running: Running,
+}
+
+impl Model for ConnectSums {
+    ghost use Rattle.tally_sessions.specs.ConnectSums.{Counted};
+
+    ghost Value = { Counted };
+
+    ghost use Rattle.tally_sessions.specs.inside.Running.{counted_in, IsSound};
+
+    ghost view = { λ s. counted_in s.running };
+
+    ghost invariant = { λ s. IsSound s.running };
+}
+
+impl ConnectSums {
+    /// The connect time of no records. Its tables are hashed by the keys.
+    pub fn new(alloc: Global, keys: RandomState) -> ConnectSums
+        ensures { IsCountOf result [] }
+    {
+        ConnectSums {
+            running: Running::new(alloc, keys),
+        }
+    }
+
+    /// How many records are counted.
+    pub fn len(&self) -> usize
+        ensures count { result ≡ self.now.count }
+        ensures few { result ≤ ENTRY_LIMIT }
+    {
+        self.running.count
+    }
+
+    /// Whether none is.
+    pub fn is_empty(&self) -> bool
+        ensures { IsTrue result ↔ (self.now.count ≡ 0) }
+    {
+        self.len() == 0
+    }
+
+    /// Counts the records of a batch too, or none of them. It may ask for memory: for as many new lines and users as the batch has
+    /// records.
+    pub fn add(&mut self, batch: &Batch) -> Result<(), Memory>
+        requires kind { IsLogins batch.now }
+        requires room { self.old.count + record_count batch.now ≤ ENTRY_LIMIT }
+        ensures added { OnOk result (CountsMore self.old self.new (logins_in batch.now)) }
+        ensures count { OnOk result (self.new.count ≡ self.old.count + record_count batch.now) }
+        ensures refused { OnErr result (self.new ≡ self.old) }
+    {
+        let Some(records) = batch.share_logins()? else {
+            return Ok(());
+        };
+        self.running.reserve(records.len())?;
+        self.running.go_over(records.deref());
+        Ok(())
+    }
+
+    /// The seconds of all sessions. A session that nothing has ended counts up to a moment, in seconds since 1970, or else to the
+    /// last record.
+    pub fn total(&self, until: Option<i32>) -> u64
+        ensures value { IsAbout self.now (λ rs. session_seconds (stays_from 0 [] rs until)) result }
+        ensures each { result ≤ (2 ^ 32 - 1) * self.now.count }
+    {
+        self.running.seconds(&None, until)
+    }
+
+    /// The seconds of a user's sessions, counted as in the total.
+    pub fn connect(&self, user: &Name, until: Option<i32>) -> u64
+        ensures value { IsAbout self.now (λ rs. user_seconds user.now (stays_from 0 [] rs until)) result }
+        ensures each { result ≤ (2 ^ 32 - 1) * self.now.count }
+    {
+        self.running.seconds(&Some(Key::of(user)), until)
+    }
+}

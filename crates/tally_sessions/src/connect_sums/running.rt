@@ -1,0 +1,164 @@
+//! A count of sessions that goes forward over the records of a host.
+ghost use Rattle.std.specs.Prelude.{◌≡◌, ◌≤◌, ◌<◌, ◌+◌, ◌-◌, ◌*◌, ◌^◌, [], ◌+ℤ◌, ℕ, List as Items, Option, None, OnOk, Some, length, slice_get, unwrap_or};
+ghost use Rattle.tally_records.specs.Event.{event_of};
+ghost use Rattle.tally_records.specs.declared.login.LoginRecord.{LoginRecord};
+ghost use Rattle.tally_sessions.specs.Clock.{shift_at};
+ghost use Rattle.tally_sessions.specs.ConnectSums.{CountsMore, IsCountOf};
+ghost use Rattle.tally_sessions.specs.Opens.{Open, seconds_at};
+ghost use Rattle.tally_sessions.specs.inside.Running.{HasPlaces, IsRunning, counted_in};
+ghost use Rattle.tally_sessions.specs.inside.Slots.{weight_in};
+ghost use Rattle.tally_sessions.specs.inside.Steps.{IsStep, leaving, opening, staying};
+ghost use Rattle.tally_sessions.specs.inside.Track.{IsWithin, sum_of};
+ghost use Rattle.tally_sessions.specs.inside.Tracking.{pending_at};
+
+use crate::connect_sums::slot::Slot;
+use crate::sessions::ENTRY_LIMIT;
+use crate::track::ended::EndedSums;
+use crate::track::name_table::NameTable;
+use crate::track::rules::{pending_after, shift_of};
+use std::alloc::Global;
+use std::hash::RandomState;
+use tally_records::{Event, Key, Logins, Memory};
+
+/// What is counted of the records so far.
+#[derive(Drop)]
+pub(crate) struct Running {
+    /// The lines on which there was a login, each with its slot at the same place.
+    pub(crate) lines: NameTable,
+    pub(crate) slots: Vec<Slot>,
+    /// The places of the lines whose sessions may be open, each once.
+    pub(crate) listed: Vec<u32>,
+    pub(crate) sums: EndedSums,
+    pub(crate) count: usize,
+    pub(crate) clock: i64,
+    /// The old time that waits for its new one.
+    pub(crate) old_time: Option<i32>,
+    pub(crate) last: i32,
+}
+
+impl Running {
+    /// Goes on by a record in what is kept of the times.
+    fn tick(&mut self, time: i32, event: Event)
+        requires moved { IsWithin ENTRY_LIMIT self.old.clock }
+        ensures clock { self.new.clock ≡ self.old.clock +ℤ shift_at event self.old.old_time time }
+        ensures moved { (n : ℕ) → IsWithin n self.old.clock → IsWithin (n + 1) self.new.clock }
+        ensures old_time { self.new.old_time ≡ pending_at event time self.old.old_time }
+        ensures last { self.new.last ≡ time }
+        ensures rest { self.new ≡ record self.old { clock = self.new.clock; old_time = self.new.old_time; last = self.new.last } }
+    {
+        self.clock += shift_of(self.old_time, event, time);
+        self.old_time = pending_after(self.old_time, event, time);
+        self.last = time;
+    }
+
+    /// Goes on by a record's event. The clock has moved by it.
+    fn follow(&mut self, records: &Logins, at: usize, event: Event, time: i32)
+        requires at { at < length records.now }
+        requires told { (x : LoginRecord) → slice_get records.now at ≡ Some x → (event ≡ event_of x) × (time ≡ x.time) }
+        requires running { IsRunning self.old.count self.old }
+        requires now { IsWithin (self.old.count + 1) self.old.clock }
+        requires few { self.old.count < ENTRY_LIMIT }
+        requires room { HasPlaces 1 self.old }
+        ensures opens { (x : LoginRecord) → slice_get records.now at ≡ Some x → (weight : Open → ℕ) → weight_in weight self.new.slots.items ≡ weight_in (staying x weight) self.old.slots.items + opening x self.old.clock weight }
+        ensures sums { (x : LoginRecord) → slice_get records.now at ≡ Some x → (who : Option (Items ℕ)) → sum_of self.new.sums who ≡ sum_of self.old.sums who + weight_in (leaving who self.old.clock x) self.old.slots.items }
+        ensures running { IsRunning (self.old.count + 1) self.new }
+        ensures room_left { (k : ℕ) → HasPlaces (k + 1) self.old → HasPlaces k self.new }
+        ensures rest { self.new ≡ record self.old { lines = self.new.lines; slots = self.new.slots; listed = self.new.listed; sums = self.new.sums } }
+    {
+        match event {
+            Event::Login => {
+                let line = records.line_key(at).unwrap();
+                let user = records.user_key(at).unwrap();
+                self.log_in(line, user, time);
+            }
+            Event::Logout => self.log_out(records.line_key(at).unwrap(), time),
+            Event::Boot | Event::Down => self.end_all(time),
+            Event::OldTime | Event::NewTime | Event::Nothing => {}
+        }
+    }
+
+    /// Goes on by a record.
+    fn advance(&mut self, records: &Logins, at: usize)
+        requires at { at < length records.now }
+        requires running { IsRunning self.old.count self.old }
+        requires moved { IsWithin self.old.count self.old.clock }
+        requires few { self.old.count < ENTRY_LIMIT }
+        requires room { HasPlaces 1 self.old }
+        ensures step { (x : LoginRecord) → slice_get records.now at ≡ Some x → IsStep (counted_in self.old) (counted_in self.new) x }
+        ensures running { IsRunning self.new.count self.new }
+        ensures moved { IsWithin self.new.count self.new.clock }
+        ensures count { self.new.count ≡ self.old.count + 1 }
+        ensures room_left { (k : ℕ) → HasPlaces (k + 1) self.old → HasPlaces k self.new }
+    {
+        let event = records.event(at).unwrap();
+        let time = records.time(at).unwrap();
+        self.tick(time, event);
+        self.follow(records, at, event, time);
+        self.count += 1;
+    }
+
+    /// Goes on by all of the records.
+    pub(crate) fn go_over(&mut self, records: &Logins)
+        requires running { IsRunning self.old.count self.old }
+        requires moved { IsWithin self.old.count self.old.clock }
+        requires few { self.old.count + length records.now ≤ ENTRY_LIMIT }
+        requires room { HasPlaces (length records.now) self.old }
+        ensures counted { CountsMore (counted_in self.old) (counted_in self.new) records.now }
+        ensures running { IsRunning self.new.count self.new }
+        ensures moved { IsWithin self.new.count self.new.clock }
+        ensures count { self.new.count ≡ self.old.count + length records.now }
+    {
+        for at in 0..records.len() {
+            self.advance(records, at);
+        }
+    }
+
+    /// Makes room for so many records more. Nothing that is counted changes.
+    pub(crate) fn reserve(&mut self, count: usize) -> Result<(), Memory>
+        requires running { IsRunning self.old.count self.old }
+        requires few { self.old.count + count ≤ ENTRY_LIMIT }
+        ensures same { counted_in self.new ≡ counted_in self.old }
+        ensures running { IsRunning self.new.count self.new }
+        ensures room { OnOk result (HasPlaces count self.new) }
+    {
+        self.lines.reserve(count)?;
+        self.slots.reserve(count)?;
+        self.listed.reserve(count)?;
+        self.sums.reserve(self.slots.len() + count)?;
+        Ok(())
+    }
+
+    /// No record is counted yet. The tables of names are hashed by the keys.
+    pub(crate) fn new(alloc: Global, keys: RandomState) -> Running
+        ensures running { IsRunning 0 result }
+        ensures moved { IsWithin 0 result.clock }
+        ensures counted { IsCountOf (counted_in result) [] }
+    {
+        Running {
+            lines: NameTable::new(alloc, keys),
+            slots: Vec::new(alloc),
+            listed: Vec::new(alloc),
+            sums: EndedSums::new(alloc, keys),
+            count: 0,
+            clock: 0,
+            old_time: None,
+            last: 0,
+        }
+    }
+
+    /// The seconds of the sessions of all users, or of one. Those that are open are counted up to a moment, or else to the last record.
+    pub(crate) fn seconds(&self, who: &Option<Key>, until: Option<i32>) -> u64
+        requires running { IsRunning self.now.count self.now }
+        requires moved { IsWithin self.now.count self.now.clock }
+        requires few { self.now.count ≤ ENTRY_LIMIT }
+        ensures value { result ≡ sum_of self.now.sums who.now + weight_in (seconds_at who.now self.now.clock (unwrap_or until self.now.last)) self.now.slots.items }
+        ensures each { result ≤ (2 ^ 32 - 1) * self.now.count }
+    {
+        let time = until.unwrap_or(self.last);
+        let mut seconds = self.sums.of(who);
+        for k in 0..self.slots.len() {
+            seconds += self.slots[k].seconds_of(who, self.clock, time);
+        }
+        seconds
+    }
+}
