@@ -123,9 +123,8 @@ seconds_are c rs who until h =
     ∙ ap (seconds_of who) (sym (stays_from-tracked 0 [] rs until (pos 0)))
 
 -- the same, by the fields of a count
-pub running-seconds : (r : Running) (c : Counted) (rs : List LoginRecord) (who : Option (List ℕ)) (until : Option ℤ) → counted_in r ≡ c → IsCountOf c rs
+pub running-seconds : (r : Running) (rs : List LoginRecord) (who : Option (List ℕ)) (until : Option ℤ) → IsCountOf (counted_in r) rs
     → kept_sum r.sums who + weight_in (seconds_at who r.clock (unwrap_or until r.last)) r.slots.items ≡ seconds_of who (stays_from 0 [] rs until)
-running-seconds r c rs who until is h =
+running-seconds r rs who until h =
     (λ i. sym (sum-seen (counted_in r) r.sums who refl refl) i + sym (weight-opens (seconds_at who r.clock (unwrap_or until r.last)) r.slots.items) i)
-    ∙ ap (λ (k : Counted). sum_of k who + sum_by (seconds_at who k.clock (unwrap_or until k.last)) k.opens) is
-    ∙ seconds_are c rs who until h
+    ∙ seconds_are (counted_in r) rs who until h

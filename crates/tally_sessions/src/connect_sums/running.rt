@@ -3,11 +3,13 @@ ghost use Rattle.std.specs.Prelude.{◌≡◌, ◌≤◌, ◌<◌, ◌+◌, ◌-
 ghost use Rattle.tally_records.specs.Event.{event_of};
 ghost use Rattle.tally_records.specs.declared.login.LoginRecord.{LoginRecord};
 ghost use Rattle.tally_sessions.specs.Clock.{shift_at};
-ghost use Rattle.tally_sessions.specs.ConnectSums.{CountsMore, IsCountOf};
+ghost use Rattle.tally_sessions.specs.ConnectSums.{CountsMore, IsAbout, IsCountOf};
 ghost use Rattle.tally_sessions.specs.Opens.{Open, seconds_at};
+ghost use Rattle.tally_sessions.specs.Stays.{stays_from};
 ghost use Rattle.tally_sessions.specs.inside.Running.{HasPlaces, IsRunning, counted_in};
 ghost use Rattle.tally_sessions.specs.inside.Slots.{weight_in};
 ghost use Rattle.tally_sessions.specs.inside.Steps.{IsStep, leaving, opening, staying};
+ghost use Rattle.tally_sessions.specs.inside.Totals.{seconds_of};
 ghost use Rattle.tally_sessions.specs.inside.Track.{IsWithin, sum_of};
 ghost use Rattle.tally_sessions.specs.inside.Tracking.{pending_at};
 
@@ -151,7 +153,7 @@ impl Running {
         requires running { IsRunning self.now.count self.now }
         requires moved { IsWithin self.now.count self.now.clock }
         requires few { self.now.count ≤ ENTRY_LIMIT }
-        ensures value { result ≡ sum_of self.now.sums who.now + weight_in (seconds_at who.now self.now.clock (unwrap_or until self.now.last)) self.now.slots.items }
+        ensures value { IsAbout (counted_in self.now) (λ rs. seconds_of who.now (stays_from 0 [] rs until)) result }
         ensures each { result ≤ (2 ^ 32 - 1) * self.now.count }
     {
         let time = until.unwrap_or(self.last);

@@ -7,6 +7,7 @@ use Rattle.std.specs.Prelude.{FitsSigned}
 use Rattle.tally_sessions.specs.Opens.{seconds_at}
 use Rattle.tally_sessions.specs.inside.Slots.{no_slot, one, slot_at, weight_at, weight_in}
 use Rattle.tally_sessions.specs.inside.Track.{sum_of}
+use Rattle.tally_sessions.proofs.connect_sums.TotalLemmas.{running-seconds}
 use Rattle.tally_sessions.proofs.connect_sums.running.Running.seconds.Goals as goal
 
 pub loop-k-preserved : goal.loop-k-preserved
@@ -28,10 +29,12 @@ loop-k-preserved c =
     }
 
 pub returns-clause-value : goal.returns-clause-value
-returns-clause-value c =
+returns-clause-value c rs h =
     let old = c.args.self.now in
     let fits : FitsSigned w32 c.unwrap_or-time.result = search rules in
     let last_fits : FitsSigned w32 old.last = search rules in
     let time = to_z-of_z w32 c.unwrap_or-time.result fits ∙ c.unwrap_or-time.ensures ∙ ap (unwrap_or c.args.until) (to_z-of_z w32 old.last last_fits) in
     let all = take_all c.loop-k.k old.slots.items (omega (arith, c.loop-k-test.false, c.len-k-end.ensures, old.slots.ok.0)) in
-    c.loop-k.invariant.value ∙ (λ i. sum_of old.sums c.args.who.now + weight_in (seconds_at c.args.who.now old.clock (time i)) (all i))
+    c.loop-k.invariant.value
+    ∙ (λ i. sum_of old.sums c.args.who.now + weight_in (seconds_at c.args.who.now old.clock (time i)) (all i))
+    ∙ running-seconds old rs c.args.who.now c.args.until h
