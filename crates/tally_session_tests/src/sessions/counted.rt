@@ -1,0 +1,74 @@
+//! Connect time of records that are counted and let go.
+ghost use Rattle.tally_records.specs.Records.{IsLogins};
+
+use crate::equal::expect_equal;
+use crate::sessions::scripts::new_keys;
+use crate::sessions::{login_record, name};
+use std::alloc::Global;
+use std::process::Abort;
+use tally_records::Batch;
+use tally_sessions::ConnectSums;
+
+/// How many records are counted, the total up to the last of them and up to a moment, and ann's time.
+fn answers(sums: &ConnectSums) -> [u64; 4] {
+    [
+        sums.len() as u64,
+        sums.total(None),
+        sums.total(Some(1500)),
+        sums.connect(&name("ann"), None),
+    ]
+}
+
+/// A boot, ann's session of 300 seconds, and bob's that stays open.
+fn evening(rt: &impl Abort, alloc: Global) -> Batch
+    ensures { IsLogins result }
+{
+    let records = [
+        login_record(2, "~", "reboot", 100),
+        login_record(7, "tty1", "ann", 200),
+        login_record(7, "tty2", "bob", 300),
+        login_record(8, "tty1", "", 500),
+    ];
+    Batch::logins(alloc, records.as_flattened()).expect(rt, "login records")
+}
+
+/// A login that ends bob's session after 400 seconds, a shutdown that ends this one after 200, and ann's that stays open.
+fn morning(rt: &impl Abort, alloc: Global) -> Batch
+    ensures { IsLogins result }
+{
+    let records = [
+        login_record(7, "tty2", "carl", 700),
+        login_record(1, "~", "shutdown", 900),
+        login_record(7, "tty1", "ann", 1000),
+        login_record(8, "tty9", "", 1100),
+    ];
+    Batch::logins(alloc, records.as_flattened()).expect(rt, "login records")
+}
+
+/// Asserts the answers after a batch more, which may be refused once, and then leaves them as they were.
+fn expect_more(rt: &impl Abort, sums: &mut ConnectSums, batch: &Batch, wanted: [u64; 4])
+    requires { IsLogins batch.now }
+{
+    let before = answers(sums);
+    let count = sums.len() + batch.len();
+    assert!(rt; count <= 1000);
+    if sums.add(batch).is_err() {
+        expect_equal(rt, &answers(sums), &before);
+        sums.add(batch).expect(rt, "memory");
+    }
+    expect_equal(rt, &answers(sums), &wanted);
+}
+
+#[test]
+fn a_count_goes_on_from_batch_to_batch(rt: HostRuntime) {
+    let rt = &rt;
+    let alloc = rt.alloc();
+    let (evening, morning) = (evening(rt, alloc), morning(rt, alloc));
+    let mut sums = ConnectSums::new(alloc, new_keys(rt));
+    assert!(rt; sums.is_empty());
+    expect_more(rt, &mut sums, &evening, [4, 500, 1500, 300]);
+    expect_more(rt, &mut sums, &morning, [8, 1000, 1400, 400]);
+    drop(sums);
+    drop(morning);
+    drop(evening);
+}
