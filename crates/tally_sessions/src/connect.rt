@@ -39,7 +39,10 @@ fn has_row(seconds: u64) -> bool
 }
 
 /// The rows of the users whose sum is above 0.
-fn user_rows(alloc: Global, sums: &BTreeMap<NameKey, u64>) -> Result<Vec<UserTime>, AllocError>
+pub(crate) fn user_rows(
+    alloc: Global,
+    sums: &BTreeMap<NameKey, u64>,
+) -> Result<Vec<UserTime>, AllocError>
     ensures rows { IfOk result (λ rows. rows.items ≡ map user_time_of (filter above_zero sums.now.entries)) }
     ensures ordered { IsOrdered (slice_cmp nat_cmp) sums.now }
 {

@@ -1,21 +1,27 @@
 //! Connect time of a host's login records, which are counted and let go.
-ghost use Rattle.std.specs.Prelude.{◌≡◌, ◌≤◌, ◌+◌, ◌-◌, ◌*◌, ◌^◌, ◌↔◌, [], IsTrue, OnErr, OnOk};
+ghost use Rattle.std.specs.Prelude.{◌≡◌, ◌≤◌, ◌+◌, ◌-◌, ◌*◌, ◌^◌, ◌↔◌, [], IfOk, IsTrue, OnErr, OnOk};
+ghost use Rattle.tally_records.specs.Choice.{every_login};
 ghost use Rattle.tally_records.specs.Records.{IsLogins, logins_in, record_count};
 ghost use Rattle.tally_sessions.specs.ConnectSums.{CountsMore, IsAbout, IsCountOf};
+ghost use Rattle.tally_sessions.specs.Rows.{user_times};
 ghost use Rattle.tally_sessions.specs.Stays.{stays_from};
+ghost use Rattle.tally_sessions.specs.Sums.{sessions_among};
 ghost use Rattle.tally_sessions.specs.Totals.{session_seconds, user_seconds};
 
 mod lines;
 mod running;
 mod slot;
 
+use crate::connect::user_rows;
 use crate::connect_sums::running::Running;
 use crate::sessions::ENTRY_LIMIT;
+use crate::times::UserTime;
 use std::alloc::Global;
+use std::collections::BTreeMap;
 use std::hash::RandomState;
 use std::marker::Model;
 use std::ops::Deref;
-use tally_records::{Batch, Key, Memory, Name};
+use tally_records::{Batch, Key, List, Memory, Name};
 
 /// The connect time of the sessions of one host's login records, as ac(1) counts it. No record is kept: its memory goes by
 /// the lines and the users of logins, and not by how many records there were.
@@ -93,5 +99,14 @@ impl ConnectSums {
         ensures each { result ≤ (2 ^ 32 - 1) * self.now.count }
     {
         self.running.seconds(&Some(Key::of(user)), until)
+    }
+
+    /// The connect time of each user that has any, in order of name bytes, counted as in the total.
+    pub fn by_user(&self, alloc: Global, until: Option<i32>) -> Result<List<UserTime>, Memory>
+        ensures value { IfOk result (IsAbout self.now (λ rs. user_times (sessions_among every_login (stays_from 0 [] rs until)))) }
+    {
+        let mut sums = BTreeMap::new(alloc);
+        self.running.add_users(&mut sums, until)?;
+        List::from_vec(alloc, user_rows(alloc, &sums)?)
     }
 }

@@ -4,7 +4,10 @@ use Rattle.std.proofs.lemmas.Bool.{cases_eq, false≢true}
 use Rattle.std.proofs.lemmas.List.{get_or-set_same, get_or-set_other, length-set}
 use Rattle.std.proofs.lemmas.List.Sums.{sum_by-cons, sum_by-set}
 use Rattle.std.proofs.lemmas.Slice.Eq.{bytes_eq-Decides}
+use Rattle.std.proofs.lemmas.Map.Text.{is_eq-slice_cmp}
+use Rattle.std.specs.Cmp.Lexicographic.{slice_cmp}
 use Rattle.std.specs.Map.{lookup}
+use Rattle.std.specs.Ordering.{is_eq, nat_cmp}
 use Rattle.std.specs.Option.{option_map}
 use Rattle.std.specs.Prelude.{bytes_eq, sum_by}
 use Rattle.tally_records.specs.declared.login.LoginRecord.{LoginRecord}
@@ -14,7 +17,7 @@ use Rattle.tally_records.specs.Event.{event_of}
 use Rattle.tally_sessions.specs.declared.connect_sums.slot.Slot.{Slot}
 use Rattle.tally_sessions.specs.declared.track.ended.EndedSums.{EndedSums}
 use Rattle.tally_sessions.specs.ConnectSums.{Counted, sum_of as seen_of}
-use Rattle.tally_sessions.specs.Opens.{Open, seconds_at}
+use Rattle.tally_sessions.specs.Opens.{Open, length_at, seconds_at}
 use Rattle.tally_sessions.specs.Stays.{ends_event}
 use Rattle.tally_sessions.specs.inside.Steps.{leaving, opened, opening, staying}
 use Rattle.tally_sessions.specs.inside.Track.{ends_every_stay, ends_line_stay, is_login_event, sum_of}
@@ -228,6 +231,18 @@ open-few (s ∷ ss) = let rest = open-few ss in let own = by s.is_open in omega 
 pub sum-seen : (c : Counted) (sums : EndedSums) (who : Option (List ℕ)) → c.users ≡ sums.users.entries → c.total ≡ sums.all → seen_of c who ≡ sum_of sums who
 sum-seen c sums None users total = total
 sum-seen c sums (Some user) users total = ap (λ es. unwrap_or (lookup (bytes_eq user) es) 0) users
+
+-- the seconds of a slot's session are those of its user
+pub own-seconds : (now time : ℤ) (s : Slot) (user : List ℕ) → cond (is_eq (slice_cmp nat_cmp s.user user)) (weight_at (seconds_at None now time) s) 0 ≡ weight_at (seconds_at (Some user) now time) s
+own-seconds now time s user =
+    ap (λ b. cond b (weight_at (seconds_at None now time) s) 0) (is_eq-slice_cmp s.user user)
+    ∙ by (bytes_eq s.user user) s.is_open
+  where
+    by : (b o : Bool) → cond b (cond o (length_at now time (session_of s)) 0) 0 ≡ cond o (cond b (length_at now time (session_of s)) 0) 0
+    by true true = refl
+    by true false = refl
+    by false true = refl
+    by false false = refl
 
 -- what a record has at a place
 pub found : {X : Type 0} (f : LoginRecord → X) (o : Option X) (at : Option LoginRecord) (v : X) (x : LoginRecord) → o ≡ option_map f at → at ≡ Some x → o ≡ Some v → v ≡ f x

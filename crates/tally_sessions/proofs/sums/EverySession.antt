@@ -33,7 +33,7 @@ stay_has_length : (host : ℕ) (before : List LoginRecord) (r : LoginRecord) (af
 unfolding seconds_of
 stay_has_length host before r after until = refl
 
-stays_from_have_lengths : (host : ℕ) (before rs : List LoginRecord) (until : Option ℤ) → All HasLength (stays_from host before rs until)
+pub stays_from_have_lengths : (host : ℕ) (before rs : List LoginRecord) (until : Option ℤ) → All HasLength (stays_from host before rs until)
 stays_from_have_lengths host before [] until = All-nil HasLength
 stays_from_have_lengths host before (r ∷ after) until = by (starts_stay (event_of r)) (stays_from_have_lengths host (before ++ r ∷ []) after until)
   where
@@ -60,7 +60,7 @@ total_among (s ∷ ss) h = by s.is_boot (total_among ss (All-tail HasLength s ss
         sum_by-cons (λ (x : Stay). x.length) s kept ∙ (λ i. All-head HasLength s ss h i + rest i)
         ∙ sym (sum_by-cons (λ (x : Session). seconds_between x.begin x.end_time) (session_in always s) (map (session_in always) kept))
 
-user_among : (user : List ℕ) (ss : List Stay) → All HasLength ss → user_seconds user ss ≡ seconds_of_user user (sessions_among every_login ss)
+pub user_among : (user : List ℕ) (ss : List Stay) → All HasLength ss → user_seconds user ss ≡ seconds_of_user user (sessions_among every_login ss)
 user_among user [] h = refl
 user_among user (s ∷ ss) h = by s.is_boot (bytes_eq s.user user) refl (user_among user ss (All-tail HasLength s ss h))
   where

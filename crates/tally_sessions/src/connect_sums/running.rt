@@ -1,5 +1,7 @@
 //! A count of sessions that goes forward over the records of a host.
 ghost use Rattle.std.specs.Prelude.{◌≡◌, ◌≤◌, ◌<◌, ◌+◌, ◌-◌, ◌*◌, ◌^◌, [], ◌+ℤ◌, ℕ, List as Items, Option, None, OnOk, Some, length, slice_get, unwrap_or};
+ghost use Rattle.std.specs.Cmp.Lexicographic.{slice_cmp};
+ghost use Rattle.std.specs.Ordering.{nat_cmp};
 ghost use Rattle.tally_records.specs.Event.{event_of};
 ghost use Rattle.tally_records.specs.declared.login.LoginRecord.{LoginRecord};
 ghost use Rattle.tally_sessions.specs.Clock.{shift_at};
@@ -9,16 +11,20 @@ ghost use Rattle.tally_sessions.specs.Stays.{stays_from};
 ghost use Rattle.tally_sessions.specs.inside.Running.{HasPlaces, IsRunning, counted_in};
 ghost use Rattle.tally_sessions.specs.inside.Slots.{weight_in};
 ghost use Rattle.tally_sessions.specs.inside.Steps.{IsStep, leaving, opening, staying};
+ghost use Rattle.tally_sessions.specs.inside.Sums.{sum_at};
 ghost use Rattle.tally_sessions.specs.inside.Totals.{seconds_of};
 ghost use Rattle.tally_sessions.specs.inside.Track.{IsWithin, sum_of};
 ghost use Rattle.tally_sessions.specs.inside.Tracking.{pending_at};
 
+use crate::connect::name_key::NameKey;
 use crate::connect_sums::slot::Slot;
 use crate::sessions::ENTRY_LIMIT;
+use crate::sums::add_for;
 use crate::track::ended::EndedSums;
 use crate::track::name_table::NameTable;
 use crate::track::rules::{pending_after, shift_of};
 use std::alloc::Global;
+use std::collections::BTreeMap;
 use std::hash::RandomState;
 use tally_records::{Event, Key, Logins, Memory};
 
@@ -162,5 +168,28 @@ impl Running {
             seconds += self.slots[k].seconds_of(who, self.clock, time);
         }
         seconds
+    }
+
+    /// Adds the seconds of each user's sessions to its sum, counted as `seconds` counts them.
+    pub(crate) fn add_users(
+        &self,
+        sums: &mut BTreeMap<NameKey, u64>,
+        until: Option<i32>,
+    ) -> Result<(), Memory>
+        requires running { IsRunning self.now.count self.now }
+        requires moved { IsWithin self.now.count self.now.clock }
+        requires few { self.now.count ≤ ENTRY_LIMIT }
+        requires room { (user : Items ℕ) → sum_at (slice_cmp nat_cmp) sums.old.entries user < 2 ^ 63 }
+        ensures value { OnOk result ((user : Items ℕ) (rs : Items LoginRecord) → IsCountOf (counted_in self.now) rs → sum_at (slice_cmp nat_cmp) sums.new.entries user
+            ≡ sum_at (slice_cmp nat_cmp) sums.old.entries user + seconds_of (Some user) (stays_from 0 [] rs until)) }
+    {
+        let time = until.unwrap_or(self.last);
+        self.sums.add_to(sums)?;
+        for k in 0..self.slots.len() {
+            let slot = &self.slots[k];
+            let seconds = slot.seconds_of(&None, self.clock, time);
+            add_for(sums, &slot.user.name(), seconds)?;
+        }
+        Ok(())
     }
 }
