@@ -7,7 +7,7 @@ use crate::sessions::{login_record, name};
 use std::alloc::Global;
 use std::process::Abort;
 use tally_records::Batch;
-use tally_sessions::ConnectSums;
+use tally_sessions::{ConnectSums, UserTime};
 
 /// How many records are counted, the total up to the last of them and up to a moment, and ann's time.
 fn answers(sums: &ConnectSums) -> [u64; 4] {
@@ -59,6 +59,25 @@ fn expect_more(rt: &impl Abort, sums: &mut ConnectSums, batch: &Batch, wanted: [
     expect_equal(rt, &answers(sums), &wanted);
 }
 
+/// Asserts the rows of the users, which have ann's, bob's and carl's seconds.
+fn expect_rows(rt: &impl Abort, alloc: Global, sums: &ConnectSums, wanted: [u64; 3]) {
+    let rows = sums.by_user(alloc, None);
+    let rows = rows.expect(rt, "memory");
+    let names = ["ann", "bob", "carl"];
+    expect_equal(rt, &rows.len(), &names.len());
+    for (row, (user, seconds)) in rows.as_slice().iter().zip(names.iter().zip(&wanted)) {
+        expect_equal(
+            rt,
+            row,
+            &UserTime {
+                user: name(user),
+                seconds: *seconds,
+            },
+        );
+    }
+    drop(rows);
+}
+
 #[test]
 fn a_count_goes_on_from_batch_to_batch(rt: HostRuntime) {
     let rt = &rt;
@@ -68,6 +87,7 @@ fn a_count_goes_on_from_batch_to_batch(rt: HostRuntime) {
     assert!(rt; sums.is_empty());
     expect_more(rt, &mut sums, &evening, [4, 500, 1500, 300]);
     expect_more(rt, &mut sums, &morning, [8, 1000, 1400, 400]);
+    expect_rows(rt, alloc, &sums, [400, 400, 200]);
     drop(sums);
     drop(morning);
     drop(evening);
