@@ -2,6 +2,7 @@
 pub mod Additive
 pub mod EverySession
 pub mod EveryStay
+pub mod HostNumbers
 pub mod HostSums
 pub mod NamedUsers
 pub mod NewNames

@@ -1,6 +1,6 @@
 //! Laws of the rows of connect time and of what is chosen, which hold of every list of entries.
 ghost use Rattle.tally_sessions.specs.ChoiceLaws.{NothingIsLeftOut, PeriodsAddUp, UsersAddUp};
-ghost use Rattle.tally_sessions.specs.Laws.{RowsAddUp, TimesHaveRows};
+ghost use Rattle.tally_sessions.specs.Laws.{HostsAreAlike, RowsAddUp, TimesHaveRows};
 
 /// Each user, each day, and each user on a day with connect time has a row, on every clock, and whatever sessions are
 /// chosen.
@@ -27,4 +27,9 @@ pub fn users_add_up()
 /// A choice that names nothing leaves out no stay and no second.
 pub fn every_session_is_chosen()
     ensures { NothingIsLeftOut }
+{}
+
+/// The sessions of all hosts are those of each host's records by themselves, as a count of these has them.
+pub fn hosts_are_alike()
+    ensures { HostsAreAlike }
 {}

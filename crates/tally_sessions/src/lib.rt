@@ -33,7 +33,8 @@ pub use crate::entries::iter::EntryIter;
 pub use crate::entries::list::EntryList;
 pub use crate::entry::{End, Entry, Stay};
 pub use crate::laws::{
-    every_session_is_chosen, periods_add_up, times_have_rows, user_rows_add_up, users_add_up,
+    every_session_is_chosen, hosts_are_alike, periods_add_up, times_have_rows, user_rows_add_up,
+    users_add_up,
 };
 pub use crate::sessions::{ENTRY_LIMIT, HOST_LIMIT, Sessions};
 pub use crate::times::{DayTime, DayUserTime, UserTime};
