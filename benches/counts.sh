@@ -15,14 +15,8 @@ cp "$top/benches/counts/main.rt.in" "$crate/src/main.rt"
 echo 'tally_counts: tally_records tally_sessions' >> "$copy/tally/crates.txt"
 (cd "$crate" && rt run < /dev/null > "$copy/log" 2>&1) || { tail -n 20 "$copy/log"; exit 1; }
 "$crate/out/tally_counts" < "$file"
-python3 - "$crate/out/tally_counts" "$file" "$rounds" <<'END'
-import os, subprocess, sys
-seconds, memory = [], []
-for _ in range(int(sys.argv[3])):
-    with open(sys.argv[2], 'rb') as file:
-        run = subprocess.Popen([sys.argv[1]], stdin=file, stdout=subprocess.DEVNULL)
-        _, _, usage = os.wait4(run.pid, 0)
-    seconds.append(usage.ru_utime + usage.ru_stime)
-    memory.append(usage.ru_maxrss)
-print(f'{min(seconds):.3f} s, {max(memory)} kB')
-END
+cc -O2 -o "$copy/measure" "$top/benches/measure.c"
+for _ in $(seq "$rounds"); do
+    # shellcheck disable=SC2016
+    "$copy/measure" /dev/null sh -c 'exec "$0" < "$1"' "$crate/out/tally_counts" "$file"
+done | awk '{ time = $2 + $3; if (NR == 1 || time < least) least = time; if ($4 > most) most = $4 } END { printf "%.3f s, %d kB\n", least, most }'
