@@ -1,8 +1,10 @@
--- Connect time of a host's login records, of which none is kept.
-use Rattle.std.specs.Prelude.{◌≡◌, ◌++◌, ℕ, List, [], Option, Some, None, bytes_eq, length, sum_by, unwrap_or, ℤ, pos}
+-- Connect time of login records, of which none is kept: of one host, and of several.
+use Rattle.std.specs.Prelude.{◌≡◌, ◌<◌, ◌≤◌, ◌++◌, ℕ, List, [], Option, Some, None, bytes_eq, length, slice_index_or, sum_by, unwrap_or, ℤ, pos}
 use Rattle.std.specs.Map.{lookup}
 use Rattle.tally_records.specs.declared.login.LoginRecord.{LoginRecord}
+use Rattle.tally_sessions.specs.declared.entry.Entry.{Entry}
 use Rattle.tally_sessions.specs.Clock.{pending_old_time}
+use Rattle.tally_sessions.specs.Hosts.{of_host}
 use Rattle.tally_sessions.specs.Stays.{last_time}
 use Rattle.tally_sessions.specs.inside.Tracking.{Tracked, clock, tracked_from}
 use Rattle.tally_sessions.specs.Opens.{Open, AreOpen, ended_seconds}
@@ -43,3 +45,12 @@ CountsMore old new more = (rs : List LoginRecord) → IsCountOf old rs → IsCou
 -- it is the answer about whatever records this is the count of
 abbrev pub IsAbout : {X : Type 0} → Counted → (List LoginRecord → X) → X → Type 0
 IsAbout c answer x = (rs : List LoginRecord) → IsCountOf c rs → x ≡ answer rs
+
+-- these are the counts of the records of each host, from the first on
+pub record AreCountsOf (cs : List Counted) (entries : List Entry) : Type 0 where
+  pub each : (host : ℕ) (c : Counted) → host < length cs → IsCountOf (slice_index_or cs host c) (of_host host entries)
+  pub others : (host : ℕ) → length cs ≤ host → of_host host entries ≡ []
+
+-- it is the answer about whatever entries these are the counts of
+abbrev pub IsAboutAll : {X : Type 0} → List Counted → (List Entry → X) → X → Type 0
+IsAboutAll cs answer x = (entries : List Entry) → AreCountsOf cs entries → x ≡ answer entries

@@ -1,5 +1,7 @@
-//! Connect time of a host's login records, which are counted and let go.
-ghost use Rattle.std.specs.Prelude.{◌≡◌, ◌≤◌, ◌+◌, ◌-◌, ◌*◌, ◌^◌, ◌↔◌, [], IfOk, IsTrue, OnErr, OnOk};
+//! Connect time of login records, which are counted and let go: of one host, and of several.
+ghost use Rattle.std.specs.Prelude.{◌≡◌, ◌≤◌, ◌<◌, ◌+◌, ◌-◌, ◌*◌, ◌^◌, ◌↔◌, [], ℕ, List as Items, IfOk, IsTrue, OnErr, OnOk};
+ghost use Rattle.std.specs.Cmp.Lexicographic.{slice_cmp};
+ghost use Rattle.std.specs.Ordering.{nat_cmp};
 ghost use Rattle.tally_records.specs.Choice.{every_login};
 ghost use Rattle.tally_records.specs.Records.{IsLogins, logins_in, record_count};
 ghost use Rattle.tally_sessions.specs.ConnectSums.{CountsMore, IsAbout, IsCountOf};
@@ -7,11 +9,14 @@ ghost use Rattle.tally_sessions.specs.Rows.{user_times};
 ghost use Rattle.tally_sessions.specs.Stays.{stays_from};
 ghost use Rattle.tally_sessions.specs.Sums.{sessions_among};
 ghost use Rattle.tally_sessions.specs.Totals.{session_seconds, user_seconds};
+ghost use Rattle.tally_sessions.specs.inside.Sums.{sum_at};
 
+pub(crate) mod hosts;
 mod lines;
 mod running;
 mod slot;
 
+use crate::connect::name_key::NameKey;
 use crate::connect::user_rows;
 use crate::connect_sums::running::Running;
 use crate::sessions::ENTRY_LIMIT;
@@ -89,6 +94,7 @@ impl ConnectSums {
     pub fn total(&self, until: Option<i32>) -> u64
         ensures value { IsAbout self.now (λ rs. session_seconds (stays_from 0 [] rs until)) result }
         ensures each { result ≤ (2 ^ 32 - 1) * self.now.count }
+        ensures fits { result < 2 ^ 56 }
     {
         self.running.seconds(&None, until)
     }
@@ -101,12 +107,21 @@ impl ConnectSums {
         self.running.seconds(&Some(Key::of(user)), until)
     }
 
+    /// Adds the seconds of each user's sessions to its sum, counted as in the total.
+    fn add_users(&self, sums: &mut BTreeMap<NameKey, u64>, until: Option<i32>) -> Result<(), Memory>
+        requires room { (user : Items ℕ) → sum_at (slice_cmp nat_cmp) sums.old.entries user < 2 ^ 63 }
+        ensures value { OnOk result ((user : Items ℕ) → IsAbout self.now (λ rs. sum_at (slice_cmp nat_cmp) sums.old.entries user + user_seconds user (stays_from 0 [] rs until)) (sum_at (slice_cmp nat_cmp) sums.new.entries user)) }
+        ensures fits { OnOk result ((user : Items ℕ) → sum_at (slice_cmp nat_cmp) sums.new.entries user < sum_at (slice_cmp nat_cmp) sums.old.entries user + 2 ^ 56) }
+    {
+        self.running.add_users(sums, until)
+    }
+
     /// The connect time of each user that has any, in order of name bytes, counted as in the total.
     pub fn by_user(&self, alloc: Global, until: Option<i32>) -> Result<List<UserTime>, Memory>
         ensures value { IfOk result (IsAbout self.now (λ rs. user_times (sessions_among every_login (stays_from 0 [] rs until)))) }
     {
         let mut sums = BTreeMap::new(alloc);
-        self.running.add_users(&mut sums, until)?;
+        self.add_users(&mut sums, until)?;
         List::from_vec(alloc, user_rows(alloc, &sums)?)
     }
 }

@@ -9,7 +9,7 @@
 //! where the offset of a clock changes, `span` counts the days of a part, `user_sums` sums by user, `day_sums` by day,
 //! `day_user_rows` by both, in maps by `keys`, or `day_table`, where it is small enough (`day_table_size`), filled by
 //! `day_table_sums` and read by `day_table_rows`; `sums` is what rows and tracks add up. `connect_sums` counts the records of a host and
-//! keeps none: `running` goes forward over them, `lines` ends and begins the sessions on lines, a `slot` is the latest of one line. `sessions` holds the
+//! keeps none: `running` goes forward over them, `lines` ends and begins the sessions on lines, a `slot` is the latest of one line, `hosts` sums the counts of several hosts. `sessions` holds the
 //! tracks of all hosts, which `of_entries` makes of a list, each thread those of some hosts; an `entry`
 //! and a stay are plain values, `times` are rows, `days` and `laws` state laws.
 #![tactic(auto)]
@@ -27,6 +27,7 @@ mod times;
 mod track;
 
 pub use crate::connect_sums::ConnectSums;
+pub use crate::connect_sums::hosts::{connect_by_user_of_counts, total_of_counts};
 pub use crate::days::days_add_up;
 pub use crate::entries::Entries;
 pub use crate::entries::iter::EntryIter;

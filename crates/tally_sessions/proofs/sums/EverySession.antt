@@ -46,7 +46,7 @@ pub lengths : (host : ℕ) (es : List Entry) (until : Option ℤ) → All HasLen
 lengths host es until = stays_from_have_lengths host [] (of_host host es) until
 
 -- the lengths of sessions are their seconds
-total_among : (ss : List Stay) → All HasLength ss → session_seconds ss ≡ seconds_in (sessions_among every_login ss)
+pub total_among : (ss : List Stay) → All HasLength ss → session_seconds ss ≡ seconds_in (sessions_among every_login ss)
 total_among [] h = refl
 total_among (s ∷ ss) h = by s.is_boot (total_among ss (All-tail HasLength s ss h))
   where

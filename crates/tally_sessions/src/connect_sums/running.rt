@@ -182,6 +182,7 @@ impl Running {
         requires room { (user : Items ℕ) → sum_at (slice_cmp nat_cmp) sums.old.entries user < 2 ^ 63 }
         ensures value { OnOk result ((user : Items ℕ) (rs : Items LoginRecord) → IsCountOf (counted_in self.now) rs → sum_at (slice_cmp nat_cmp) sums.new.entries user
             ≡ sum_at (slice_cmp nat_cmp) sums.old.entries user + seconds_of (Some user) (stays_from 0 [] rs until)) }
+        ensures small { OnOk result ((user : Items ℕ) → sum_at (slice_cmp nat_cmp) sums.new.entries user ≤ sum_at (slice_cmp nat_cmp) sums.old.entries user + (2 ^ 32 - 1) * self.now.count) }
     {
         let time = until.unwrap_or(self.last);
         self.sums.add_to(sums)?;

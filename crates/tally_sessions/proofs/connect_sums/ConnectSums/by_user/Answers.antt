@@ -1,9 +1,8 @@
-use Rattle.std.proofs.Common.{◌∙◌, ℕ, List, [], sym, ap, subst, arith}
+use Rattle.std.proofs.Common.{◌∙◌, ℕ, List, [], ap, arith}
 use Rattle.std.proofs.lemmas.Result.{IfOk-weaker}
 use Rattle.std.specs.Cmp.Lexicographic.{slice_cmp}
 use Rattle.std.specs.Ordering.{nat_cmp}
 use Rattle.tally_records.specs.Choice.{every_login}
-use Rattle.tally_sessions.specs.ConnectSums.{Counted, IsCountOf}
 use Rattle.tally_sessions.specs.Stays.{stays_from}
 use Rattle.tally_sessions.specs.Sums.{sessions_among}
 use Rattle.tally_sessions.specs.inside.Sums.{sum_at}
@@ -15,12 +14,11 @@ pub returns : goal.returns
 returns c = record {
   value = IfOk-weaker c.from_vec.result _ _ (λ rows is rs h.
       let stays = stays_from 0 [] rs c.args.until in
-      let counted = subst (λ (k : Counted). IsCountOf k rs) (sym c.self.view_is) h in
       is
       ∙ c.in_ok-user_rows.ensures.rows
       ∙ user_rows_are (sessions_among every_login stays) c.add_users.new.sums.entries c.in_ok-user_rows.ensures.ordered
       (λ user.
       let none = ap (λ (es : List (List ℕ × ℕ)). sum_at (slice_cmp nat_cmp) es user) c.new-sums.ensures.empty in
       let own = user_among user stays (stays_from_have_lengths 0 [] rs c.args.until) in
-      omega (arith, none, own, c.in_ok-add_users.ensures.value user rs counted))) c.from_vec.ensures;
+      omega (arith, none, own, c.in_ok-add_users.ensures.value user rs h))) c.from_vec.ensures;
 }

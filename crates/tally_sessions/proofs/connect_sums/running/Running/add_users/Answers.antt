@@ -8,7 +8,7 @@ use Rattle.std.specs.Ordering.{is_eq, nat_cmp}
 use Rattle.std.specs.Prelude.{FitsSigned}
 use Rattle.tally_sessions.specs.declared.connect_sums.slot.Slot.{Slot}
 use Rattle.tally_sessions.specs.Opens.{seconds_at}
-use Rattle.tally_sessions.specs.inside.Slots.{no_slot, one, slot_at, weight_at, weight_in}
+use Rattle.tally_sessions.specs.inside.Slots.{no_slot, one, open_count, slot_at, weight_at, weight_in}
 use Rattle.tally_sessions.specs.inside.Sums.{sum_at}
 use Rattle.tally_sessions.specs.inside.Track.{sum_of}
 use Rattle.tally_sessions.proofs.connect_sums.SlotLemmas.{own-seconds}
@@ -76,4 +76,8 @@ returns c = record {
       let all = take_all c.loop-k.k old.slots.items (omega (arith, c.loop-k-test.false, c.len-k-end.ensures, old.slots.ok.0)) in
       let left = c.loop-k.invariant.value who ∙ (λ i. (sum_at (slice_cmp nat_cmp) c.args.sums.now.entries who + sum_of old.sums (Some who)) + weight_in (seconds_at (Some who) old.clock (time i)) (all i)) in
       omega (arith, left, running-seconds old rs (Some who) c.args.until h);
+  small = λ who.
+      let slots = c.args.self.now.slots in
+      let all = take_all c.loop-k.k slots.items (omega (arith, c.loop-k-test.false, c.len-k-end.ensures, slots.ok.0)) in
+      omega (arith, c.loop-k.invariant.small who, ap open_count all, c.requires.running.fits (Some who));
 }
