@@ -1,10 +1,7 @@
-use Rattle.std.proofs.Common.{◌≡◌, ◌∙◌, ℕ, List, [], length, refl, ap, arith}
-use Rattle.std.specs.Cmp.Lexicographic.{slice_cmp}
-use Rattle.std.specs.Ordering.{nat_cmp}
+use Rattle.std.proofs.Common.{◌≡◌, ◌∙◌, ℕ, [], length, refl, ap, arith}
 use Rattle.tally_sessions.specs.Hosts.{of_host}
 use Rattle.tally_sessions.specs.Stays.{stays_from}
 use Rattle.tally_sessions.specs.Sums.{seconds_of_user}
-use Rattle.tally_sessions.specs.inside.Sums.{sum_at}
 use Rattle.tally_sessions.proofs.connect_sums.CountedHosts.{count_of_host, sum_below, sum_below-more, sum_of_counts}
 use Rattle.tally_sessions.proofs.sums.EverySession.{stays_from_have_lengths, user_among}
 use Rattle.tally_sessions.proofs.sums.HostSums.{user_joined}
