@@ -1,6 +1,6 @@
 -- Laws of chosen sessions: parts of the time and of the users add up, and a choice that names nothing leaves nothing out.
-use Rattle.std.specs.Prelude.{◌≡◌, ◌+◌, ◌≤ℤ◌, ℕ, ℤ, List, Option, Some, IfSome, reverse, if◌then◌else◌}
-use Rattle.tally_records.specs.Choice.{every_login, is_among}
+use Rattle.std.specs.Prelude.{◌≡◌, ◌+◌, ◌≤ℤ◌, ℕ, ℤ, List, Option, Some, IfSome, reverse, true, if◌then◌else◌}
+use Rattle.tally_records.specs.Choice.{every_login, is_among, is_every_login}
 use Rattle.tally_records.specs.declared.choice.LoginChoice.{LoginChoice}
 use Rattle.tally_sessions.specs.declared.entry.Entry.{Entry}
 use Rattle.tally_sessions.specs.declared.sums.Session.{Session}
@@ -37,11 +37,12 @@ UsersAddUp = (choice : LoginChoice) (some others : List (Option (List ℕ))) →
     → AddUp clock day user (sessions_of (record choice { users = some }) entries until) (sessions_of (record choice { users = others }) entries until)
     (sessions_of choice entries until)
 
--- a choice that names nothing has all stays, and all that ended sessions count
+-- a choice that names nothing has all stays, and all that ended sessions count, and any other such choice has the same sessions
 pub record EveryIsChosen (entries : List Entry) (until : Option ℤ) : Type 0 where
   pub stays : (host : ℕ) (limit : Option ℕ) → latest_stays host limit every_login entries until ≡ limited limit (reverse (stays_of host entries until))
   pub total : seconds_in (sessions_of every_login entries until) ≡ total_of entries until
   pub users : (user : List ℕ) → seconds_of_user user (sessions_of every_login entries until) ≡ connect_of user entries until
+  pub alike : (choice : LoginChoice) → is_every_login choice ≡ true → sessions_of choice entries until ≡ sessions_of every_login entries until
 
 -- this is so of every list of entries, and for every moment to count to
 abbrev pub NothingIsLeftOut : Type 0

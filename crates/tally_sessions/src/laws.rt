@@ -24,7 +24,7 @@ pub fn users_add_up()
     ensures { UsersAddUp }
 {}
 
-/// A choice that names nothing leaves out no stay and no second.
+/// A choice that names nothing leaves out no stay and no second, and all such choices have the same sessions.
 pub fn every_session_is_chosen()
     ensures { NothingIsLeftOut }
 {}

@@ -10,7 +10,7 @@ use Rattle.tally_sessions.specs.ChoiceLaws.{EveryIsChosen}
 use Rattle.tally_sessions.specs.Totals.{latest_stays, limited, stays_of}
 use Rattle.tally_sessions.specs.declared.entry.Entry.{Entry}
 use Rattle.tally_sessions.specs.declared.entry.Stay.{Stay}
-use Rattle.tally_sessions.proofs.sums.EverySession.{always_is, every_parts, every_total, every_user}
+use Rattle.tally_sessions.proofs.sums.EverySession.{always_is, every_chosen, every_parts, every_total, every_user}
 
 every_shown : (until : Option ℤ) (s : Stay) → is_shown every_login until s ≡ true
 every_shown until s = by s.is_boot (is_over (end_in until s) s.begin)
@@ -44,4 +44,5 @@ nothing_is_left_out entries until = record {
   stays = λ host limit. ap (λ ss. limited limit (reverse ss)) (all_shown until (stays_of host entries until));
   total = sym (every_total entries until);
   users = λ user. sym (every_user user entries until);
+  alike = λ choice h. every_chosen choice entries until h;
 }
