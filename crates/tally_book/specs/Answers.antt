@@ -9,10 +9,12 @@ use Rattle.tally_attempts.specs.Attempts.{latest_attempts}
 use Rattle.tally_attempts.specs.Sums.{attempt_sums}
 use Rattle.tally_clock.specs.Rows.{ClockRows}
 use Rattle.tally_sessions.specs.declared.entry.Entry.{Entry}
+use Rattle.tally_records.specs.Choice.{is_every_login}
 use Rattle.tally_records.specs.declared.choice.LoginChoice.{LoginChoice}
 use Rattle.tally_sessions.specs.declared.times.DayTime.{DayTime}
 use Rattle.tally_sessions.specs.declared.times.DayUserTime.{DayUserTime}
 use Rattle.tally_sessions.specs.declared.times.UserTime.{UserTime}
+use Rattle.tally_sessions.specs.ConnectSums.{AreCountsOf, Counted}
 use Rattle.tally_sessions.specs.Days.{IsDay, IsOffset, local}
 use Rattle.tally_sessions.specs.Rows.{day_times, day_user_times, user_times}
 use Rattle.tally_sessions.specs.Sums.{seconds_in, sessions_of}
@@ -96,3 +98,9 @@ answer_of clock (questions.Attempts host limit choice) logins procs =
     answers.Attempts (latest_attempts host limit choice logins) (first_time host logins)
 answer_of clock (questions.AttemptSums limit choice) logins procs =
     answers.AttemptSums (attempt_sums limit choice logins)
+
+-- it is the answer on the connect time of all sessions, by user or in total alone, about whatever logins these are the counts of
+abbrev pub IsAnswerOfCounts : List Counted → Bool → Option ℤ → Answer → Type 0
+IsAnswerOfCounts cs by_user until answer = (clock : ClockRows) (offset : ℤ) (choice : LoginChoice) (logins : List Entry) (procs : List ProcEntry)
+    → is_every_login choice ≡ true → AreCountsOf cs logins
+    → answer ≡ answer_of clock (questions.Connect false by_user offset choice until) logins procs

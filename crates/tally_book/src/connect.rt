@@ -11,7 +11,7 @@ use tally_clock::Clock;
 use tally_records::{List, LoginChoice, Memory};
 use tally_sessions::{DayTime, DayUserTime, Sessions, UserTime, user_rows_add_up};
 
-fn user_rows(alloc: Global, times: &[UserTime]) -> Result<Vec<ConnectRow>, AllocError>
+pub(crate) fn user_rows(alloc: Global, times: &[UserTime]) -> Result<Vec<ConnectRow>, AllocError>
     ensures { IfOk result (λ rows. rows.items ≡ map row_of_user times.now) }
 {
     times

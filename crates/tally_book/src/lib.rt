@@ -1,10 +1,12 @@
-//! A book of stored records: sessions, summaries and the history of answered calls in one object.
+//! A book of stored records: sessions, summaries and the history of answered calls in one object. `counted` answers on connect
+//! time from counts of records that are not stored.
 #![tactic(auto)]
 
 mod answering;
 mod book;
 mod boxed;
 mod connect;
+mod counted;
 mod fault;
 mod history;
 mod laws;
@@ -15,6 +17,7 @@ mod storing;
 
 pub use book::{Book, CALL_LIMIT};
 pub use boxed::Boxed;
+pub use counted::connect_of_counts;
 pub use fault::{AskFault, PostFault};
 pub use history::{Call, Counts, Receipt, Served};
 pub use laws::{entries_are_posts, host_order_is_enough};
