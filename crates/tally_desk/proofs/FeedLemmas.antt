@@ -1,67 +1,28 @@
 -- How far a feed has come.
-use Rattle.std.proofs.Common.{◌≡◌, ◌∙◌, ◌++◌, ◌≤◌, ◌<◌, ◌+◌, ◌*◌, ◌/◌, ℕ, List, [], ◌∷◌, Option, Some, None, map, take, drop, length, ap, sym, subst, refl, arith, append-nil, append_assoc}
-use Rattle.std.proofs.lemmas.List.{drop_all, length-drop, length-take, map-append}
+use Rattle.std.proofs.Common.{◌≡◌, ◌∙◌, ◌++◌, ◌≤◌, ◌<◌, ◌+◌, ◌*◌, ℕ, List, [], ◌∷◌, Option, Some, None, map, take, drop, length, ap, sym, subst, refl, append-nil}
 use Rattle.std.specs.List.{All}
 use Rattle.std.specs.Prelude.{IfSome}
 use Rattle.tally_records.specs.Records.{Records, record_count}
 use Rattle.tally_records.specs.declared.batch.Kind.{Kind}
-use Rattle.tally_records.specs.declared.batch.Kind.TheVariants.{Login, FailedLogin, Proc}
-use Rattle.tally_desk.specs.Blocks.{block_fault, block_size, feed_fault, good_blocks}
-use Rattle.tally_desk.specs.Batches.{AreJoined, record_size, records_in}
+use Rattle.tally_desk.specs.Blocks.{block_fault, block_size, good_blocks}
+use Rattle.tally_desk.specs.Batches.{records_in}
 use Rattle.tally_book.specs.Contents.{Contents}
 use Rattle.tally_book.specs.declared.fault.PostFault.{PostFault}
 use Rattle.tally_book.specs.declared.fault.PostFault.TheVariants as post
-use Rattle.tally_desk.specs.Feeds.{AreOf, IsCut, IsFull, IsFullAt, IsRefused, IsWhole, Posts, Refuses, Stops, good_batches, refusal_of}
+use Rattle.tally_desk.specs.Feeds.{AreOf, IsCut, IsFull, IsFullAt, IsRefused, IsWhole, Posts, Refuses, Stops, refusal_of}
 use Rattle.tally_desk.specs.Passes.{PassState, deeds}
 use Rattle.tally_desk.specs.inside.Turns.{IsBatch, Takes, TakesBlock, TurnStops}
 use Rattle.tally_desk.specs.declared.fault.FeedFault.{FeedFault}
 use Rattle.tally_desk.specs.declared.fault.FeedFault.TheVariants.{Memory, Read, Torn, TooLong, Bad, LoginsFull, ProcsFull, CallsFull}
 use Rattle.tally_desk.proofs.PostLemmas.{posts_more, posts_none, posts_same}
-use Rattle.tally_desk.proofs.JoinLemmas.{Covers, covers_all, covers_more, covers_none}
-use Rattle.tally_desk.proofs.BlockLemmas.{fault-end, fault-here, fault-later, first_fault_from, good-end, good-here, good-later, good_from}
+use Rattle.tally_desk.proofs.BlockLemmas.{good-here, good-later, good_from}
+use Rattle.tally_desk.proofs.Taken.{Adds, FedTo, Told, block_of_total, fed_fault, told_all, told_full, told_last, told_none}
 
--- the first blocks were posted, `turn` in number, and these bytes are to come
-pub record FedTo (most : ℕ) (kind : Kind) (bytes : List ℕ) (posts : List Records → Type 0) (turn : ℕ) (rest : List ℕ) : Type 0 where
-  pub done : List (List ℕ)
-  pub posted : posts (map (records_in kind) done)
-  pub good : good_blocks most kind bytes ≡ done ++ good_from most kind (length bytes) turn rest
-  pub fault : first_fault_from most kind (length bytes) turn rest ≡ feed_fault most kind bytes
-  pub covers : Covers kind bytes done rest
+-- what was posted, and then a batch
+pub posts_one : (old mid new : PassState) (batch : Records) → Posts mid new (batch ∷ []) → Adds (Posts old mid) (Posts old new) batch
+posts_one old mid new batch posted batches before = posts_more old mid new batches (batch ∷ []) before posted
 
 module _ (most : ℕ) (kind : Kind) (bytes : List ℕ) (old : PassState) where
-  pub fed_none : FedTo most kind bytes (Posts old old) 0 bytes
-  fed_none = record { done = []; posted = posts_none old old refl; good = refl; fault = refl; covers = covers_none kind bytes }
-
-  -- one more block
-  pub fed_more : (mid new : PassState) (turn : ℕ) (rest : List ℕ) → FedTo most kind bytes (Posts old mid) turn rest → 0 < length rest
-      → block_fault most kind (length bytes) (turn, take (block_size kind) rest) ≡ None
-      → Posts mid new (records_in kind (take (block_size kind) rest) ∷ [])
-      → FedTo most kind bytes (Posts old new) (turn + 1) (drop (block_size kind) rest)
-  fed_more mid new turn rest fed some ok posted =
-      let block = take (block_size kind) rest in
-      record {
-        done = fed.done ++ block ∷ [];
-        posted = subst (Posts old new) (sym (map-append (records_in kind) fed.done (block ∷ [])))
-            (posts_more old mid new (map (records_in kind) fed.done) (records_in kind block ∷ []) fed.posted posted);
-        good = fed.good ∙ ap (λ l. fed.done ++ l) (good-later most kind (length bytes) turn rest some ok)
-            ∙ sym (append_assoc fed.done (block ∷ []) (good_from most kind (length bytes) (turn + 1) (drop (block_size kind) rest)));
-        fault = sym (fault-later most kind (length bytes) turn rest some ok) ∙ fed.fault;
-        covers = covers_more kind bytes fed.done rest fed.covers;
-      }
-
-  -- the end
-  pub fed_whole : (new : PassState) (turn : ℕ) (rest : List ℕ) → FedTo most kind bytes (Posts old new) turn rest → rest ≡ [] → IsWhole most kind bytes (Posts old new)
-  fed_whole new turn rest fed end =
-      let all : fed.done ≡ good_blocks most kind bytes =
-      sym (fed.good ∙ ap (λ l. fed.done ++ l) (good-end most kind (length bytes) turn rest end) ∙ append-nil fed.done) in
-      let batches : map (records_in kind) fed.done ≡ good_batches most kind bytes = ap (map (records_in kind)) all in
-      record {
-        no_fault = sym fed.fault ∙ fault-end most kind (length bytes) turn rest end;
-        all = subst (Posts old new) batches fed.posted;
-        joined = subst (λ l. AreJoined l (records_in kind bytes)) batches
-            (covers_all kind bytes fed.done (subst (Covers kind bytes fed.done) end fed.covers));
-      }
-
   -- a block with a fault
   pub fed_refused : (new : PassState) (turn : ℕ) (rest : List ℕ) (f : FeedFault) → FedTo most kind bytes (Posts old new) turn rest → 0 < length rest
       → block_fault most kind (length bytes) (turn, take (block_size kind) rest) ≡ Some f → IsRefused most kind bytes (Posts old new) f
@@ -69,7 +30,7 @@ module _ (most : ℕ) (kind : Kind) (bytes : List ℕ) (old : PassState) where
       let all : fed.done ≡ good_blocks most kind bytes =
       sym (fed.good ∙ ap (λ l. fed.done ++ l) (good-here most kind (length bytes) turn rest f some bad) ∙ append-nil fed.done) in
       record {
-        fault_is = sym fed.fault ∙ fault-here most kind (length bytes) turn rest f some bad;
+        fault_is = fed_fault most kind bytes (Posts old new) turn rest f fed some bad;
         all = subst (Posts old new) (ap (map (records_in kind)) all) fed.posted;
       }
 
@@ -133,25 +94,8 @@ pub record FullPosts (kind : Kind) (posts : List Records → Type 0) (turn : ℕ
   pub of_kind : AreOf kind batches
   pub full : All IsFull batches
 
--- where an input tells its bytes, a feed has come so far
-pub record Told (most : ℕ) (kind : Kind) (now : Option (List ℕ)) (posts : List Records → Type 0) (turn : ℕ) (bytes : List ℕ) : Type 0 where
-  pub rest : List ℕ
-  pub to_come : now ≡ Some rest
-  pub total : length bytes ≡ turn * block_size kind + length rest
-  pub fed : FedTo most kind bytes posts turn rest
-
 pub begins : (most : ℕ) (kind : Kind) (bytes : List ℕ) (now : Option (List ℕ)) (p : PassState) → now ≡ Some bytes → Told most kind now (Posts p p) 0 bytes
-begins most kind bytes now p tells = record { rest = bytes; to_come = tells; total = omega arith; fed = fed_none most kind bytes p }
-
-count_full : (kind : Kind) (n : ℕ) → n / record_size kind ≡ 1024 → n ≤ block_size kind → n ≡ block_size kind
-count_full Login n is few = omega arith
-count_full FailedLogin n is few = omega arith
-count_full Proc n is few = omega arith
-
-count_short : (kind : Kind) (n : ℕ) → n / record_size kind < 1024 → n < block_size kind
-count_short Login n short = omega arith
-count_short FailedLogin n short = omega arith
-count_short Proc n short = omega arith
+begins most kind bytes now p tells = told_none most kind bytes now (Posts p p) (posts_none p p refl) tells
 
 module _ (most : ℕ) (kind : Kind) (bytes : List ℕ) (now : Option (List ℕ)) (old : PassState) where
   -- a turn that stops a feed
@@ -159,49 +103,29 @@ module _ (most : ℕ) (kind : Kind) (bytes : List ℕ) (now : Option (List ℕ))
       → TurnStops most kind turn told.rest f → Stops most kind bytes (Posts old new) seen f
   told_stops new turn seen f told stops = fed_stops most kind bytes old new turn told.rest seen f told.fed told.total stops
 
-  block_of_total : (mid : PassState) (turn : ℕ) → (told : Told most kind now (Posts old mid) turn bytes)
-      → block_fault most kind (turn * block_size kind + length told.rest) (turn, take (block_size kind) told.rest) ≡ None
-      → block_fault most kind (length bytes) (turn, take (block_size kind) told.rest) ≡ None
-  block_of_total mid turn told good = ap (λ n. block_fault most kind n (turn, take (block_size kind) told.rest)) told.total ∙ good
-
   -- a block whose post was refused
   pub told_unposted : (after : Option (List ℕ)) (mid new : PassState) (turn : ℕ) (batch : Records) (seen : Contents) (refusal : PostFault) → (told : Told most kind now (Posts old mid) turn bytes)
       → TakesBlock most kind turn told.rest after batch → deeds new ≡ deeds mid → Refuses seen batch refusal → Stops most kind bytes (Posts old new) seen (refusal_of refusal)
   told_unposted after mid new turn batch seen refusal told takes same cause =
-      fed_unposted most kind bytes old new turn told.rest seen refusal (fed_same most kind bytes old mid new turn told.rest told.fed same) takes.some (block_of_total mid turn told takes.good)
+      fed_unposted most kind bytes old new turn told.rest seen refusal (fed_same most kind bytes old mid new turn told.rest told.fed same) takes.some
+      (block_of_total most kind bytes now (Posts old mid) turn told None takes.good)
       (subst (λ b. Refuses seen b refusal) takes.batch_is cause)
-
-  fed_next : (after : Option (List ℕ)) (mid new : PassState) (turn : ℕ) (batch : Records) → (told : Told most kind now (Posts old mid) turn bytes)
-      → TakesBlock most kind turn told.rest after batch → Posts mid new (batch ∷ []) → FedTo most kind bytes (Posts old new) (turn + 1) (drop (block_size kind) told.rest)
-  fed_next after mid new turn batch told takes posted =
-      fed_more most kind bytes old mid new turn told.rest told.fed takes.some (block_of_total mid turn told takes.good) (subst (λ b. Posts mid new (b ∷ [])) takes.batch_is posted)
 
   -- a full block
   pub told_more : (after : Option (List ℕ)) (mid new : PassState) (turn : ℕ) (batch : Records) → (told : Told most kind now (Posts old mid) turn bytes)
       → TakesBlock most kind turn told.rest after batch → Posts mid new (batch ∷ []) → IsFull batch → Told most kind after (Posts old new) (turn + 1) bytes
   told_more after mid new turn batch told takes posted full =
-      let few : length (take (block_size kind) told.rest) ≤ block_size kind = omega (arith, length-take (block_size kind) told.rest) in
-      let size : length (take (block_size kind) told.rest) ≡ block_size kind = count_full kind _ (sym takes.count ∙ full) few in
-      let long : block_size kind ≤ length told.rest = omega (arith, length-take (block_size kind) told.rest, size) in
-      let next : (turn + 1) * block_size kind ≡ turn * block_size kind + block_size kind = omega arith in
-      record {
-        rest = drop (block_size kind) told.rest;
-        to_come = takes.left_is;
-        total = omega (arith, told.total, next, long, length-drop (block_size kind) told.rest);
-        fed = fed_next after mid new turn batch told takes posted;
-      }
+      told_full most kind bytes now (Posts old mid) turn told after (Posts old new) batch takes (posts_one old mid new batch posted) full
 
   -- a short block, which is the last
   pub told_short : (after : Option (List ℕ)) (mid new : PassState) (turn : ℕ) (batch : Records) → (told : Told most kind now (Posts old mid) turn bytes)
       → TakesBlock most kind turn told.rest after batch → Posts mid new (batch ∷ []) → record_count batch < 1024 → IsWhole most kind bytes (Posts old new)
   told_short after mid new turn batch told takes posted short =
-      let size : length (take (block_size kind) told.rest) < block_size kind = count_short kind _ (subst (λ n. n < 1024) takes.count short) in
-      let end : length told.rest ≤ block_size kind = omega (arith, length-take (block_size kind) told.rest) in
-      fed_whole most kind bytes old new (turn + 1) (drop (block_size kind) told.rest) (fed_next after mid new turn batch told takes posted) (drop_all (block_size kind) told.rest end)
+      told_last most kind bytes now (Posts old mid) turn told after (Posts old new) batch takes (posts_one old mid new batch posted) short
 
   -- the end of the input
   pub told_end : (new : PassState) (turn : ℕ) → (told : Told most kind now (Posts old new) turn bytes) → told.rest ≡ [] → IsWhole most kind bytes (Posts old new)
-  told_end new turn told end = fed_whole most kind bytes old new turn told.rest told.fed end
+  told_end new turn told end = told_all most kind bytes now (Posts old new) turn told end
 
 module _ (most : ℕ) (kind : Kind) (next : Option Records) where
   -- the first block, or the end

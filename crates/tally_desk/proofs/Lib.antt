@@ -12,6 +12,7 @@ pub mod Histories
 pub mod JoinLemmas
 pub mod KeepLemmas
 pub mod Keeps
+pub mod LoginCountLemmas
 pub mod Looks
 pub mod Passes
 pub mod Pieces
@@ -20,6 +21,7 @@ pub mod ReadLemmas
 pub mod RefusalLemmas
 pub mod Seats
 pub mod TakeLemmas
+pub mod Taken
 pub mod Tickets
 pub mod TornLemmas
 pub mod Totals

@@ -3,6 +3,7 @@ pub mod Blocks
 pub mod Callers
 pub mod Counting
 pub mod Feeds
+pub mod LoginCounting
 pub mod Openings
 pub mod Passes
 pub mod Reading

@@ -1,4 +1,4 @@
-//! Why no desk was opened or closed, and why an input is refused.
+//! Why no desk was opened or closed, and why an input is refused or not counted.
 ghost use Rattle.std.specs.Prelude.{◌≡◌};
 ghost use Rattle.tally_desk.specs.Feeds.{refusal_of};
 ghost use Rattle.tally_desk.specs.declared.fault.FeedFault.TheVariants as fault;
@@ -72,6 +72,15 @@ pub enum FeedFault {
     /// The history holds as many calls as it may.
     #[error("too many calls")]
     CallsFull,
+}
+
+/// Why an input's login records were not counted to its end, and how many were counted before.
+#[derive(Debug, PartialEq, Eq, Drop)]
+pub struct Uncounted {
+    /// The records of the full blocks before the one with the fault, 1,024 of each.
+    pub counted: u64,
+    /// It is none of a book's: not `LoginsFull`, `ProcsFull` or `CallsFull`.
+    pub fault: FeedFault,
 }
 
 impl From<AllocError> for FeedFault {

@@ -12,6 +12,7 @@ ghost use Rattle.tally_desk.specs.Passes.{Keeps};
 mod block;
 pub(crate) mod counting;
 pub(crate) mod input;
+pub(crate) mod login_counting;
 pub(crate) mod memory;
 pub(crate) mod reader;
 

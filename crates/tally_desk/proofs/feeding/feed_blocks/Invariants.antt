@@ -3,7 +3,8 @@ use Rattle.tally_desk.specs.Blocks.{block_size}
 use Rattle.tally_desk.specs.Feeds.{Posts}
 use Rattle.tally_desk.specs.Passes.{Keeps}
 use Rattle.tally_desk.specs.Takings.{TakesAtMost}
-use Rattle.tally_desk.proofs.FeedLemmas.{FullPosts, Told}
+use Rattle.tally_desk.proofs.Taken.{Told}
+use Rattle.tally_desk.proofs.FeedLemmas.{FullPosts}
 use Rattle.tally_desk.proofs.feeding.feed_blocks.Given as goal
 
 abbrev pub invariant-loop-turn : goal.invariant-loop-turn

@@ -1,0 +1,98 @@
+//! An input whose login records are counted block by block, and not kept.
+ghost use Rattle.std.specs.Prelude.{◌≡◌, ◌≢◌, ◌+◌, ◌-◌, ◌^◌, ◌<◌, ◌≤◌, ◌*◌, IfOk, OnOk, List, [], ℕ, IfErr, Some, length, true};
+ghost use Rattle.std.specs.Io.KnownBytes.{IsAtEnd};
+ghost use Rattle.tally_sessions.specs.ConnectSums.{IsCountOf};
+ghost use Rattle.tally_desk.specs.Blocks.{block_size};
+ghost use Rattle.tally_desk.specs.LoginCounting.{IsCountOfAtMost, IsLoginCount, IsLoginStop, IsStoppedLoginCount};
+ghost use Rattle.tally_desk.specs.Takings.{TakesAtMost};
+ghost use Rattle.tally_desk.specs.inside.LoginStops.{stopped_with};
+ghost use Rattle.tally_desk.specs.declared.fault.FeedFault.TheVariants as fault;
+
+use crate::fault::{FeedFault, Uncounted};
+use crate::feeding::block::{block_size, new_block, next_batch};
+use crate::feeding::expect_end;
+use crate::feeding::input::Input;
+use std::alloc::Global;
+use std::hash::RandomState;
+use tally_records::{BATCH_LIMIT, Kind};
+use tally_sessions::ConnectSums;
+
+/// Counts the records of the input's blocks of 1,024 in order, up to its end or to its first block that is refused. More than `most`
+/// blocks are too many.
+fn count_login_blocks<I: Input>(
+    alloc: Global,
+    input: &mut I,
+    sums: &mut ConnectSums,
+    most: u32,
+) -> Result<(), FeedFault>
+    requires empty { IsCountOf sums.old [] }
+    requires few { most ≤ 16384 }
+    requires countable { I.failures input.old < 2 ^ 64 - 1 }
+    ensures few { TakesAtMost (most * block_size Kind.Login + 1) (I.to_come input.old) (I.to_come input.new) }
+    ensures end { OnOk result (IsAtEnd (I.to_come input.new)) }
+    ensures nature { I.can_fail input.new ≡ I.can_fail input.old }
+    ensures some { OnOk result (IsCountOfAtMost (most * 1024) sums.new) }
+    ensures whole { OnOk result ((bytes : List ℕ) → I.to_come input.old ≡ Some bytes
+        → IsLoginCount most bytes sums.new) }
+    ensures stops { IfErr result (λ f. (bytes : List ℕ) → I.to_come input.old ≡ Some bytes
+        → IsLoginStop most bytes (stopped_with sums.new.count f)) }
+    ensures place { IfErr result (λ f. IsStoppedLoginCount most (stopped_with sums.new.count f)) }
+    ensures failures { OnOk result (I.failures input.new ≡ I.failures input.old) }
+    ensures unfailed { IfErr result (λ f. f ≢ fault.Read
+        → I.failures input.new ≡ I.failures input.old) }
+    ensures read { IfErr result (λ f. f ≡ fault.Read
+        → (I.failures input.new ≡ I.failures input.old + 1) × (I.can_fail input.old ≡ true)) }
+{
+    let mut block = new_block(alloc, block_size(Kind::Login))?;
+    for turn in 0..most {
+        let Some(batch) = next_batch(alloc, Kind::Login, input, &mut block, turn, most)? else {
+            return Ok(());
+        };
+        sums.add(&batch)?;
+        let records = batch.len();
+        if records < BATCH_LIMIT {
+            return Ok(());
+        }
+    }
+    expect_end(input, most)?;
+    Ok(())
+}
+
+/// The connect time of an input's login records. They are read by blocks of 1,024, and none is kept.
+///
+/// At most `most` blocks are read, up to 16,384 of them. The first fault of the input is named, which is that of `feed` to a book
+/// with room for `most` blocks, and with it how many records were counted, those of the full blocks before it. `Memory` and
+/// `Read` come where memory runs out or the input fails before. It takes memory for one block of 384 KiB and its batch, and for
+/// the lines and the users of logins, whose tables are hashed by the keys.
+pub fn count_logins<I: Input>(
+    alloc: Global,
+    keys: RandomState,
+    input: &mut I,
+    most: u32,
+) -> Result<ConnectSums, Uncounted>
+    requires few { most ≤ 16384 }
+    requires countable { I.failures input.old < 2 ^ 64 - 1 }
+    ensures few { TakesAtMost (most * block_size Kind.Login + 1) (I.to_come input.old) (I.to_come input.new) }
+    ensures end { OnOk result (IsAtEnd (I.to_come input.new)) }
+    ensures nature { I.can_fail input.new ≡ I.can_fail input.old }
+    ensures some { IfOk result (IsCountOfAtMost (most * 1024)) }
+    ensures whole { IfOk result (λ sums. (bytes : List ℕ) → I.to_come input.old ≡ Some bytes
+        → IsLoginCount most bytes sums) }
+    ensures stops { IfErr result (λ u. (bytes : List ℕ) → I.to_come input.old ≡ Some bytes
+        → IsLoginStop most bytes u) }
+    ensures place { IfErr result (IsStoppedLoginCount most) }
+    ensures failures { OnOk result (I.failures input.new ≡ I.failures input.old) }
+    ensures unfailed { IfErr result (λ u. u.fault ≢ fault.Read
+        → I.failures input.new ≡ I.failures input.old) }
+    ensures read { IfErr result (λ u. u.fault ≡ fault.Read
+        → (I.failures input.new ≡ I.failures input.old + 1) × (I.can_fail input.old ≡ true)) }
+{
+    let mut sums = ConnectSums::new(alloc, keys);
+    match count_login_blocks(alloc, input, &mut sums, most) {
+        Ok(()) => Ok(sums),
+        Err(fault) => Err(Uncounted {
+            counted: sums.len() as u64,
+            fault,
+        }),
+    }
+}
