@@ -1,5 +1,5 @@
 -- How far a count of login records has come.
-use Rattle.std.proofs.Common.{◌≡◌, ◌∙◌, ◌++◌, ◌≤◌, ◌<◌, ◌+◌, ◌*◌, ◌⊎◌, inl, inr, ℕ, List, [], ◌∷◌, Option, map, length, ap, sym, subst, refl, arith, append-nil, length-append}
+use Rattle.std.proofs.Common.{◌≡◌, ◌∙◌, ◌++◌, ◌≤◌, ◌<◌, ◌+◌, ◌*◌, ℕ, List, [], ◌∷◌, Option, map, length, ap, sym, subst, refl, arith, append-nil, length-append}
 use Rattle.std.specs.Prelude.{sum_by}
 use Rattle.std.proofs.lemmas.Grind.{flat_map-append}
 use Rattle.std.proofs.lemmas.List.{map-append}
@@ -12,7 +12,6 @@ use Rattle.tally_records.specs.declared.login.LoginRecord.{LoginRecord}
 use Rattle.tally_sessions.specs.ConnectSums.{Counted, CountsMore, IsCountOf}
 use Rattle.tally_sessions.specs.declared.sessions.TheConstants.{ENTRY_LIMIT}
 use Rattle.tally_desk.specs.Batches.{records_in}
-use Rattle.tally_desk.specs.Blocks.{good_blocks}
 use Rattle.tally_desk.specs.Feeds.{IsAfter, IsFull, IsWhole, good_batches}
 use Rattle.tally_desk.specs.LoginCounting.{IsCountOfAtMost, IsLoginCount, IsLoginFault, IsLoginStop, IsOfInput, IsStoppedLoginCount, good_logins}
 use Rattle.tally_desk.specs.inside.LoginStops.{stopped_with}

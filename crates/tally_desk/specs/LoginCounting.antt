@@ -1,6 +1,6 @@
 -- What comes of counting the login records of an input.
 use Rattle.std.specs.Prelude.{◌≡◌, ◌*◌, ◌≤◌, ℕ, List, None, Some, ⊤, length, sum_by}
-use Rattle.tally_records.specs.Records.{Records, logins_in}
+use Rattle.tally_records.specs.Records.{logins_in}
 use Rattle.tally_records.specs.declared.batch.Kind.TheVariants.{Login}
 use Rattle.tally_records.specs.declared.login.LoginRecord.{LoginRecord}
 use Rattle.tally_sessions.specs.ConnectSums.{Counted, IsCountOf}
@@ -8,7 +8,7 @@ use Rattle.tally_desk.specs.Batches.{records_in}
 use Rattle.tally_desk.specs.Blocks.{feed_fault}
 use Rattle.tally_desk.specs.Feeds.{IsAfter, good_batches}
 use Rattle.tally_desk.specs.declared.fault.FeedFault.{FeedFault}
-use Rattle.tally_desk.specs.declared.fault.FeedFault.TheVariants.{Memory, Read, Torn, TooLong, Bad, LoginsFull, ProcsFull, CallsFull}
+use Rattle.tally_desk.specs.declared.fault.FeedFault.TheVariants.{Memory, Read, LoginsFull, ProcsFull, CallsFull}
 use Rattle.tally_desk.specs.declared.fault.Uncounted.{Uncounted}
 
 -- how many records the good blocks of an input have
