@@ -4,6 +4,7 @@ mod calls;
 mod counting;
 mod failed;
 mod feeding;
+mod login_counting;
 mod makers;
 mod readers;
 mod rounds;
