@@ -1,7 +1,8 @@
 //! An input whose login records are counted block by block, and not kept.
-ghost use Rattle.std.specs.Prelude.{◌≡◌, ◌≢◌, ◌+◌, ◌-◌, ◌^◌, ◌<◌, ◌≤◌, ◌*◌, IfOk, OnOk, List, [], ℕ, IfErr, Some, length, true};
+ghost use Rattle.std.specs.Prelude.{◌≡◌, ◌≢◌, ◌+◌, ◌-◌, ◌^◌, ◌<◌, ◌≤◌, ◌*◌, IfErr, IfOk, List, OnErr, OnOk, Some, [], true, ℕ};
 ghost use Rattle.std.specs.Io.KnownBytes.{IsAtEnd};
-ghost use Rattle.tally_sessions.specs.ConnectSums.{IsCountOf};
+ghost use Rattle.tally_records.specs.Records.{IsLogins, logins_in, record_count};
+ghost use Rattle.tally_sessions.specs.ConnectSums.{CountsMore, IsCountOf};
 ghost use Rattle.tally_desk.specs.Blocks.{block_size};
 ghost use Rattle.tally_desk.specs.LoginCounting.{IsCountOfAtMost, IsLoginCount, IsLoginStop, IsStoppedLoginCount};
 ghost use Rattle.tally_desk.specs.Takings.{TakesAtMost};
@@ -14,8 +15,20 @@ use crate::feeding::expect_end;
 use crate::feeding::input::Input;
 use std::alloc::Global;
 use std::hash::RandomState;
-use tally_records::{BATCH_LIMIT, Kind};
-use tally_sessions::ConnectSums;
+use tally_records::{BATCH_LIMIT, Batch, Kind};
+use tally_sessions::{ConnectSums, ENTRY_LIMIT};
+
+/// Counts the records of a batch too, or none of them. There is room for them below the limit.
+fn count_batch(sums: &mut ConnectSums, batch: &Batch) -> Result<(), FeedFault>
+    requires kind { IsLogins batch.now }
+    requires room { sums.old.count + record_count batch.now ≤ ENTRY_LIMIT }
+    ensures added { OnOk result (CountsMore sums.old sums.new (logins_in batch.now)) }
+    ensures refused { OnErr result (sums.new ≡ sums.old) }
+    ensures memory { IfErr result (λ f. f ≡ fault.Memory) }
+{
+    sums.add(batch)?;
+    Ok(())
+}
 
 /// Counts the records of the input's blocks of 1,024 in order, up to its end or to its first block that is refused. More than `most`
 /// blocks are too many.
@@ -48,7 +61,7 @@ fn count_login_blocks<I: Input>(
         let Some(batch) = next_batch(alloc, Kind::Login, input, &mut block, turn, most)? else {
             return Ok(());
         };
-        sums.add(&batch)?;
+        count_batch(sums, &batch)?;
         let records = batch.len();
         if records < BATCH_LIMIT {
             return Ok(());

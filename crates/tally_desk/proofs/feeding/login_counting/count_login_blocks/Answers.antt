@@ -39,8 +39,8 @@ next_batch-requires-clause-ready g c = c.loop-turn.invariant.ready
 pub next_batch-requires-clause-early : goal.next_batch-requires-clause-early
 next_batch-requires-clause-early g c = c.loop-turn-test.true
 
-pub add-requires : goal.add-requires
-add-requires g c =
+pub count_batch-requires : goal.count_batch-requires
+count_batch-requires g c =
     let batch = some_batch Login _ c.in-Some.batch c.in-Some.is c.in_ok-batch.ensures.batch in
     record {
       kind = batch.of_kind;
@@ -107,14 +107,14 @@ returns-in_default g c =
       read = tt;
     }
 
-pub returns-in_err-add : goal.returns-in_err-add
-returns-in_err-add g c =
-    let p = err_from_is_err_and c.from_residual-in_err-add.result c.from_residual-in_err-add.ensures.1 in
+pub returns-in_err-count_batch : goal.returns-in_err-count_batch
+returns-in_err-count_batch g c =
+    let p = err_from_is_err_and c.from_residual-in_err-count_batch.result c.from_residual-in_err-count_batch.ensures.1 in
     let before = c.loop-turn.invariant in
     let taken = c.in_ok-batch.ensures in
-    let now = c.add.new.self in
-    let same = c.in_err-add.ensures.refused in
-    rw (p.1, p.2) (record {
+    let now = c.count_batch.new.sums in
+    let same = c.in_err-count_batch.ensures.refused in
+    rw (p.1, p.2, c.in_err-count_batch.ensures.memory) (record {
       few = takes_few Login c.loop-turn.turn _ _ _ before.taken c.args.most taken.few c.loop-turn-test.true;
       end = tt;
       nature = taken.nature ∙ before.nature;
@@ -132,8 +132,8 @@ pub returns-then-records-lt-BATCH_LIMIT : goal.returns-then-records-lt-BATCH_LIM
 returns-then-records-lt-BATCH_LIMIT g c =
     let before = c.loop-turn.invariant in
     let taken = c.in_ok-batch.ensures in
-    let now = c.add.new.self in
-    let more = c.in_ok-add.ensures.added in
+    let now = c.count_batch.new.sums in
+    let more = c.in_ok-count_batch.ensures.added in
     let batch = some_batch Login _ c.in-Some.batch c.in-Some.is taken.batch in
     let short : record_count c.in-Some.batch < 1024 = omega (arith, c.len-records.ensures.count, c.if-records-lt-BATCH_LIMIT.true) in
     record {
@@ -157,8 +157,8 @@ pub loop-turn-preserved : goal.loop-turn-preserved
 loop-turn-preserved g c =
     let next = c.in_ok-batch.ensures in
     let before = c.loop-turn.invariant in
-    let now = c.add.new.self in
-    let more = c.in_ok-add.ensures.added in
+    let now = c.count_batch.new.sums in
+    let more = c.in_ok-count_batch.ensures.added in
     let batch = some_batch Login _ c.in-Some.batch c.in-Some.is next.batch in
     let full : IsFull c.in-Some.batch = omega (arith, batch.few, c.len-records.ensures.count, c.if-records-lt-BATCH_LIMIT.false) in
     record {
