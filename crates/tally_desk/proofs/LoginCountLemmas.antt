@@ -70,13 +70,17 @@ last_counted most s t turn batch counted early is more = (
   omega (arith, length-append counted.records (logins_in batch), counted.count, logins_count batch is.of_kind, is.few, early),
 )
 
--- the end of the input
-pub whole_count : (most : ℕ) (bytes : List ℕ) (s : Counted) → IsWhole most Login bytes (CountsIn s) → IsLoginCount most bytes s
-whole_count most bytes s whole = record { no_fault = whole.no_fault; count = subst (IsCountOf s) whole.joined.logins whole.all }
-
 -- records of some batches are as many as their sum
 logins_of_batches : (batches : List Records) (s : Counted) → CountsIn s batches → s.count ≡ sum_by (λ batch. length (logins_in batch)) batches
 logins_of_batches batches s counted = counted.count ∙ length-flat_map logins_in batches
+
+-- the end of the input
+pub whole_count : (most : ℕ) (bytes : List ℕ) (s : Counted) → IsWhole most Login bytes (CountsIn s) → IsLoginCount most bytes s
+whole_count most bytes s whole = record {
+  no_fault = whole.no_fault;
+  count = subst (IsCountOf s) whole.joined.logins whole.all;
+  counted = logins_of_batches (good_batches most Login bytes) s whole.all;
+}
 
 module _ (most : ℕ) (bytes : List ℕ) (now : Option (List ℕ)) (s : Counted) (turn : ℕ) (told : Told most Login now (CountsIn s) turn bytes) where
   -- what was counted is of good blocks

@@ -15,10 +15,11 @@ use Rattle.tally_desk.specs.declared.fault.Uncounted.{Uncounted}
 abbrev pub good_logins : ℕ → List ℕ → ℕ
 good_logins most bytes = sum_by (λ batch. length (logins_in batch)) (good_batches most Login bytes)
 
--- the input has no fault, and this is the count of its records
+-- the input has no fault, and this is the count of its records, which are those of its good blocks
 pub record IsLoginCount (most : ℕ) (bytes : List ℕ) (c : Counted) : Type 0 where
   pub no_fault : feed_fault most Login bytes ≡ None
   pub count : IsCountOf c (logins_in (records_in Login bytes))
+  pub counted : c.count ≡ good_logins most bytes
 
 -- the count of some records, no more than so many
 abbrev pub IsCountOfAtMost : ℕ → Counted → Type 0
