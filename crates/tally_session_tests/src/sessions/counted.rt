@@ -6,8 +6,9 @@ use crate::sessions::scripts::new_keys;
 use crate::sessions::{login_record, name};
 use std::alloc::Global;
 use std::process::Abort;
-use tally_records::Batch;
-use tally_sessions::{ConnectSums, UserTime};
+use std::random::RandomSource;
+use tally_records::{Batch, List, Memory};
+use tally_sessions::{ConnectSums, UserTime, connect_by_user_of_counts, total_of_counts};
 
 /// How many records are counted, the total up to the last of them and up to a moment, and ann's time.
 fn answers(sums: &ConnectSums) -> [u64; 4] {
@@ -60,8 +61,7 @@ fn expect_more(rt: &impl Abort, sums: &mut ConnectSums, batch: &Batch, wanted: [
 }
 
 /// Asserts the rows of the users, which have ann's, bob's and carl's seconds.
-fn expect_rows(rt: &impl Abort, alloc: Global, sums: &ConnectSums, wanted: [u64; 3]) {
-    let rows = sums.by_user(alloc, None);
+fn expect_rows(rt: &impl Abort, rows: Result<List<UserTime>, Memory>, wanted: [u64; 3]) {
     let rows = rows.expect(rt, "memory");
     let names = ["ann", "bob", "carl"];
     expect_equal(rt, &rows.len(), &names.len());
@@ -87,8 +87,39 @@ fn a_count_goes_on_from_batch_to_batch(rt: HostRuntime) {
     assert!(rt; sums.is_empty());
     expect_more(rt, &mut sums, &evening, [4, 500, 1500, 300]);
     expect_more(rt, &mut sums, &morning, [8, 1000, 1400, 400]);
-    expect_rows(rt, alloc, &sums, [400, 400, 200]);
+    expect_rows(rt, sums.by_user(alloc, None), [400, 400, 200]);
     drop(sums);
+    drop(morning);
+    drop(evening);
+}
+
+/// The count of a batch.
+fn counted(rt: &(impl Abort + RandomSource), alloc: Global, batch: &Batch) -> ConnectSums
+    requires { IsLogins batch.now }
+{
+    let mut sums = ConnectSums::new(alloc, new_keys(rt));
+    assert!(rt; sums.len() + batch.len() <= 1000);
+    sums.add(batch).expect(rt, "memory");
+    sums
+}
+
+#[test]
+fn counts_of_two_hosts_answer_together(rt: HostRuntime) {
+    let rt = &rt;
+    let alloc = rt.alloc();
+    let (evening, morning) = (evening(rt, alloc), morning(rt, alloc));
+    let counts = [counted(rt, alloc, &evening), counted(rt, alloc, &morning)];
+    let totals = [
+        total_of_counts(&counts, None),
+        total_of_counts(&counts, Some(1500)),
+    ];
+    expect_equal(rt, &totals, &[800, 2200]);
+    expect_rows(
+        rt,
+        connect_by_user_of_counts(alloc, &counts, None),
+        [400, 200, 200],
+    );
+    drop(counts);
     drop(morning);
     drop(evening);
 }
