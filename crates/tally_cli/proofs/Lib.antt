@@ -12,6 +12,8 @@ pub mod Faults
 pub mod FirstPasses
 pub mod Limits
 pub mod Lists
+pub mod LoginCounts
+pub mod LoginRuns
 pub mod Numbered
 pub mod Outcomes
 pub mod Parts

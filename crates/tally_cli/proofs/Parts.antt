@@ -20,20 +20,20 @@ use Rattle.tally_cli.specs.Runs.{Told, records_told}
 use Rattle.tally_cli.specs.Apart.{file_table, file_text, files_head, files_tail}
 use Rattle.tally_cli.specs.UsageOutput.{Wanted, answers_on, by_file_output, chosen_entries, usage_output}
 use Rattle.tally_cli.specs.Usages.{procs_told}
-use Rattle.tally_cli.specs.declared.running.counting.Count.{Count}
-use Rattle.tally_cli.specs.declared.running.counting.Count.TheVariants as count
+use Rattle.tally_cli.specs.declared.running.files.Count.TheVariants as count
 use Rattle.tally_cli.specs.declared.running.parts.FilePart.{FilePart}
-use Rattle.tally_cli.specs.inside.Counts.{AreSumsIn, AreSumsInEach, HasSums}
+use Rattle.tally_cli.specs.inside.Counts.{ProcCount, AreSumsIn, AreSumsInEach}
+use Rattle.tally_cli.specs.inside.Files.{HasSums}
 use Rattle.tally_cli.specs.inside.Parts.{AreAnswered, AreAnsweredWanted, AreParts, ArePartsWanted, HasPart, IsAnswerAbout, IsPartOf, IsWithPart, part_text}
 use Rattle.tally_cli.proofs.Summed.{chosen_records}
 
 -- ---- one part more
 
-pub no_parts : (wanted : Option Report) (at : ℕ → Count) → ArePartsWanted wanted 0 at []
+pub no_parts : (wanted : Option Report) (at : ℕ → ProcCount) → ArePartsWanted wanted 0 at []
 no_parts None at = refl
 no_parts (Some r) at = record { count = refl; each = λ k d l. absurd (omega (arith, l)) }
 
-module _ (r : Report) (at : ℕ → Count) (host : ℕ) (old : List FilePart) (before : AreParts r host at old) (part : FilePart) (of : IsPartOf r host (at host) part) where
+module _ (r : Report) (at : ℕ → ProcCount) (host : ℕ) (old : List FilePart) (before : AreParts r host at old) (part : FilePart) (of : IsPartOf r host (at host) part) where
   longer : AreParts r (host + 1) at (old ++ part ∷ [])
   longer = record {
     count = length-append old (part ∷ []) ∙ ap (λ n. n + 1) before.count;
@@ -46,7 +46,7 @@ module _ (r : Report) (at : ℕ → Count) (host : ℕ) (old : List FilePart) (b
     ];
   }
 
-pub part_added : (wanted : Option Report) (at : ℕ → Count) (host : ℕ) (c : Count) (old new : List FilePart) → c ≡ at host → HasSums c → ArePartsWanted wanted host at old → IsWithPart wanted host c old new → ArePartsWanted wanted (host + 1) at new
+pub part_added : (wanted : Option Report) (at : ℕ → ProcCount) (host : ℕ) (c : ProcCount) (old new : List FilePart) → c ≡ at host → HasSums c → ArePartsWanted wanted host at old → IsWithPart wanted host c old new → ArePartsWanted wanted (host + 1) at new
 part_added None at host c old new is has before added = added ∙ before
 part_added (Some r) at host count.Untried old new is has before added = absurd has
 part_added (Some r) at host (count.Fault found) old new is has before added = absurd has
@@ -55,17 +55,17 @@ part_added (Some r) at host (count.Sums sums) old new is has before (part, of, m
 
 -- ---- all parts
 
-own_of : (r : Report) (file : ℕ) (c : Count) (part : FilePart) → IsPartOf r file c part → (part.file ≡ file) × HasDays part.answer
+own_of : (r : Report) (file : ℕ) (c : ProcCount) (part : FilePart) → IsPartOf r file c part → (part.file ≡ file) × HasDays part.answer
 own_of r file count.Untried part of = absurd of
 own_of r file (count.Sums sums) part of = (of.0, of.1)
 own_of r file (count.Fault found) part of = absurd of
 
-about : (r : Report) (file : ℕ) (c : Count) (part : FilePart) (rs : List ProcRecord) → IsPartOf r file c part → AreSumsIn c rs → IsAnswerAbout r rs part.answer
+about : (r : Report) (file : ℕ) (c : ProcCount) (part : FilePart) (rs : List ProcRecord) → IsPartOf r file c part → AreSumsIn c rs → IsAnswerAbout r rs part.answer
 about r file count.Untried part rs of sums = absurd of
 about r file (count.Sums s) part rs of sums = λ clock offset kinds until logins procs are. of.2 clock offset kinds until logins procs (subst (AreSumsOf s) (sym are) sums)
 about r file (count.Fault found) part rs of sums = absurd of
 
-pub have_parts : (wanted : Option Report) (files : ℕ) (at : ℕ → Count) (parts : List FilePart) → files ≤ 128 → ArePartsWanted wanted files at parts → All HasPart parts
+pub have_parts : (wanted : Option Report) (files : ℕ) (at : ℕ → ProcCount) (parts : List FilePart) → files ≤ 128 → ArePartsWanted wanted files at parts → All HasPart parts
 have_parts None files at parts few none k d l = absurd (omega (arith, l, ap length none))
 have_parts (Some r) files at parts few are k d l =
     let near : k < files = omega (arith, l, are.count) in
@@ -73,7 +73,7 @@ have_parts (Some r) files at parts few are k d l =
     record { few = omega (arith, own.0, near, few); days = own.1 }
 
 -- the parts answer on the records of the inputs
-pub are_answered : (choice : ProcChoice) (wanted : Option Report) (files : ℕ) (at : ℕ → Count) (inputs : List Told) (parts : List FilePart) → length inputs ≡ files
+pub are_answered : (choice : ProcChoice) (wanted : Option Report) (files : ℕ) (at : ℕ → ProcCount) (inputs : List Told) (parts : List FilePart) → length inputs ≡ files
     → AreSumsInEach files at (map (procs_told choice) inputs) → ArePartsWanted wanted files at parts → AreAnsweredWanted choice wanted inputs parts
 are_answered choice None files at inputs parts same sums are = tt
 are_answered choice (Some r) files at inputs parts same sums are = record {

@@ -1,5 +1,5 @@
 -- Sums of files that are joined.
-use Rattle.std.proofs.Common.{◌≡◌, ◌∙◌, ◌++◌, ◌≤◌, ◌<◌, ◌+◌, ◌⊎◌, inl, inr, ℕ, Bool, true, false, List, [], ◌∷◌, Option, Some, map, take, length, get_or, ap, sym, subst, refl, arith, append-nil, length-append}
+use Rattle.std.proofs.Common.{◌≡◌, ◌∙◌, ◌++◌, ◌≤◌, ◌<◌, ◌+◌, ◌*◌, ◌%◌, ◌⊎◌, inl, inr, ℕ, Bool, true, false, List, [], ◌∷◌, Option, Some, map, take, length, get_or, ap, sym, subst, refl, arith, append-nil, length-append}
 use Rattle.std.proofs.lemmas.Bool.{cases_lt}
 use Rattle.std.proofs.lemmas.Grind.{flat_map-append}
 use Rattle.std.proofs.lemmas.List.{get_or-map, length-map, map-append, take-map, take_all, take_more}
@@ -26,10 +26,10 @@ use Rattle.tally_cli.specs.UsageOutput.{chosen_entries}
 use Rattle.tally_cli.specs.Usages.{IsCountable, IsOfProcs, count_told, procs_told}
 use Rattle.tally_cli.specs.declared.fault.UsageFault.{UsageFault}
 use Rattle.tally_cli.specs.declared.fault.UsageFault.TheVariants.{Callers, File, Full, Memory, Write}
-use Rattle.tally_cli.specs.declared.running.counting.Count.{Count}
-use Rattle.tally_cli.specs.declared.running.counting.Count.TheVariants as count
+use Rattle.tally_cli.specs.declared.running.files.Count.TheVariants as count
 use Rattle.tally_cli.specs.declared.running.source.Source.{Source}
-use Rattle.tally_cli.specs.inside.Counts.{AreExplained, AreJoined, AreSummed, AreSumsIn, AreSumsInEach, CameOf, HasSums, IsCountCause, IsCountRefusal, IsFault, IsFirst, IsFirstTooMany, IsJoinFault, IsNotJoined, IsOver, Joins, first_parts}
+use Rattle.tally_cli.specs.inside.Counts.{ProcCount, AreJoined, AreSummed, AreSumsIn, AreSumsInEach, CameOf, IsCountCause, IsCountRefusal, IsFirst, IsFirstTooMany, IsJoinFault, IsNotJoined, IsOver, Joins, first_parts}
+use Rattle.tally_cli.specs.inside.Files.{AreExplained, HasSums, IsFault, StopsAtFault}
 use Rattle.tally_cli.proofs.Counted.{CameEach}
 
 -- ---- the records of entries
@@ -87,41 +87,41 @@ few_told choice inputs s summed = omega (arith, summed.sums.few, count_flat choi
 
 -- ---- one count more
 
-sums_or_fault : (c : Count) → (HasSums c ⊎ IsFault c) ⊎ (c ≡ count.Untried)
+sums_or_fault : (c : ProcCount) → (HasSums c ⊎ IsFault c) ⊎ (c ≡ count.Untried)
 sums_or_fault count.Untried = inr refl
 sums_or_fault (count.Sums sums) = inl (inl tt)
 sums_or_fault (count.Fault found) = inl (inr tt)
 
-fault_or_sums : (c : Count) → HasSums c → IsFault c → ⊥
+fault_or_sums : (c : ProcCount) → HasSums c → IsFault c → ⊥
 fault_or_sums count.Untried has is = has
 fault_or_sums (count.Sums sums) has is = is
 fault_or_sums (count.Fault found) has is = has
 
 -- the next count was tried
-pub tried : (files : ℕ) (at : ℕ → Count) (host : ℕ) → AreExplained files at → host < files → ((k : ℕ) → k < host → HasSums (at k)) → HasSums (at host) ⊎ IsFault (at host)
-tried files at host explained near all = elim (sums_or_fault (at host)) [
+pub tried : (n files : ℕ) (at : ℕ → ProcCount) (host : ℕ) → AreExplained StopsAtFault n files at → host < files → ((k : ℕ) → k < host → HasSums (at k)) → HasSums (at host) ⊎ IsFault (at host)
+tried n files at host explained near all = elim (sums_or_fault (at host)) [
   | inl known ↦ known
   | inr untried ↦
       let earlier = explained host near untried in
-      absurd (fault_or_sums (at earlier.0) (all earlier.0 earlier.1) earlier.2)
+      absurd (fault_or_sums (at (earlier.0 * n + host % n)) (all (earlier.0 * n + host % n) earlier.1) earlier.2)
 ]
 
-pub has_sums : (c : Count) (old new : Counted) → Joins c old new → HasSums c
+pub has_sums : (c : ProcCount) (old new : Counted) → Joins c old new → HasSums c
 has_sums count.Untried old new joins = absurd joins
 has_sums (count.Sums sums) old new joins = tt
 has_sums (count.Fault found) old new joins = absurd joins
 
-one_joined : (c : Count) (old new : Counted) (rs ss : List ProcRecord) → Joins c old new → AreSumsOf old rs → AreSumsIn c ss → AreSumsOf new (rs ++ ss)
+one_joined : (c : ProcCount) (old new : Counted) (rs ss : List ProcRecord) → Joins c old new → AreSumsOf old rs → AreSumsIn c ss → AreSumsOf new (rs ++ ss)
 one_joined count.Untried old new rs ss joins sums part = absurd joins
 one_joined (count.Sums sums) old new rs ss joins before part = joins rs ss before part
 one_joined (count.Fault found) old new rs ss joins sums part = absurd joins
 
-over_many : (c : Count) (old : Counted) (rs ss : List ProcRecord) → IsOver old c → AreSumsOf old rs → AreSumsIn c ss → SUMS_LIMIT < length (rs ++ ss)
+over_many : (c : ProcCount) (old : Counted) (rs ss : List ProcRecord) → IsOver old c → AreSumsOf old rs → AreSumsIn c ss → SUMS_LIMIT < length (rs ++ ss)
 over_many count.Untried old rs ss over sums part = absurd over
 over_many (count.Sums sums) old rs ss over before part = omega (arith, over, length-append rs ss, count_is old rs before, count_is sums ss part)
 over_many (count.Fault found) old rs ss over sums part = absurd over
 
-over_sums : (c : Count) (old : Counted) → IsOver old c → HasSums c
+over_sums : (c : ProcCount) (old : Counted) → IsOver old c → HasSums c
 over_sums count.Untried old over = absurd over
 over_sums (count.Sums sums) old over = tt
 over_sums (count.Fault found) old over = absurd over
@@ -133,10 +133,10 @@ one_part host parts within =
     ∙ ap (λ l. first_parts host parts ++ l) (append-nil (get_or parts host []))
 
 -- the sums of the counts before a number
-abbrev pub AreFirstSums : ℕ → (ℕ → Count) → ℕ → Counted → Type 0
+abbrev pub AreFirstSums : ℕ → (ℕ → ProcCount) → ℕ → Counted → Type 0
 AreFirstSums files at host total = (parts : List (List ProcRecord)) → AreSumsInEach files at parts → AreSumsOf total (first_parts host parts)
 
-module _ (files : ℕ) (at : ℕ → Count) (host : ℕ) (near : host < files) (c : Count) (is : c ≡ at host) (total : Counted) (all : (k : ℕ) → k < host → HasSums (at k)) (sums : AreFirstSums files at host total) where
+module _ (files : ℕ) (at : ℕ → ProcCount) (host : ℕ) (near : host < files) (c : ProcCount) (is : c ≡ at host) (total : Counted) (all : (k : ℕ) → k < host → HasSums (at k)) (sums : AreFirstSums files at host total) where
   pub all_more : (new : Counted) → Joins c total new → (k : ℕ) → k < host + 1 → HasSums (at k)
   all_more new joins k l = elim (cases_lt k host) [
     | inl first ↦ all k first
@@ -176,7 +176,7 @@ module _ (files : ℕ) (at : ℕ → Count) (host : ℕ) (near : host < files) (
   join_fault Write own = absurd own
 
 -- the last count is joined
-pub end_joined : (files : ℕ) (at : ℕ → Count) (total : Counted) (host : ℕ) → host ≡ files → ((k : ℕ) → k < host → HasSums (at k)) → AreFirstSums files at host total → AreJoined files at total
+pub end_joined : (files : ℕ) (at : ℕ → ProcCount) (total : Counted) (host : ℕ) → host ≡ files → ((k : ℕ) → k < host → HasSums (at k)) → AreFirstSums files at host total → AreJoined files at total
 end_joined files at total host end all sums = record {
   all = λ k l. all k (omega (arith, l, end));
   sums = λ parts each. subst (λ n. AreSumsOf total (first_parts n parts)) end (sums parts each);
@@ -184,13 +184,13 @@ end_joined files at total host end all sums = record {
 
 -- ---- in the words of the inputs
 
-counted_good : {I : Type 0} (choice : ProcChoice) (to_come : I → Option (List ℕ)) (can_fail : I → Bool) (source : Source I) (c : Count) (input : Told) → HasSums c → CameOf choice to_come can_fail source c → to_come source.input ≡ Some input.bytes → input.kind ≡ Proc
+counted_good : {I : Type 0} (choice : ProcChoice) (to_come : I → Option (List ℕ)) (can_fail : I → Bool) (source : Source I) (c : ProcCount) (input : Told) → HasSums c → CameOf choice to_come can_fail source c → to_come source.input ≡ Some input.bytes → input.kind ≡ Proc
     → IsCountable input
 counted_good choice to_come can_fail source count.Untried input has came told kind = absurd has
 counted_good choice to_come can_fail source (count.Sums sums) input has came told kind = (came input.bytes told).no_fault
 counted_good choice to_come can_fail source (count.Fault found) input has came told kind = absurd has
 
-counted_sums : {I : Type 0} (choice : ProcChoice) (to_come : I → Option (List ℕ)) (can_fail : I → Bool) (source : Source I) (c : Count) (input : Told) → CameOf choice to_come can_fail source c → to_come source.input ≡ Some input.bytes → input.kind ≡ Proc
+counted_sums : {I : Type 0} (choice : ProcChoice) (to_come : I → Option (List ℕ)) (can_fail : I → Bool) (source : Source I) (c : ProcCount) (input : Told) → CameOf choice to_come can_fail source c → to_come source.input ≡ Some input.bytes → input.kind ≡ Proc
     → AreSumsIn c (procs_told choice input)
 counted_sums choice to_come can_fail source count.Untried input came told kind = tt
 counted_sums choice to_come can_fail source (count.Sums sums) input came told kind = subst (λ k. AreSumsOf sums (chosen choice (procs_in (records_in k input.bytes)))) (sym kind) (came input.bytes told).sums
@@ -200,7 +200,7 @@ some_of : {X : Type 0} (xs : List X) (k : ℕ) → k < length xs → X
 some_of [] k l = absurd (omega (arith, l))
 some_of (x ∷ xs) k l = x
 
-module _ {I : Type 0} (choice : ProcChoice) (to_come : I → Option (List ℕ)) (can_fail : I → Bool) (sources : List (Source I)) (at : ℕ → Count) (came : CameEach choice to_come can_fail sources at) where
+module _ {I : Type 0} (choice : ProcChoice) (to_come : I → Option (List ℕ)) (can_fail : I → Bool) (sources : List (Source I)) (n : ℕ) (at : ℕ → ProcCount) (came : CameEach (CameOf choice to_come can_fail) StopsAtFault n sources at) where
   own_fault : (host : ℕ) (s : Source I) (found : CountFault) → host < length sources → at host ≡ count.Fault found → CameOf choice to_come can_fail (get_or sources host s) (count.Fault found)
   own_fault host s found near is = subst (CameOf choice to_come can_fail (get_or sources host s)) is (came.each host s near)
 

@@ -7,8 +7,8 @@ use Rattle.std.proofs.lemmas.Nat.{div-add-mod', mod-mul-add}
 use Rattle.std.proofs.lemmas.Option.{get_or_from_slice_get, slice_get-get_or, slice_get_past, slice_get_within}
 use Rattle.std.specs.List.{All}
 use Rattle.std.specs.Prelude.{slice_get}
-use Rattle.tally_cli.specs.declared.running.counting.FileCount.{FileCount}
-use Rattle.tally_cli.specs.inside.Counts.{IsPlaced, count_in, count_of, file_in}
+use Rattle.tally_cli.specs.declared.running.files.FileCount.{FileCount}
+use Rattle.tally_cli.specs.inside.Files.{IsPlaced, count_in, count_of, file_in}
 use Rattle.tally_cli.proofs.Dealt.{all_empty}
 
 more_times : (b n : ℕ) → (b + 1) * n ≡ b * n + n
@@ -27,14 +27,14 @@ pub record AreLong {X : Type 0} (n host : ℕ) (lists : List (List X)) : Type 0 
   pub least : (w : ℕ) → w < n → host ≤ length (get_or lists w []) * n + w
   pub most : (w : ℕ) → w < n → length (get_or lists w []) * n + w < host + n
 
-module _ {I : Type 0} (n : ℕ) (some : 0 < n) (lists : List (List (FileCount I))) (host : ℕ) (file : FileCount I) (width : length lists ≡ n) (long : AreLong n host lists) where
+module _ {I S F : Type 0} (n : ℕ) (some : 0 < n) (lists : List (List (FileCount I S F))) (host : ℕ) (file : FileCount I S F) (width : length lists ≡ n) (long : AreLong n host lists) where
   abbrev w : ℕ
   w = host % n
 
-  abbrev row : List (FileCount I)
+  abbrev row : List (FileCount I S F)
   row = get_or lists w []
 
-  abbrev pub dealt : List (List (FileCount I))
+  abbrev pub dealt : List (List (FileCount I S F))
   dealt = set lists w (row ++ file ∷ [])
 
   in_turn : w < n
@@ -57,7 +57,7 @@ module _ {I : Type 0} (n : ℕ) (some : 0 < n) (lists : List (List (FileCount I)
       ∙ ap Some (get_or_at row file [] file (host / n) row_length)
 
   -- and those before it too
-  pub still_dealt : (k : ℕ) (x : FileCount I) → file_in n lists k ≡ Some x → file_in n dealt k ≡ Some x
+  pub still_dealt : (k : ℕ) (x : FileCount I S F) → file_in n lists k ≡ Some x → file_in n dealt k ≡ Some x
   still_dealt k x is = ⊎_elim
       (λ (same : k % n ≡ w).
       let own : slice_get row (k / n) ≡ Some x = ap (λ v. slice_get (get_or lists v []) (k / n)) (sym same) ∙ is in
@@ -85,14 +85,14 @@ module _ {I : Type 0} (n : ℕ) (some : 0 < n) (lists : List (List (FileCount I)
   long_dealt = record { least = λ v turn. (longer v turn).0; most = λ v turn. (longer v turn).1 }
 
 -- one place of a row is written
-module _ {I : Type 0} (n : ℕ) (some : 0 < n) (lists : List (List (FileCount I))) (width : length lists ≡ n) (host : ℕ) (placed : IsPlaced n lists host) (file : FileCount I) where
+module _ {I S F : Type 0} (n : ℕ) (some : 0 < n) (lists : List (List (FileCount I S F))) (width : length lists ≡ n) (host : ℕ) (placed : IsPlaced n lists host) (file : FileCount I S F) where
   abbrev v : ℕ
   v = host % n
 
-  abbrev old_row : List (FileCount I)
+  abbrev old_row : List (FileCount I S F)
   old_row = get_or lists v []
 
-  abbrev pub written : List (List (FileCount I))
+  abbrev pub written : List (List (FileCount I S F))
   written = set lists v (set old_row (host / n) file)
 
   near_row : v < length lists
@@ -123,7 +123,7 @@ module _ {I : Type 0} (n : ℕ) (some : 0 < n) (lists : List (List (FileCount I)
       (λ (apart : k % n ≢ v). ap (λ l. count_of (slice_get l (k / n))) (get_or-set_other lists v (k % n) (set old_row (host / n) file) [] apart))
       (cases_eq (k % n) v)
     where
-      kept : (xs ys : List (FileCount I)) (i : ℕ) → length xs ≡ length ys → ((d : FileCount I) → get_or xs i d ≡ get_or ys i d) → slice_get xs i ≡ slice_get ys i
+      kept : (xs ys : List (FileCount I S F)) (i : ℕ) → length xs ≡ length ys → ((d : FileCount I S F) → get_or xs i d ≡ get_or ys i d) → slice_get xs i ≡ slice_get ys i
       kept xs ys i long same = ⊎_elim
           (λ (l : i < length xs). slice_get-get_or xs i file l ∙ ap Some (same file) ∙ sym (slice_get-get_or ys i file (omega (arith, l, long))))
           (λ (past : length xs ≤ i). slice_get_past xs i past ∙ sym (slice_get_past ys i (omega (arith, past, long))))
@@ -139,7 +139,7 @@ none_long {V} {X} f vs n some width empty = record {
 }
 
 -- a place of one of the lists is written
-pub place_written : {I V : Type 0} (f : V → List (FileCount I)) (vs : List V) (w r : ℕ) (v v' : V) (x : FileCount I) → w < length vs → v ≡ get_or vs w v → f v' ≡ set (f v) r x
+pub place_written : {I S F V : Type 0} (f : V → List (FileCount I S F)) (vs : List V) (w r : ℕ) (v v' : V) (x : FileCount I S F) → w < length vs → v ≡ get_or vs w v → f v' ≡ set (f v) r x
     → map f (set vs w v') ≡ set (map f vs) w (set (get_or (map f vs) w []) r x)
 place_written f vs w r v v' x near is more =
     map-set f vs w v' ∙ ap (λ l. set (map f vs) w l) (more ∙ ap (λ l. set l r x) (ap f is ∙ sym (get_or-map f vs w v [] near)))

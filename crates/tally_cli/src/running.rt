@@ -14,8 +14,10 @@ pub(crate) mod apart;
 mod by_file;
 pub(crate) mod counting;
 mod deal;
+mod files;
 mod forms;
 mod gather;
+mod login_counts;
 mod naming;
 mod parts;
 mod path_tables;
@@ -23,6 +25,7 @@ mod reporting;
 mod sections;
 pub(crate) mod source;
 mod task;
+mod totals;
 pub(crate) mod usage;
 pub(crate) mod wanted;
 mod work;
@@ -34,6 +37,7 @@ use crate::running::gather::{Cause, Failure, take_all};
 use crate::running::reporting::{finish, report};
 use crate::running::source::{Source, kinds_of};
 use crate::running::task::Asking;
+use crate::running::totals::{is_counted, run_counted};
 use crate::running::work::carry_out_lists;
 use std::alloc::{AllocError, Global};
 use std::hash::RandomState;
@@ -196,11 +200,45 @@ fn feed_all<R: Threads + Wait + Sync, I: Input + Send, G: Gate + Sync>(
     }
 }
 
-/// Reads each file as one caller of a desk, several at once, and then prints the job's report on
+/// Reads each file as one caller of a desk, several at once, and then prints the job's report on all of them.
+fn run_on_desk<R: Threads + Wait + Sync, I: Input + Send, G: Gate + Sync, O: Output>(
+    rt: &R,
+    alloc: Global,
+    keys: RandomState,
+    clock: &Clock,
+    job: &Job,
+    apart: FilesApart<'_>,
+    callers: u32,
+    sources: Vec<Source<I>>,
+    gate: &G,
+    out: &mut O,
+) -> Result<(), RunFault>
+    requires runnable { IsRunnable job.now }
+    requires callers { callers ≡ length sources.items + job.now.askers }
+    requires some { 0 < callers }
+    requires few { callers ≤ HOST_LIMIT }
+    requires readable { All (IsReadable I.failures) sources.items }
+    requires writable { IsWritable (O.state out.old) }
+    ensures whole { OnOk result (IsWholeRun I.to_come clock.now (apart_of apart.entry) job.now sources.items (O.state out.old) (O.state out.new)) }
+    ensures failed { IfErr result (IsFailedRun I.to_come I.can_fail clock.now (apart_of apart.entry) job.now sources.items (O.state out.old) (O.state out.new)) }
+    ensures counts { (O.state out.new).failures ≡ (O.state out.old).failures + failed_writes result }
+    ensures tells { (O.state out.new).tells ≡ (O.state out.old).tells }
+{
+    let kinds = kinds_of(alloc, sources.as_slice())?;
+    let book = feed_all(rt, alloc, keys, clock, job, callers, sources, gate)?;
+    host_order_is_enough();
+    report(rt, alloc, clock, job, apart, kinds.as_slice(), book, out)?;
+    finish(out)
+}
+
+/// Reads each file, several at once, and then prints the job's report on
 /// all of them, in the time of a clock, with the job's offset on top, and with the files told apart as they are to be. A report of
 /// connect time by file is in text that of each file alone and then that of all, and as a table the rows of each file alone. A table of
 /// stays or of failed logins has the paths of their files where these are asked for. Nothing is written before every file is found to be
 /// good. A fault is that of the first file at fault, else that of the first asker.
+///
+/// Each file is one caller of a desk. A report of connect time in total or by user, over all sessions and with no asker, needs no
+/// record and no desk: then the files are counted one by one, in the memory of their lines and users.
 pub fn run<R: Threads + Wait + Sync, I: Input + Send, G: Gate + Sync, O: Output>(
     rt: &R,
     alloc: Global,
@@ -223,9 +261,11 @@ pub fn run<R: Threads + Wait + Sync, I: Input + Send, G: Gate + Sync, O: Output>
     ensures tells { (O.state out.new).tells ≡ (O.state out.old).tells }
 {
     let callers = callers_of(sources.len(), job.askers)?;
-    let kinds = kinds_of(alloc, sources.as_slice())?;
-    let book = feed_all(rt, alloc, keys, clock, job, callers, sources, gate)?;
-    host_order_is_enough();
-    report(rt, alloc, clock, job, apart, kinds.as_slice(), book, out)?;
-    finish(out)
+    if is_counted(job, apart, sources.as_slice()) {
+        run_counted(rt, alloc, keys, clock, job, sources, out)
+    } else {
+        run_on_desk(
+            rt, alloc, keys, clock, job, apart, callers, sources, gate, out,
+        )
+    }
 }

@@ -1,5 +1,5 @@
--- What the counts of files come to.
-use Rattle.std.specs.Prelude.{◌≡◌, ◌<◌, ◌≤◌, ◌+◌, ◌%◌, ◌/◌, ◌∷◌, [], ℕ, ℤ, Bool, List, Option, Some, None, true, ⊤, flat_map, length, map, slice_get, slice_index_or, take}
+-- What the counts of files of process records come to.
+use Rattle.std.specs.Prelude.{◌≡◌, ◌<◌, ◌≤◌, ◌+◌, ◌∷◌, [], ℕ, ℤ, Bool, List, Option, Some, true, ⊤, flat_map, length, map, slice_index_or, take}
 use Rattle.std.specs.List.{All}
 use Rattle.tally_book.specs.Answers.{answer_of}
 use Rattle.tally_book.specs.declared.question.Answer.{Answer}
@@ -17,89 +17,39 @@ use Rattle.tally_usage.specs.declared.choice.ProcChoice.{ProcChoice}
 use Rattle.tally_usage.specs.declared.entry.ProcEntry.{ProcEntry}
 use Rattle.tally_usage.specs.declared.usage.TheConstants.{SUMS_LIMIT}
 use Rattle.tally_cli.specs.Output.{questions_of}
-use Rattle.tally_cli.specs.Runs.{IsReadable, Told}
+use Rattle.tally_cli.specs.Runs.{Told}
 use Rattle.tally_cli.specs.Usages.{IsCountable, IsFirstOver, IsFirstUncounted, procs_told}
 use Rattle.tally_cli.specs.declared.fault.UsageFault.{UsageFault}
 use Rattle.tally_cli.specs.declared.fault.UsageFault.TheVariants.{Memory, Callers, File, Full, Write}
 use Rattle.tally_cli.specs.declared.running.source.Source.{Source}
 use Rattle.tally_cli.specs.declared.running.counting.TheConstants.{FILE_BLOCKS}
-use Rattle.tally_cli.specs.declared.running.counting.Count.{Count}
-use Rattle.tally_cli.specs.declared.running.counting.Count.TheVariants as count
-use Rattle.tally_cli.specs.declared.running.counting.FileCount.{FileCount}
+use Rattle.tally_cli.specs.declared.running.files.Count.{Count}
+use Rattle.tally_cli.specs.declared.running.files.Count.TheVariants as count
+use Rattle.tally_cli.specs.declared.running.files.FileCount.{FileCount}
+use Rattle.tally_cli.specs.inside.Files.{HasSums}
 
--- a file that is not counted
-abbrev pub untried : {I : Type 0} → Source I → FileCount I
-untried source = record { source = source; count = count.Untried }
+-- what the count of a file of process records came to
+abbrev pub ProcCount : Type 0
+ProcCount = Count Counted CountFault
 
--- the file was counted to its end
-abbrev pub HasSums : Count → Type 0
-HasSums (count.Sums sums) = ⊤
-HasSums c = ⊥
-
--- the file has a fault
-abbrev pub IsFault : Count → Type 0
-IsFault (count.Fault found) = ⊤
-IsFault c = ⊥
+-- a file of process records, and what its count came to
+abbrev pub ProcFile : Type 0 → Type 0
+ProcFile I = FileCount I Counted CountFault
 
 -- what a source's count came to, where it was tried
-abbrev pub CameOf : {I : Type 0} → ProcChoice → (I → Option (List ℕ)) → (I → Bool) → Source I → Count → Type 0
+abbrev pub CameOf : {I : Type 0} → ProcChoice → (I → Option (List ℕ)) → (I → Bool) → Source I → ProcCount → Type 0
 CameOf choice to_come can_fail source count.Untried = ⊤
 CameOf choice to_come can_fail source (count.Sums sums) = (bytes : List ℕ) → to_come source.input ≡ Some bytes → IsCounted choice FILE_BLOCKS bytes sums
 CameOf choice to_come can_fail source (count.Fault found) = (found ≡ fault.Read → can_fail source.input ≡ true)
     × ((bytes : List ℕ) → to_come source.input ≡ Some bytes → IsCountFault FILE_BLOCKS bytes found)
 
--- the file can be read, and was not counted
-pub record IsUncounted {I : Type 0} (failures : I → ℕ) (file : FileCount I) : Type 0 where
-  pub readable : IsReadable failures file.source
-  pub untried : file.count ≡ count.Untried
-
--- the files of a list were counted in order, up to the first that has a fault
-pub record AreCounted {I : Type 0} (choice : ProcChoice) (to_come : I → Option (List ℕ)) (can_fail : I → Bool) (old new : List (FileCount I)) : Type 0 where
-  pub length_is : length new ≡ length old
-  pub each : (k : ℕ) (d : FileCount I) → k < length old → CameOf choice to_come can_fail (slice_index_or old k d).source (slice_index_or new k d).count
-  pub stops : (k : ℕ) (d : FileCount I) → k < length old → (slice_index_or new k d).count ≡ count.Untried → (j : ℕ) × (j < k) × IsFault (slice_index_or new j d).count
-
--- once a file has a fault, none after it was tried
-abbrev pub StopAtFault : {I : Type 0} → List (FileCount I) → Type 0
-StopAtFault files = (j k : ℕ) (d : FileCount _) → j < k → k < length files → IsFault (slice_index_or files j d).count → (slice_index_or files k d).count ≡ count.Untried
-
--- each list was counted so
-pub record AreAllCounted {V I : Type 0} (choice : ProcChoice) (to_come : I → Option (List ℕ)) (can_fail : I → Bool) (files : V → List (FileCount I)) (vs us : List V) : Type 0 where
-  pub length_is : length us ≡ length vs
-  pub each : (w : ℕ) (d : V) → w < length vs → AreCounted choice to_come can_fail (files (slice_index_or vs w d)) (files (slice_index_or us w d))
-
--- the file with this number, of files that are dealt to so many lists by turns
-abbrev pub file_in : {I : Type 0} → ℕ → List (List (FileCount I)) → ℕ → Option (FileCount I)
-file_in feeders lists host = slice_get (slice_index_or lists (host % feeders) []) (host / feeders)
-
--- the count of a file, if there is one
-abbrev pub count_of : {I : Type 0} → Option (FileCount I) → Count
-count_of (Some file) = file.count
-count_of None = count.Untried
-
--- the count of the file with this number
-abbrev pub count_in : {I : Type 0} → ℕ → List (List (FileCount I)) → ℕ → Count
-count_in feeders lists host = count_of (file_in feeders lists host)
-
--- the lists have a file with this number
-abbrev pub IsPlaced : {I : Type 0} → ℕ → List (List (FileCount I)) → ℕ → Type 0
-IsPlaced feeders lists host = host / feeders < length (slice_index_or lists (host % feeders) [])
-
--- each file is in the lists under its number, and was not counted
-abbrev pub AreDealt : {I : Type 0} → ℕ → List (Source I) → List (List (FileCount I)) → Type 0
-AreDealt feeders sources lists = (k : ℕ) (s : Source _) → k < length sources → file_in feeders lists k ≡ Some (untried (slice_index_or sources k s))
-
--- a file was tried, or one before it has a fault
-abbrev pub AreExplained : ℕ → (ℕ → Count) → Type 0
-AreExplained files at = (k : ℕ) → k < files → at k ≡ count.Untried → (j : ℕ) × (j < k) × IsFault (at j)
-
 -- the count has the sums of these records, if it has sums
-abbrev pub AreSumsIn : Count → List ProcRecord → Type 0
+abbrev pub AreSumsIn : ProcCount → List ProcRecord → Type 0
 AreSumsIn (count.Sums sums) rs = AreSumsOf sums rs
 AreSumsIn c rs = ⊤
 
 -- each count that has sums has those of its part
-pub record AreSumsInEach (files : ℕ) (at : ℕ → Count) (parts : List (List ProcRecord)) : Type 0 where
+pub record AreSumsInEach (files : ℕ) (at : ℕ → ProcCount) (parts : List (List ProcRecord)) : Type 0 where
   pub length_is : length parts ≡ files
   pub each : (k : ℕ) → k < files → AreSumsIn (at k) (slice_index_or parts k [])
 
@@ -108,42 +58,42 @@ abbrev pub first_parts : ℕ → List (List ProcRecord) → List ProcRecord
 first_parts n parts = flat_map (λ p. p) (take n parts)
 
 -- what was summed, and then what a count has
-abbrev pub Joins : Count → Counted → Counted → Type 0
+abbrev pub Joins : ProcCount → Counted → Counted → Type 0
 Joins (count.Sums sums) old new = CountsBoth old sums new
 Joins c old new = ⊥
 
 -- with the sums of a count there are too many records
-abbrev pub IsOver : Counted → Count → Type 0
+abbrev pub IsOver : Counted → ProcCount → Type 0
 IsOver total (count.Sums sums) = SUMS_LIMIT < total.total.count + sums.total.count
 IsOver total c = ⊥
 
 -- a count was not joined: memory ran out, its file is at fault, or there are too many records
-abbrev pub IsNotJoined : Count → Counted → ℕ → UsageFault → Type 0
+abbrev pub IsNotJoined : ProcCount → Counted → ℕ → UsageFault → Type 0
 IsNotJoined c total host Memory = HasSums c
 IsNotJoined c total host (File at found) = (at ≡ host) × (c ≡ count.Fault found)
 IsNotJoined c total host (Full at) = (at ≡ host) × IsOver total c
 IsNotJoined c total host found = ⊥
 
 -- all counts are joined in order
-pub record AreJoined (files : ℕ) (at : ℕ → Count) (s : Counted) : Type 0 where
+pub record AreJoined (files : ℕ) (at : ℕ → ProcCount) (s : Counted) : Type 0 where
   pub all : (k : ℕ) → k < files → HasSums (at k)
   pub sums : (parts : List (List ProcRecord)) → AreSumsInEach files at parts → AreSumsOf s (first_parts files parts)
 
 -- the first count with a fault
-pub record IsFirst (files : ℕ) (at : ℕ → Count) (host : ℕ) (found : CountFault) : Type 0 where
+pub record IsFirst (files : ℕ) (at : ℕ → ProcCount) (host : ℕ) (found : CountFault) : Type 0 where
   pub near : host < files
   pub earlier : (k : ℕ) → k < host → HasSums (at k)
   pub own : at host ≡ count.Fault found
 
 -- the first count with which there are too many records
-pub record IsFirstTooMany (files : ℕ) (at : ℕ → Count) (host : ℕ) : Type 0 where
+pub record IsFirstTooMany (files : ℕ) (at : ℕ → ProcCount) (host : ℕ) : Type 0 where
   pub near : host < files
   pub all : (k : ℕ) → k ≤ host → HasSums (at k)
   pub before : (parts : List (List ProcRecord)) → AreSumsInEach files at parts → length (first_parts host parts) ≤ SUMS_LIMIT
   pub over : (parts : List (List ProcRecord)) → AreSumsInEach files at parts → SUMS_LIMIT < length (first_parts (host + 1) parts)
 
 -- why counts are not joined
-abbrev pub IsJoinFault : ℕ → (ℕ → Count) → UsageFault → Type 0
+abbrev pub IsJoinFault : ℕ → (ℕ → ProcCount) → UsageFault → Type 0
 IsJoinFault files at Memory = ⊤
 IsJoinFault files at (File host found) = IsFirst files at host found
 IsJoinFault files at (Full host) = IsFirstTooMany files at host

@@ -19,11 +19,10 @@ use Rattle.tally_cli.specs.Output.{questions_of}
 use Rattle.tally_cli.specs.Runs.{Told}
 use Rattle.tally_cli.specs.Apart.{Apart, Names, file_text}
 use Rattle.tally_cli.specs.Usages.{procs_told}
-use Rattle.tally_cli.specs.declared.running.counting.Count.{Count}
-use Rattle.tally_cli.specs.declared.running.counting.Count.TheVariants as count
+use Rattle.tally_cli.specs.declared.running.files.Count.TheVariants as count
 use Rattle.tally_cli.specs.declared.running.parts.FilePart.{FilePart}
 use Rattle.tally_cli.specs.declared.running.wanted.UsageWanted.{UsageWanted}
-use Rattle.tally_cli.specs.inside.Counts.{IsAnswerOn}
+use Rattle.tally_cli.specs.inside.Counts.{ProcCount, IsAnswerOn}
 
 -- a report that is lent
 abbrev pub report_lent : Option (Bor Report) → Option Report
@@ -39,22 +38,22 @@ pub record HasPart (part : FilePart) : Type 0 where
   pub days : HasDays part.answer
 
 -- a file has its number and the answer on its sums
-abbrev pub IsPartOf : Report → ℕ → Count → FilePart → Type 0
+abbrev pub IsPartOf : Report → ℕ → ProcCount → FilePart → Type 0
 IsPartOf r file (count.Sums sums) part = (part.file ≡ file) × HasDays part.answer × IsAnswerOn r sums part.answer
 IsPartOf r file c part = ⊥
 
 -- one more part, where parts are wanted and the file has sums
-abbrev pub IsWithPart : Option Report → ℕ → Count → List FilePart → List FilePart → Type 0
+abbrev pub IsWithPart : Option Report → ℕ → ProcCount → List FilePart → List FilePart → Type 0
 IsWithPart (Some r) file (count.Sums sums) old new = (part : FilePart) × IsPartOf r file (count.Sums sums) part × (new ≡ old ++ part ∷ [])
 IsWithPart wanted file c old new = new ≡ old
 
 -- the parts of the first files, whose counts are at their numbers
-pub record AreParts (r : Report) (files : ℕ) (at : ℕ → Count) (parts : List FilePart) : Type 0 where
+pub record AreParts (r : Report) (files : ℕ) (at : ℕ → ProcCount) (parts : List FilePart) : Type 0 where
   pub count : length parts ≡ files
   pub each : (k : ℕ) (d : FilePart) → k < files → IsPartOf r k (at k) (slice_index_or parts k d)
 
 -- there are parts where they are wanted
-abbrev pub ArePartsWanted : Option Report → ℕ → (ℕ → Count) → List FilePart → Type 0
+abbrev pub ArePartsWanted : Option Report → ℕ → (ℕ → ProcCount) → List FilePart → Type 0
 ArePartsWanted (Some r) files at parts = AreParts r files at parts
 ArePartsWanted None files at parts = parts ≡ []
 

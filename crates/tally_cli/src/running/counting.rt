@@ -3,17 +3,18 @@ ghost use Rattle.std.specs.Prelude.{◌≡◌, ◌≢◌, ◌⊎◌, ◌<◌, �
 ghost use Rattle.std.specs.List.{All};
 ghost use Rattle.tally_cli.specs.Runs.{IsReadable, Tell, Told};
 ghost use Rattle.tally_cli.specs.Usages.{IsOfProcs, IsUsage};
-ghost use Rattle.tally_cli.specs.inside.Counts.{AreAllCounted, AreCounted, AreDealt, AreExplained, AreJoined, AreSummed, CameOf, HasSums, IsCountCause, IsCountRefusal, IsFault, IsJoinFault, IsNotJoined, IsPlaced, IsUncounted, Joins, StopAtFault, count_in};
+ghost use Rattle.tally_cli.specs.inside.Counts.{AreJoined, AreSummed, CameOf, IsCountCause, IsCountRefusal, IsJoinFault, IsNotJoined, Joins};
+ghost use Rattle.tally_cli.specs.inside.Files.{AreAllCounted, AreCounted, AreExplained, HasSums, IsFault, IsPlaced, IsUncounted, StopAtFault, StopsAtFault, count_in};
 ghost use Rattle.tally_cli.specs.inside.Parts.{AreAnsweredWanted, ArePartsWanted, HasPart, report_lent};
 
 use crate::fault::UsageFault;
-use crate::running::deal::{busy_feeders, empty_lists};
+use crate::running::deal::busy_feeders;
+use crate::running::files::{Count, FileCount, deal, take_count};
 use crate::running::parts::{FilePart, add_part};
 use crate::running::source::Source;
-use std::alloc::{AllocError, Global};
+use std::alloc::Global;
 use std::hash::RandomState;
-use std::thread::Threads;
-use std::{mem, thread};
+use std::thread::{self, Threads};
 use tally_desk::{CountFault, Input, count_input};
 use tally_line::Report;
 use tally_sessions::HOST_LIMIT;
@@ -23,12 +24,10 @@ use tally_usage::{ProcChoice, Sums, SumsFault};
 pub const FILE_BLOCKS: u32 = 262_144;
 
 /// What the count of a file came to.
-#[derive(Drop)]
-pub(crate) enum Count {
-    Untried,
-    Sums(Sums),
-    Fault(CountFault),
-}
+pub(crate) type ProcCount = Count<Sums, CountFault>;
+
+/// A file of process records, and what its count came to.
+pub(crate) type ProcFile<I> = FileCount<I, Sums, CountFault>;
 
 /// The sums of all files, and the part of each where parts are wanted.
 #[derive(Drop)]
@@ -37,44 +36,12 @@ pub(crate) struct Joined {
     pub(crate) parts: Vec<FilePart>,
 }
 
-/// A file, and what its count came to.
-#[derive(Drop)]
-pub(crate) struct FileCount<I> {
-    pub(crate) source: Source<I>,
-    pub(crate) count: Count,
-}
-
-/// Deals the files to so many feeders by turns, in their order.
-fn deal<I: Input>(
-    alloc: Global,
-    sources: Vec<Source<I>>,
-    feeders: usize,
-) -> Result<Vec<Vec<FileCount<I>>>, AllocError>
-    requires feeders { (0 < feeders) × (feeders ≤ 64) }
-    requires readable { All (IsReadable I.failures) sources.items }
-    ensures count { IfOk result (λ lists. length lists.items ≡ feeders) }
-    ensures dealt { IfOk result (λ lists. AreDealt feeders sources.items (map (λ v. v.items) lists.items)) }
-    ensures uncounted { IfOk result (λ lists. All (λ v. All (IsUncounted I.failures) v.items) lists.items) }
-{
-    let mut lists = empty_lists(alloc, feeders)?;
-    let files = sources.len();
-    let mut sources = sources;
-    for host in 0..files {
-        let file = FileCount {
-            source: sources.remove(0),
-            count: Count::Untried,
-        };
-        lists[host % feeders].push(file)?;
-    }
-    Ok(lists)
-}
-
 /// Counts the chosen records of a file, and says whether it was counted to its end.
 fn count_file<I: Input>(
     alloc: Global,
     keys: RandomState,
     choice: &ProcChoice,
-    file: &mut FileCount<I>,
+    file: &mut ProcFile<I>,
 ) -> bool
     requires { IsReadable I.failures file.old.source }
     ensures came { CameOf choice.now I.to_come I.can_fail file.old.source file.new.count }
@@ -97,10 +64,10 @@ fn count_list<I: Input>(
     alloc: Global,
     keys: RandomState,
     choice: &ProcChoice,
-    files: &mut [FileCount<I>],
+    files: &mut [ProcFile<I>],
 )
     requires { All (IsUncounted I.failures) files.old }
-    ensures counted { AreCounted choice.now I.to_come I.can_fail files.old files.new }
+    ensures counted { AreCounted (CameOf choice.now I.to_come I.can_fail) StopsAtFault files.old files.new }
     ensures stops { StopAtFault files.new }
 {
     for at in 0..files.len() {
@@ -116,36 +83,22 @@ fn count_lists<R: Threads + Sync, I: Input + Send>(
     alloc: Global,
     keys: RandomState,
     choice: &ProcChoice,
-    lists: &mut Vec<Vec<FileCount<I>>>,
+    lists: &mut Vec<Vec<ProcFile<I>>>,
     feeders: usize,
 )
     requires feeders { 0 < feeders }
     requires uncounted { All (λ v. All (IsUncounted I.failures) v.items) lists.old.items }
-    ensures { AreAllCounted choice.now I.to_come I.can_fail (λ v. v.items) lists.old.items lists.new.items }
+    ensures { AreAllCounted (CameOf choice.now I.to_come I.can_fail) StopsAtFault (λ v. v.items) lists.old.items lists.new.items }
 {
-    let count = |_: usize, files: &mut Vec<FileCount<I>>|
+    let count = |_: usize, files: &mut Vec<ProcFile<I>>|
         requires { All (IsUncounted I.failures) files.now.items }
-        ensures { AreCounted choice.entry.now I.to_come I.can_fail files.entry.now.items files.exit.now.items }
+        ensures { AreCounted (CameOf choice.entry.now I.to_come I.can_fail) StopsAtFault files.entry.now.items files.exit.now.items }
     { count_list(alloc, keys, choice, files.as_mut_slice()) };
     thread::for_each_mut(rt, lists.as_mut_slice(), feeders, &count);
 }
 
-/// Takes the count of the file with this number out of the lists of so many feeders.
-fn take_count<I: Drop>(lists: &mut Vec<Vec<FileCount<I>>>, feeders: usize, host: usize) -> Count
-    requires some { 0 < feeders }
-    requires all { length lists.old.items ≡ feeders }
-    requires placed { IsPlaced feeders (map (λ v. v.items) lists.old.items) host }
-    ensures value { result ≡ count_in feeders (map (λ v. v.items) lists.old.items) host }
-    ensures others { (k : ℕ) → k ≢ host → count_in feeders (map (λ v. v.items) lists.new.items) k ≡ count_in feeders (map (λ v. v.items) lists.old.items) k }
-    ensures placed { (k : ℕ) → IsPlaced feeders (map (λ v. v.items) lists.old.items) k → IsPlaced feeders (map (λ v. v.items) lists.new.items) k }
-    ensures all { length lists.new.items ≡ feeders }
-{
-    let file = &mut lists[host % feeders][host / feeders];
-    mem::replace(&mut file.count, Count::Untried)
-}
-
 /// Adds what a file's count has to the sums of the files before it.
-fn join_count(total: &mut Sums, host: u32, count: Count) -> Result<(), UsageFault>
+fn join_count(total: &mut Sums, host: u32, count: ProcCount) -> Result<(), UsageFault>
     requires { HasSums count ⊎ IsFault count }
     ensures joined { OnOk result (Joins count total.old total.new) }
     ensures fault { IfErr result (IsNotJoined count total.old host) }
@@ -167,7 +120,7 @@ fn join_files<I: Drop>(
     alloc: Global,
     keys: RandomState,
     report: Option<&Report>,
-    mut lists: Vec<Vec<FileCount<I>>>,
+    mut lists: Vec<Vec<ProcFile<I>>>,
     feeders: usize,
     files: u32,
 ) -> Result<Joined, UsageFault>
@@ -175,7 +128,7 @@ fn join_files<I: Drop>(
     requires some { 0 < feeders }
     requires all { length lists.items ≡ feeders }
     requires placed { (k : ℕ) → k < files → IsPlaced feeders (map (λ v. v.items) lists.items) k }
-    requires explained { AreExplained files (count_in feeders (map (λ v. v.items) lists.items)) }
+    requires explained { AreExplained StopsAtFault feeders files (count_in feeders (map (λ v. v.items) lists.items)) }
     ensures joined { IfOk result (λ j. AreJoined files (count_in feeders (map (λ v. v.items) lists.items)) j.total) }
     ensures parts { IfOk result (λ j. ArePartsWanted (report_lent report.entry) files (count_in feeders (map (λ v. v.items) lists.items)) j.parts.items) }
     ensures fault { IfErr result (IsJoinFault files (count_in feeders (map (λ v. v.items) lists.items))) }

@@ -12,7 +12,8 @@ ghost use Rattle.tally_print.specs.Tables.{csv_text};
 ghost use Rattle.tally_sessions.specs.Days.{IsOffset};
 
 use crate::running::apart::FilesApart;
-use crate::running::counting::Count;
+use crate::running::counting::ProcCount;
+use crate::running::files::Count;
 use crate::running::naming::print_usage;
 use crate::running::usage::answer_of_sums;
 use std::alloc::Global;
@@ -38,7 +39,7 @@ pub(crate) fn add_part(
     alloc: Global,
     wanted: Option<&Report>,
     file: u32,
-    count: &Count,
+    count: &ProcCount,
     parts: &mut Vec<FilePart>,
 ) -> Result<(), Memory>
     requires usage { IfSome wanted (λ report. IsUsage report.now) }

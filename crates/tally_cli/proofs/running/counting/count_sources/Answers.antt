@@ -1,6 +1,7 @@
 use Rattle.std.proofs.Common.{◌≡◌, arith, length, map, subst, sym}
 use Rattle.std.proofs.lemmas.Result.{IfErr-weaker, IfOk-weaker}
-use Rattle.tally_cli.specs.inside.Counts.{AreExplained, AreJoined, IsJoinFault, count_in}
+use Rattle.tally_cli.specs.inside.Counts.{AreJoined, CameOf, IsJoinFault}
+use Rattle.tally_cli.specs.inside.Files.{AreExplained, StopsAtFault, count_in}
 use Rattle.tally_cli.proofs.Counted.{came_all, placed_all}
 use Rattle.tally_cli.specs.inside.Parts.{ArePartsWanted, report_lent}
 use Rattle.tally_cli.proofs.Parts.{are_answered, have_parts}
@@ -13,7 +14,7 @@ join_files-requires-clause-placed g c =
     let can_fail = g.I.Input.can_fail in
     let n = c.busy_feeders-feeders.result in
     let files : length c.args.sources.items ≡ c.len-files.result = omega (arith, c.len-files.ensures, c.args.sources.ok.0) in
-    λ k l. placed_all c.args.choice.now to_come can_fail c.args.sources.items n c.busy_feeders-feeders.ensures.allowed.0 (λ v. v.items) c.in_ok-lists.lists.items c.count_lists.new.lists.items c.in_ok-lists.ensures.count c.in_ok-lists.ensures.dealt c.count_lists.ensures k (omega (arith, l, files))
+    λ k l. placed_all (CameOf c.args.choice.now to_come can_fail) StopsAtFault c.args.sources.items n c.busy_feeders-feeders.ensures.allowed.0 (λ v. v.items) c.in_ok-lists.lists.items c.count_lists.new.lists.items c.in_ok-lists.ensures.count c.in_ok-lists.ensures.dealt c.count_lists.ensures k (omega (arith, l, files))
 
 pub join_files-requires-clause-explained : goal.join_files-requires-clause-explained
 join_files-requires-clause-explained g c =
@@ -22,7 +23,7 @@ join_files-requires-clause-explained g c =
     let n = c.busy_feeders-feeders.result in
     let files : length c.args.sources.items ≡ c.len-files.result = omega (arith, c.len-files.ensures, c.args.sources.ok.0) in
     let at = count_in n (map (λ v. v.items) c.count_lists.new.lists.items) in
-    subst (λ m. AreExplained m at) files (came_all c.args.choice.now to_come can_fail c.args.sources.items n c.busy_feeders-feeders.ensures.allowed.0 (λ v. v.items) c.in_ok-lists.lists.items c.count_lists.new.lists.items c.in_ok-lists.ensures.count c.in_ok-lists.ensures.dealt c.count_lists.ensures).explained
+    subst (λ m. AreExplained StopsAtFault n m at) files (came_all (CameOf c.args.choice.now to_come can_fail) StopsAtFault c.args.sources.items n c.busy_feeders-feeders.ensures.allowed.0 (λ v. v.items) c.in_ok-lists.lists.items c.count_lists.new.lists.items c.in_ok-lists.ensures.count c.in_ok-lists.ensures.dealt c.count_lists.ensures).explained
 
 pub returns-clause-whole : goal.returns-clause-whole
 returns-clause-whole g c =
@@ -31,8 +32,8 @@ returns-clause-whole g c =
     let n = c.busy_feeders-feeders.result in
     let files : length c.args.sources.items ≡ c.len-files.result = omega (arith, c.len-files.ensures, c.args.sources.ok.0) in
     let at = count_in n (map (λ v. v.items) c.count_lists.new.lists.items) in
-    let came = came_all c.args.choice.now to_come can_fail c.args.sources.items n c.busy_feeders-feeders.ensures.allowed.0 (λ v. v.items) c.in_ok-lists.lists.items c.count_lists.new.lists.items c.in_ok-lists.ensures.count c.in_ok-lists.ensures.dealt c.count_lists.ensures in
-    IfOk-weaker c.join_files.result _ _ (λ j joined inputs tell. summed c.args.choice.now to_come can_fail c.args.sources.items at came c.requires.procs inputs tell j.total (subst (λ m. AreJoined m at j.total) (sym files) joined)) c.join_files.ensures.joined
+    let came = came_all (CameOf c.args.choice.now to_come can_fail) StopsAtFault c.args.sources.items n c.busy_feeders-feeders.ensures.allowed.0 (λ v. v.items) c.in_ok-lists.lists.items c.count_lists.new.lists.items c.in_ok-lists.ensures.count c.in_ok-lists.ensures.dealt c.count_lists.ensures in
+    IfOk-weaker c.join_files.result _ _ (λ j joined inputs tell. summed c.args.choice.now to_come can_fail c.args.sources.items n at came c.requires.procs inputs tell j.total (subst (λ m. AreJoined m at j.total) (sym files) joined)) c.join_files.ensures.joined
 
 pub returns-clause-answered : goal.returns-clause-answered
 returns-clause-answered g c =
@@ -41,10 +42,10 @@ returns-clause-answered g c =
     let n = c.busy_feeders-feeders.result in
     let files : length c.args.sources.items ≡ c.len-files.result = omega (arith, c.len-files.ensures, c.args.sources.ok.0) in
     let at = count_in n (map (λ v. v.items) c.count_lists.new.lists.items) in
-    let came = came_all c.args.choice.now to_come can_fail c.args.sources.items n c.busy_feeders-feeders.ensures.allowed.0 (λ v. v.items) c.in_ok-lists.lists.items c.count_lists.new.lists.items c.in_ok-lists.ensures.count c.in_ok-lists.ensures.dealt c.count_lists.ensures in
+    let came = came_all (CameOf c.args.choice.now to_come can_fail) StopsAtFault c.args.sources.items n c.busy_feeders-feeders.ensures.allowed.0 (λ v. v.items) c.in_ok-lists.lists.items c.count_lists.new.lists.items c.in_ok-lists.ensures.count c.in_ok-lists.ensures.dealt c.count_lists.ensures in
     IfOk-weaker c.join_files.result _ _ (λ j parts inputs tell.
     are_answered c.args.choice.now (report_lent c.args.report) (length c.args.sources.items) at inputs j.parts.items tell.0
-    (each_part c.args.choice.now to_come can_fail c.args.sources.items at came c.requires.procs inputs tell)
+    (each_part c.args.choice.now to_come can_fail c.args.sources.items n at came c.requires.procs inputs tell)
     (subst (λ m. ArePartsWanted (report_lent c.args.report) m at j.parts.items) (sym files) parts)) c.join_files.ensures.parts
 
 pub returns-clause-parts : goal.returns-clause-parts
@@ -61,8 +62,8 @@ returns-clause-cause g c =
     let n = c.busy_feeders-feeders.result in
     let files : length c.args.sources.items ≡ c.len-files.result = omega (arith, c.len-files.ensures, c.args.sources.ok.0) in
     let at = count_in n (map (λ v. v.items) c.count_lists.new.lists.items) in
-    let came = came_all c.args.choice.now to_come can_fail c.args.sources.items n c.busy_feeders-feeders.ensures.allowed.0 (λ v. v.items) c.in_ok-lists.lists.items c.count_lists.new.lists.items c.in_ok-lists.ensures.count c.in_ok-lists.ensures.dealt c.count_lists.ensures in
-    IfErr-weaker c.join_files.result _ _ (λ f found inputs tell. count_cause c.args.choice.now to_come can_fail c.args.sources.items at came c.requires.procs inputs tell f (subst (λ m. IsJoinFault m at f) (sym files) found)) c.join_files.ensures.fault
+    let came = came_all (CameOf c.args.choice.now to_come can_fail) StopsAtFault c.args.sources.items n c.busy_feeders-feeders.ensures.allowed.0 (λ v. v.items) c.in_ok-lists.lists.items c.count_lists.new.lists.items c.in_ok-lists.ensures.count c.in_ok-lists.ensures.dealt c.count_lists.ensures in
+    IfErr-weaker c.join_files.result _ _ (λ f found inputs tell. count_cause c.args.choice.now to_come can_fail c.args.sources.items n at came c.requires.procs inputs tell f (subst (λ m. IsJoinFault m at f) (sym files) found)) c.join_files.ensures.fault
 
 pub returns-clause-refused : goal.returns-clause-refused
 returns-clause-refused g c =
@@ -71,5 +72,5 @@ returns-clause-refused g c =
     let n = c.busy_feeders-feeders.result in
     let files : length c.args.sources.items ≡ c.len-files.result = omega (arith, c.len-files.ensures, c.args.sources.ok.0) in
     let at = count_in n (map (λ v. v.items) c.count_lists.new.lists.items) in
-    let came = came_all c.args.choice.now to_come can_fail c.args.sources.items n c.busy_feeders-feeders.ensures.allowed.0 (λ v. v.items) c.in_ok-lists.lists.items c.count_lists.new.lists.items c.in_ok-lists.ensures.count c.in_ok-lists.ensures.dealt c.count_lists.ensures in
-    IfErr-weaker c.join_files.result _ _ (λ f found. count_refusal c.args.choice.now to_come can_fail c.args.sources.items at came f (subst (λ m. IsJoinFault m at f) (sym files) found)) c.join_files.ensures.fault
+    let came = came_all (CameOf c.args.choice.now to_come can_fail) StopsAtFault c.args.sources.items n c.busy_feeders-feeders.ensures.allowed.0 (λ v. v.items) c.in_ok-lists.lists.items c.count_lists.new.lists.items c.in_ok-lists.ensures.count c.in_ok-lists.ensures.dealt c.count_lists.ensures in
+    IfErr-weaker c.join_files.result _ _ (λ f found. count_refusal c.args.choice.now to_come can_fail c.args.sources.items n at came f (subst (λ m. IsJoinFault m at f) (sym files) found)) c.join_files.ensures.fault

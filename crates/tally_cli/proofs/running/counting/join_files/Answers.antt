@@ -1,5 +1,5 @@
 use Rattle.std.proofs.Common.{rules, arith, map, ◌∙◌}
-use Rattle.tally_cli.specs.inside.Counts.{count_in}
+use Rattle.tally_cli.specs.inside.Files.{count_in}
 use Rattle.tally_cli.proofs.Reported.{at_fault}
 use Rattle.tally_cli.specs.inside.Parts.{report_lent}
 use Rattle.tally_cli.proofs.Parts.{part_added}

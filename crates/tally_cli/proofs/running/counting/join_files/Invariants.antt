@@ -1,5 +1,5 @@
 use Rattle.std.proofs.Common.{◌≡◌, ℕ, ◌<◌, ◌≤◌, length, map}
-use Rattle.tally_cli.specs.inside.Counts.{HasSums, IsPlaced, count_in}
+use Rattle.tally_cli.specs.inside.Files.{HasSums, IsPlaced, count_in}
 use Rattle.tally_cli.specs.inside.Parts.{ArePartsWanted, report_lent}
 use Rattle.tally_cli.proofs.Summed.{AreFirstSums}
 use Rattle.tally_cli.proofs.running.counting.join_files.Given as goal

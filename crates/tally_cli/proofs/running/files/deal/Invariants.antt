@@ -1,9 +1,9 @@
 use Rattle.std.proofs.Common.{◌≡◌, ℕ, ◌<◌, Some, length, map, drop}
 use Rattle.std.specs.List.{All}
 use Rattle.std.specs.Prelude.{slice_index_or}
-use Rattle.tally_cli.specs.inside.Counts.{IsUncounted, file_in, untried}
+use Rattle.tally_cli.specs.inside.Files.{IsUncounted, file_in, untried}
 use Rattle.tally_cli.proofs.Turns.{AreLong}
-use Rattle.tally_cli.proofs.running.counting.deal.Given as goal
+use Rattle.tally_cli.proofs.running.files.deal.Given as goal
 
 abbrev pub invariant-loop-host : goal.invariant-loop-host
 invariant-loop-host g l = record {

@@ -5,13 +5,13 @@ use Rattle.std.proofs.lemmas.List.{get_or-drop, get_or_default, length-map, leng
 use Rattle.std.proofs.lemmas.List.Elements.{All-get_or, All-nil, All-push, All-set, All-weaker}
 use Rattle.std.specs.List.{All, remove}
 use Rattle.tally_cli.specs.Runs.{IsReadable}
-use Rattle.tally_cli.specs.declared.running.counting.Count.TheVariants as count
-use Rattle.tally_cli.specs.declared.running.counting.FileCount.{FileCount}
+use Rattle.tally_cli.specs.declared.running.files.Count.TheVariants as count
+use Rattle.tally_cli.specs.declared.running.files.FileCount.{FileCount}
 use Rattle.tally_cli.specs.declared.running.source.Source.{Source}
-use Rattle.tally_cli.specs.inside.Counts.{IsUncounted, file_in, untried}
+use Rattle.tally_cli.specs.inside.Files.{IsUncounted, file_in, untried}
 use Rattle.tally_cli.proofs.Dealt.{pushed, removed}
 use Rattle.tally_cli.proofs.Turns.{AreLong, dealt, long_dealt, next_dealt, none_long, still_dealt}
-use Rattle.tally_cli.proofs.running.counting.deal.Goals as goal
+use Rattle.tally_cli.proofs.running.files.deal.Goals as goal
 
 pub loop-host-init : goal.loop-host-init
 loop-host-init g c =
@@ -35,7 +35,7 @@ loop-host-preserved g c =
     let all = map (λ v. v.items) lists in
     let failures = g.I.Input.failures in
     let source : Source g.row.I.Denot = c.remove.result in
-    let file : FileCount g.row.I.Denot = record { source = source; count = count.Untried } in
+    let file : FileCount g.row.I.Denot g.row.S.Denot g.row.F.Denot = record { source = source; count = count.Untried } in
     let inside : host < length sources = omega (arith, c.loop-host-test.true, c.len-files.ensures, c.args.sources.ok.0) in
     let near : host % n < length lists = omega (arith, mod-lt host {m = n} some, inv.width) in
     let width : length all ≡ n = length-map lists (λ v. v.items) ∙ inv.width in
