@@ -136,12 +136,17 @@ def hint_on_room(place):
     for name, records in (('long', 1048577), ('half', 786432), ('longer', 3145729), ('longest', 16777217)):
         with open(place.path(name), 'wb') as file:
             file.truncate(384 * records)
+    with open(place.path('torn'), 'wb') as file:
+        file.truncate(384 * 786432 + 1)
     many, full = b'tally: %s: more than %d records\n', b'tally: half: too many login records\n'
     for words, fault, hint in (
             (('ac', 'long'), many % (b'long', 1048576), b'--millions 2 takes as many'),
             (('last', 'longer'), many % (b'longer', 1048576), b'--millions 4 takes as many'),
             (('ac', '--millions', '2', 'longer'), many % (b'longer', 2097152), b'--millions 4 takes as many'),
             (('lastb', '--feeders', '1', 'half', 'half'), full, b'--millions 2 takes as many'),
+            (('ac', 'half', 'half'), full, b'--millions 2 takes as many'),
+            (('ac', '-p', '--feeders', '1', 'half', 'long'), full.replace(b'half', b'long'), b'--millions 2 takes as many'),
+            (('ac', '--feeders', '1', 'half', 'torn'), full.replace(b'half', b'torn'), b'--millions 2 takes as many'),
             (('ac', 'longest'), many % (b'longest', 1048576), None)):
         done, said = place.on_terminal(*words)
         said = re.sub(rb'(%s[^\r\n]*records)+%s' % (ERASE, ERASE), b'', said)
