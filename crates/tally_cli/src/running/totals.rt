@@ -1,5 +1,5 @@
 //! A run that reports connect time in total or by user: files are counted, and no record is kept.
-ghost use Rattle.std.specs.Prelude.{◌≡◌, ◌+◌, ◌<◌, ◌≤◌, IfErr, IsTrue, List, OnOk, length};
+ghost use Rattle.std.specs.Prelude.{◌≡◌, ◌+◌, ◌<◌, ◌≤◌, ◌↔◌, IfErr, IsTrue, List, OnOk, length};
 ghost use Rattle.std.specs.List.{All};
 ghost use Rattle.tally_cli.specs.Apart.{Apart, apart_of};
 ghost use Rattle.tally_cli.specs.Output.{report_text};
@@ -35,7 +35,7 @@ use tally_sessions::{ConnectSums, HOST_LIMIT};
 
 /// Whether a report is on the connect time of all sessions, without days.
 fn is_of_totals(report: &Report) -> bool
-    ensures { IsTrue result → IsOfTotals report.now }
+    ensures { IsTrue result ↔ IsOfTotals report.now }
 {
     match report {
         Report::Connect {
@@ -54,7 +54,7 @@ fn is_of_totals(report: &Report) -> bool
 
 /// Whether all files are of login records.
 fn are_of_logins<I>(sources: &[Source<I>]) -> bool
-    ensures { IsTrue result → All IsOfLogins sources.now }
+    ensures { IsTrue result ↔ All IsOfLogins sources.now }
 {
     sources.iter().all(|source| source.kind == Kind::Login)
 }
@@ -62,8 +62,7 @@ fn are_of_logins<I>(sources: &[Source<I>]) -> bool
 /// Whether a run needs no record: it is one on the connect time of all sessions, without days, its files are of login records and are
 /// not told apart, and nothing is asked meanwhile.
 pub(crate) fn is_counted<I>(job: &Job, apart: FilesApart<'_>, sources: &[Source<I>]) -> bool
-    ensures counted { IsTrue result → IsCountedRun job.now sources.now }
-    ensures together { IsTrue result → IsTogether (apart_of apart.entry) job.now }
+    ensures { IsTrue result ↔ (IsCountedRun job.now sources.now × IsTogether (apart_of apart.entry) job.now) }
 {
     job.askers == 0
         && is_of_totals(&job.report)
