@@ -1,6 +1,8 @@
 -- Connect time of records that are not kept.
 pub mod CountLemmas
 pub mod CountedHosts
+pub mod EndedLemmas
 pub mod KeptLemmas
+pub mod SessionLemmas
 pub mod SlotLemmas
 pub mod TotalLemmas

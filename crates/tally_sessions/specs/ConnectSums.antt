@@ -1,16 +1,17 @@
 -- Connect time of login records, of which none is kept: of one host, and of several.
-use Rattle.std.specs.Prelude.{◌≡◌, ◌<◌, ◌≤◌, ◌++◌, ℕ, List, [], Option, Some, None, bytes_eq, length, slice_index_or, sum_by, unwrap_or, ℤ, pos}
+use Rattle.std.specs.Prelude.{◌≡◌, ◌<◌, ◌≤◌, ◌++◌, ℕ, Bool, true, List, [], Option, Some, None, bytes_eq, length, slice_index_or, sum_by, unwrap_or, ℤ, pos}
 use Rattle.std.specs.Map.{lookup}
 use Rattle.tally_records.specs.declared.login.LoginRecord.{LoginRecord}
 use Rattle.tally_sessions.specs.declared.entry.Entry.{Entry}
+use Rattle.tally_sessions.specs.declared.sums.Session.{Session}
 use Rattle.tally_sessions.specs.Clock.{pending_old_time}
 use Rattle.tally_sessions.specs.Hosts.{of_host}
 use Rattle.tally_sessions.specs.Stays.{last_time}
 use Rattle.tally_sessions.specs.inside.Tracking.{Tracked, clock, tracked_from}
-use Rattle.tally_sessions.specs.Opens.{Open, AreOpen, ended_seconds}
+use Rattle.tally_sessions.specs.Opens.{Open, AreEnded, AreOpen, ended_seconds}
 
 -- what is counted: how many records, by how much they move the clock, the old time that waits for its new one, the last time, the
--- sessions that are open, and the seconds of those that have ended, by user and of all
+-- sessions that are open, and of those that have ended the seconds, by user and of all, and where they are kept the sessions too
 pub record Counted : Type 0 where
   pub count : ℕ
   pub clock : ℤ
@@ -19,6 +20,8 @@ pub record Counted : Type 0 where
   pub opens : List Open
   pub users : List (List ℕ × ℕ)
   pub total : ℕ
+  pub keeps_sessions : Bool
+  pub sessions : List Session
 
 -- the seconds of sessions that have ended: of all users, or of one
 abbrev pub sum_of : Counted → Option (List ℕ) → ℕ
@@ -37,6 +40,7 @@ pub record IsCountOf (c : Counted) (rs : List LoginRecord) : Type 0 where
   pub last : c.last ≡ last_time (pos 0) rs
   pub opens : AreOpen c.opens (tracked rs)
   pub ended : (who : Option (List ℕ)) → sum_of c who ≡ sum_by (ended_seconds who) (tracked rs)
+  pub sessions : c.keeps_sessions ≡ true → AreEnded c.sessions (tracked rs)
 
 -- what it was the count of, and then these records too
 abbrev pub CountsMore : Counted → Counted → List LoginRecord → Type 0

@@ -3,6 +3,9 @@ use Rattle.std.specs.Prelude.{◌≡◌, ◌&&◌, ℕ, Bool, List, Option, if�
 use Rattle.std.specs.Option.{option_map_or}
 use Rattle.tally_clock.specs.Days.{seconds_between}
 use Rattle.tally_records.specs.Event.{event_of}
+use Rattle.tally_records.specs.Period.{always}
+use Rattle.tally_sessions.specs.declared.sums.Session.{Session}
+use Rattle.tally_sessions.specs.Sums.{session_in}
 use Rattle.tally_sessions.specs.Stays.{clamped}
 use Rattle.tally_sessions.specs.inside.Track.{counts, covers, is_login_event}
 use Rattle.tally_sessions.specs.inside.Tracking.{Tracked}
@@ -38,6 +41,18 @@ length_at now time o = seconds_between (clamped (o.start +ℤ (now -ℤ o.clock_
 abbrev pub seconds_at : Option (List ℕ) → ℤ → ℤ → Open → ℕ
 seconds_at who now time o = if covers who o.user then length_at now time o else 0
 
+-- the session itself, where it ends at a time
+abbrev pub session_at : ℤ → ℤ → Open → Session
+session_at now time o = record { user = o.user; begin = clamped (o.start +ℤ (now -ℤ o.clock_at)); end_time = time }
+
 -- the length of a session that has ended, likewise
 abbrev pub ended_seconds : Option (List ℕ) → Tracked → ℕ
 ended_seconds who t = if counts who t.start then option_map_or (λ s. s.length) t.ended 0 else 0
+
+-- what a session that has ended weighs
+abbrev pub ended_weight : (Session → ℕ) → Tracked → ℕ
+ended_weight weight t = if is_login_event (event_of t.start) then option_map_or (λ s. weight (session_in always s)) t.ended 0 else 0
+
+-- these sessions are those that have ended, in some order
+abbrev pub AreEnded : List Session → List Tracked → Type 0
+AreEnded sessions ts = (weight : Session → ℕ) → sum_by weight sessions ≡ sum_by (ended_weight weight) ts

@@ -2,6 +2,7 @@
 pub mod Changes
 pub mod Chosen
 pub mod Counts
+pub mod Ended
 pub mod Endings
 pub mod Entries
 pub mod Kept

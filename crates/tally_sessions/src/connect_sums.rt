@@ -1,5 +1,5 @@
 //! Connect time of login records, which are counted and let go: of one host, and of several.
-ghost use Rattle.std.specs.Prelude.{◌≡◌, ◌≤◌, ◌<◌, ◌+◌, ◌-◌, ◌*◌, ◌^◌, ◌↔◌, [], ℕ, List as Items, IfOk, IsTrue, OnErr, OnOk};
+ghost use Rattle.std.specs.Prelude.{◌≡◌, ◌≤◌, ◌<◌, ◌+◌, ◌-◌, ◌*◌, ◌^◌, ◌↔◌, [], ℕ, List as Items, IfOk, IsTrue, OnErr, OnOk, false, true};
 ghost use Rattle.std.specs.Cmp.Lexicographic.{slice_cmp};
 ghost use Rattle.std.specs.Ordering.{nat_cmp};
 ghost use Rattle.tally_records.specs.Choice.{every_login};
@@ -11,6 +11,7 @@ ghost use Rattle.tally_sessions.specs.Sums.{sessions_among};
 ghost use Rattle.tally_sessions.specs.Totals.{session_seconds, user_seconds};
 ghost use Rattle.tally_sessions.specs.inside.Sums.{sum_at};
 
+mod ended;
 pub(crate) mod hosts;
 mod lines;
 mod running;
@@ -50,10 +51,21 @@ impl Model for ConnectSums {
 impl ConnectSums {
     /// The connect time of no records. Its tables are hashed by the keys.
     pub fn new(alloc: Global, keys: RandomState) -> ConnectSums
-        ensures { IsCountOf result [] }
+        ensures counted { IsCountOf result [] }
+        ensures keeps { result.keeps_sessions ≡ false }
     {
         ConnectSums {
-            running: Running::new(alloc, keys),
+            running: Running::new(alloc, keys, false),
+        }
+    }
+
+    /// The same, which keeps the user and the times of each session that ends too, for reports by day: 12 bytes a session.
+    pub fn with_sessions(alloc: Global, keys: RandomState) -> ConnectSums
+        ensures counted { IsCountOf result [] }
+        ensures keeps { result.keeps_sessions ≡ true }
+    {
+        ConnectSums {
+            running: Running::new(alloc, keys, true),
         }
     }
 
@@ -79,6 +91,7 @@ impl ConnectSums {
         requires room { self.old.count + record_count batch.now ≤ ENTRY_LIMIT }
         ensures added { OnOk result (CountsMore self.old self.new (logins_in batch.now)) }
         ensures count { OnOk result (self.new.count ≡ self.old.count + record_count batch.now) }
+        ensures keeps { self.new.keeps_sessions ≡ self.old.keeps_sessions }
         ensures refused { OnErr result (self.new ≡ self.old) }
     {
         let Some(records) = batch.share_logins()? else {

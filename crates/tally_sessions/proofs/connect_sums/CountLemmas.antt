@@ -7,6 +7,7 @@ use Rattle.tally_records.specs.declared.login.LoginRecord.{LoginRecord}
 use Rattle.tally_records.specs.declared.login.Event.{Event}
 use Rattle.tally_records.specs.declared.login.Event.TheVariants.{Login, Logout, Boot, Down, OldTime, NewTime, Nothing}
 use Rattle.tally_records.specs.Event.{event_of}
+use Rattle.tally_records.specs.Period.{always}
 use Rattle.tally_sessions.specs.declared.entry.Stay.{Stay}
 use Rattle.tally_sessions.specs.Clock.{shift_at}
 use Rattle.tally_sessions.specs.Stays.{ends_event, starts_stay}
@@ -14,8 +15,11 @@ use Rattle.tally_sessions.specs.inside.Track.{counts, covers, is_login_event}
 use Rattle.tally_sessions.specs.inside.Tracking.{Tracked, advance_if, advanced, clock, ended_by, fresh, pending_at}
 use Rattle.tally_sessions.proofs.track.Clocks.{pending_old_time-push}
 use Rattle.tally_sessions.proofs.track.Forward.{clock-push, last_time-push, tracked_from-push}
-use Rattle.tally_sessions.specs.Opens.{Open, ended_seconds, length_at, open_of, weight_of}
+use Rattle.tally_sessions.specs.Opens.{Open, ended_seconds, ended_weight, length_at, open_of, session_at, weight_of}
 use Rattle.tally_sessions.specs.ConnectSums.{Counted, IsCountOf, sum_of, tracked}
+use Rattle.tally_sessions.specs.Sums.{session_in}
+use Rattle.tally_sessions.specs.declared.sums.Session.{Session}
+use Rattle.tally_sessions.specs.inside.Ended.{Seconds, Weight}
 use Rattle.tally_sessions.specs.inside.Steps.{IsStep, leaving, opened, opening, staying}
 
 -- sums over what a function made of each item
@@ -71,7 +75,7 @@ module _ (now : ℤ) (x : LoginRecord) (t : Tracked) where
       by None = pending (event_of t.start) (weight (open_of t))
 
   -- a session that the record ends has its seconds from then on
-  ended-advanced : (who : Option (List ℕ)) → ended_seconds who (advanced 0 now x t) ≡ ended_seconds who t + weight_of (leaving who now x) t
+  ended-advanced : (who : Option (List ℕ)) → ended_seconds who (advanced 0 now x t) ≡ ended_seconds who t + weight_of (leaving false (Seconds who) now x) t
   ended-advanced who = by t.ended
     where
       over : (e : Event) (m n : ℕ) → m ≡ m + cond (is_login_event e && false) n 0
@@ -117,12 +121,49 @@ module _ (now : ℤ) (x : LoginRecord) (t : Tracked) where
       is_counted None = refl
       is_counted (Some user) = refl
 
-      by : (o : Option Stay) → ended_seconds who (advance_if 0 now x (at o) o) ≡ ended_seconds who (at o) + weight_of (leaving who now x) (at o)
+      by : (o : Option Stay) → ended_seconds who (advance_if 0 now x (at o) o) ≡ ended_seconds who (at o) + weight_of (leaving false (Seconds who) now x) (at o)
       by (Some s) = over (event_of t.start) (ended_seconds who (at (Some s))) _
       by None =
           (λ i. cond (sym (is_counted who) i) (option_map_or (λ (s : Stay). s.length) (ended_by 0 now x (at None) (cond (ends_event (event_of t.start) (event_of x) same_line) (Some x) None)) 0) 0)
           ∙ pending (event_of t.start) who
-          ∙ (λ i. cond {A = ℕ} (is_counted who i) 0 0 + weight_of (leaving who now x) (at None))
+          ∙ (λ i. cond {A = ℕ} (is_counted who i) 0 0 + weight_of (leaving false (Seconds who) now x) (at None))
+
+  -- and weighs from then on what it weighs
+  weight-ended : (weight : Session → ℕ) → ended_weight weight (advanced 0 now x t) ≡ ended_weight weight t + weight_of (leaving true (Weight weight) now x) t
+  weight-ended weight = by t.ended
+    where
+      over : (e : Event) (m n : ℕ) → m ≡ m + cond (is_login_event e && false) n 0
+      over Login m n = omega arith
+      over Logout m n = omega arith
+      over Boot m n = omega arith
+      over Down m n = omega arith
+      over OldTime m n = omega arith
+      over NewTime m n = omega arith
+      over Nothing m n = omega arith
+
+      of : Stay → ℕ
+      of s = weight (session_in always s)
+
+      own : ℕ
+      own = weight (session_at now x.time (open_of t))
+
+      ends : (b : Bool) → option_map_or of (ended_by 0 now x (at None) (cond b (Some x) None)) 0 ≡ 0 + cond b own 0
+      ends true = omega arith
+      ends false = omega arith
+
+      pending : (e : Event) → cond (is_login_event e) (option_map_or of (ended_by 0 now x (at None) (cond (ends_event e (event_of x) same_line) (Some x) None)) 0) 0
+          ≡ cond {A = ℕ} (is_login_event e) 0 0 + cond (is_login_event e && true) (cond (ends_event Login (event_of x) same_line) own 0) 0
+      pending Login = ends (ends_event Login (event_of x) same_line)
+      pending Logout = omega arith
+      pending Boot = omega arith
+      pending Down = omega arith
+      pending OldTime = omega arith
+      pending NewTime = omega arith
+      pending Nothing = omega arith
+
+      by : (o : Option Stay) → ended_weight weight (advance_if 0 now x (at o) o) ≡ ended_weight weight (at o) + weight_of (leaving true (Weight weight) now x) (at o)
+      by (Some s) = over (event_of t.start) (ended_weight weight (at (Some s))) _
+      by None = pending (event_of t.start)
 
 -- the stay that a record starts is open where it is a login, and has ended nothing
 weight-fresh : (rs : List LoginRecord) (x : LoginRecord) (weight : Open → ℕ) → sum_by (weight_of weight) (fresh rs x) ≡ opening x (clock (rs ++ x ∷ [])) weight
@@ -149,16 +190,23 @@ weight-fresh rs x weight = by (event_of x) refl
     by NewTime h = omega (arith, is NewTime h, opens NewTime h)
     by Nothing h = omega (arith, is Nothing h, opens Nothing h)
 
+zero_either_way : (c : Bool) → cond {A = ℕ} c 0 0 ≡ 0
+zero_either_way true = refl
+zero_either_way false = refl
+
 ended-fresh : (who : Option (List ℕ)) (rs : List LoginRecord) (x : LoginRecord) → sum_by (ended_seconds who) (fresh rs x) ≡ 0
 ended-fresh who rs x = by (starts_stay (event_of x)) (counts who x)
   where
-    zero_either_way : (c : Bool) → cond {A = ℕ} c 0 0 ≡ 0
-    zero_either_way true = refl
-    zero_either_way false = refl
-
     by : (b c : Bool) → sum_by (ended_seconds who) (cond b (record { start = x; clock_at = clock (rs ++ x ∷ []); ended = None } ∷ []) []) ≡ 0
     by true c = let none = zero_either_way (counts who x) in omega (arith, none)
     by false c = refl
+
+weight-none : (weight : Session → ℕ) (rs : List LoginRecord) (x : LoginRecord) → sum_by (ended_weight weight) (fresh rs x) ≡ 0
+weight-none weight rs x = by (starts_stay (event_of x))
+  where
+    by : (b : Bool) → sum_by (ended_weight weight) (cond b (record { start = x; clock_at = clock (rs ++ x ∷ []); ended = None } ∷ []) []) ≡ 0
+    by true = let none = zero_either_way (is_login_event (event_of x)) in omega (arith, none)
+    by false = refl
 
 -- the count of one record more
 pub IsCountOf-step : (old new : Counted) (rs : List LoginRecord) (x : LoginRecord) → IsStep old new x → IsCountOf old rs → IsCountOf new (rs ++ x ∷ [])
@@ -181,12 +229,25 @@ IsCountOf-step old new rs x step h =
           ∙ ap (sum_by (weight_of weight)) (sym more);
       ended = λ who.
           let f = ended_seconds who in
-          let g = weight_of (leaving who (clock (rs ++ x ∷ [])) x) in
+          let g = weight_of (leaving false (Seconds who) (clock (rs ++ x ∷ [])) x) in
           let left : sum_of new who ≡ sum_by f (tracked rs) + sum_by g (tracked rs) =
-          step.ended who
-          ∙ (λ i. h.ended who i + h.opens (leaving who (now i) x) i) in
+          step.ended (Seconds who)
+          ∙ (λ i. h.ended who i + h.opens (leaving false (Seconds who) (now i) x) i) in
           let grown = sum_of_grown f g (advanced 0 (clock (rs ++ x ∷ [])) x) (tracked rs) (λ t. ended-advanced (clock (rs ++ x ∷ [])) x t who) in
           let whole = ap (sum_by f) more ∙ sum_by-append f (map (advanced 0 (clock (rs ++ x ∷ [])) x) (tracked rs)) (fresh rs x) in
           let none = ended-fresh who rs x in
+          omega (arith, left, grown, whole, none);
+      sessions = λ keeps weight.
+          let f = ended_weight weight in
+          let g = weight_of (leaving true (Weight weight) (clock (rs ++ x ∷ [])) x) in
+          let kept : old.keeps_sessions ≡ true = sym step.keeps ∙ keeps in
+          let left : sum_by weight new.sessions ≡ sum_by f (tracked rs) + sum_by g (tracked rs) =
+          (λ i. cond (sym keeps i) (sum_by weight new.sessions) 0)
+          ∙ step.ended (Weight weight)
+          ∙ (λ i. cond (kept i) (sum_by weight old.sessions) 0 + sum_by (leaving (kept i) (Weight weight) (now i) x) old.opens)
+          ∙ (λ i. h.sessions kept weight i + h.opens (leaving true (Weight weight) (clock (rs ++ x ∷ [])) x) i) in
+          let grown = sum_of_grown f g (advanced 0 (clock (rs ++ x ∷ [])) x) (tracked rs) (λ t. weight-ended (clock (rs ++ x ∷ [])) x t weight) in
+          let whole = ap (sum_by f) more ∙ sum_by-append f (map (advanced 0 (clock (rs ++ x ∷ [])) x) (tracked rs)) (fresh rs x) in
+          let none = weight-none weight rs x in
           omega (arith, left, grown, whole, none);
     }

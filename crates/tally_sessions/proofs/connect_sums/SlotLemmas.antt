@@ -15,12 +15,13 @@ use Rattle.tally_records.specs.declared.login.Event.{Event}
 use Rattle.tally_records.specs.declared.login.Event.TheVariants.{Login, Logout, Boot, Down, OldTime, NewTime, Nothing}
 use Rattle.tally_records.specs.Event.{event_of}
 use Rattle.tally_sessions.specs.declared.connect_sums.slot.Slot.{Slot}
-use Rattle.tally_sessions.specs.declared.track.ended.EndedSums.{EndedSums}
-use Rattle.tally_sessions.specs.ConnectSums.{Counted, sum_of as seen_of}
+use Rattle.tally_sessions.specs.declared.connect_sums.ended.Ended.{Ended}
+use Rattle.tally_sessions.specs.ConnectSums.{Counted}
 use Rattle.tally_sessions.specs.Opens.{Open, length_at, seconds_at}
 use Rattle.tally_sessions.specs.Stays.{ends_event}
+use Rattle.tally_sessions.specs.inside.Ended.{Asked, Seconds, Weight, counted, measured, sessions_in, weighed}
 use Rattle.tally_sessions.specs.inside.Steps.{leaving, opened, opening, staying}
-use Rattle.tally_sessions.specs.inside.Track.{ends_every_stay, ends_line_stay, is_login_event, sum_of}
+use Rattle.tally_sessions.specs.inside.Track.{ends_every_stay, ends_line_stay, is_login_event}
 use Rattle.tally_sessions.specs.inside.Slots.{begun, closed, no_slot, off_line, on_line, one, open_count, opens_in, session_of, slot_at, unlisted, weight_at, weight_in}
 
 -- sums of items that weigh the same, place by place
@@ -141,18 +142,18 @@ weight-nothing : (slots : List Slot) → weight_in (λ o. 0) slots ≡ 0
 weight-nothing slots = sum_zero (weight_at (λ o. 0)) no_slot slots (λ k lt. if_zero (slot_at slots k).is_open)
 
 -- what a record leaves open and ends, by its event
-module _ (slots : List Slot) (x : LoginRecord) (weight : Open → ℕ) (who : Option (List ℕ)) (now : ℤ) where
+module _ (slots : List Slot) (x : LoginRecord) (weight : Open → ℕ) (keeps : Bool) (asked : Asked) (now : ℤ) where
   by_event : Event → Open → ℕ
   by_event e o = cond (ends_event Login e (bytes_eq o.line x.line)) 0 (weight o)
 
   leaving_by : Event → Open → ℕ
-  leaving_by e o = cond (ends_event Login e (bytes_eq o.line x.line)) (seconds_at who now x.time o) 0
+  leaving_by e o = cond (ends_event Login e (bytes_eq o.line x.line)) (weighed keeps asked now x.time o) 0
 
   pub staying-login : event_of x ≡ Login → weight_in (off_line x.line weight) slots + weight (opened x now) ≡ weight_in (staying x weight) slots + opening x now weight
   unfolding by_event
   staying-login h = λ i. weight_in (by_event (sym h i)) slots + cond (is_login_event (sym h i)) (weight (opened x now)) 0
 
-  pub leaving-login : event_of x ≡ Login → weight_in (on_line x.line (seconds_at who now x.time)) slots ≡ weight_in (leaving who now x) slots
+  pub leaving-login : event_of x ≡ Login → weight_in (on_line x.line (weighed keeps asked now x.time)) slots ≡ weight_in (leaving keeps asked now x) slots
   unfolding leaving_by
   leaving-login h = λ i. weight_in (leaving_by (sym h i)) slots
 
@@ -160,7 +161,7 @@ module _ (slots : List Slot) (x : LoginRecord) (weight : Open → ℕ) (who : Op
   unfolding by_event
   staying-logout h = plus_zero (weight_in (off_line x.line weight) slots) ∙ (λ i. weight_in (by_event (sym h i)) slots + cond (is_login_event (sym h i)) (weight (opened x now)) 0)
 
-  pub leaving-logout : event_of x ≡ Logout → weight_in (on_line x.line (seconds_at who now x.time)) slots ≡ weight_in (leaving who now x) slots
+  pub leaving-logout : event_of x ≡ Logout → weight_in (on_line x.line (weighed keeps asked now x.time)) slots ≡ weight_in (leaving keeps asked now x) slots
   unfolding leaving_by
   leaving-logout h = λ i. weight_in (leaving_by (sym h i)) slots
 
@@ -178,11 +179,11 @@ module _ (slots : List Slot) (x : LoginRecord) (weight : Open → ℕ) (who : Op
       none NewTime t = absurd (false≢true t)
       none Nothing t = absurd (false≢true t)
 
-  pub leaving-every : (e : Event) → event_of x ≡ e → ends_every_stay e ≡ true → weight_in (seconds_at who now x.time) slots ≡ weight_in (leaving who now x) slots
+  pub leaving-every : (e : Event) → event_of x ≡ e → ends_every_stay e ≡ true → weight_in (weighed keeps asked now x.time) slots ≡ weight_in (leaving keeps asked now x) slots
   unfolding leaving_by
   leaving-every e h every = all e every ∙ (λ i. weight_in (leaving_by (sym h i)) slots)
     where
-      all : (e : Event) → ends_every_stay e ≡ true → weight_in (seconds_at who now x.time) slots ≡ weight_in (leaving_by e) slots
+      all : (e : Event) → ends_every_stay e ≡ true → weight_in (weighed keeps asked now x.time) slots ≡ weight_in (leaving_by e) slots
       all Boot t = refl
       all Down t = refl
       all Login t = absurd (false≢true t)
@@ -205,7 +206,7 @@ module _ (slots : List Slot) (x : LoginRecord) (weight : Open → ℕ) (who : Op
       all Boot a b = absurd (false≢true (sym a))
       all Down a b = absurd (false≢true (sym a))
 
-  pub leaving-other : (e : Event) → event_of x ≡ e → ends_every_stay e ≡ false → ends_line_stay e ≡ false → 0 ≡ weight_in (leaving who now x) slots
+  pub leaving-other : (e : Event) → event_of x ≡ e → ends_every_stay e ≡ false → ends_line_stay e ≡ false → 0 ≡ weight_in (leaving keeps asked now x) slots
   unfolding leaving_by
   leaving-other e h every line = none e every line ∙ (λ i. weight_in (leaving_by (sym h i)) slots)
     where
@@ -228,9 +229,11 @@ open-few (s ∷ ss) = let rest = open-few ss in let own = by s.is_open in omega 
     by false = omega arith
 
 -- a sum as it is seen from outside
-pub sum-seen : (c : Counted) (sums : EndedSums) (who : Option (List ℕ)) → c.users ≡ sums.users.entries → c.total ≡ sums.all → seen_of c who ≡ sum_of sums who
-sum-seen c sums None users total = total
-sum-seen c sums (Some user) users total = ap (λ es. unwrap_or (lookup (bytes_eq user) es) 0) users
+pub sum-seen : (c : Counted) (ended : Ended) (asked : Asked) → c.users ≡ ended.sums.users.entries → c.total ≡ ended.sums.all → c.keeps_sessions ≡ ended.keeps_sessions → c.sessions ≡ sessions_in ended
+    → counted c asked ≡ measured ended asked
+sum-seen c ended (Seconds None) users total keeps sessions = total
+sum-seen c ended (Seconds (Some user)) users total keeps sessions = ap (λ es. unwrap_or (lookup (bytes_eq user) es) 0) users
+sum-seen c ended (Weight weight) users total keeps sessions = λ i. cond (keeps i) (sum_by weight (sessions i)) 0
 
 -- the seconds of a slot's session are those of its user
 pub own-seconds : (now time : ℤ) (s : Slot) (user : List ℕ) → cond (is_eq (slice_cmp nat_cmp s.user user)) (weight_at (seconds_at None now time) s) 0 ≡ weight_at (seconds_at (Some user) now time) s

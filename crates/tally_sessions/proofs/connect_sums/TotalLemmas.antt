@@ -9,6 +9,7 @@ use Rattle.tally_records.specs.Event.{event_of}
 use Rattle.tally_sessions.specs.declared.entry.Stay.{Stay}
 use Rattle.tally_sessions.specs.Stays.{first_end, is_boot_event, last_time, starts_stay, stay_of, stays_from}
 use Rattle.tally_sessions.specs.declared.connect_sums.running.Running.{Running}
+use Rattle.tally_sessions.specs.inside.Ended.{Seconds}
 use Rattle.tally_sessions.specs.inside.Running.{counted_in}
 use Rattle.tally_sessions.specs.inside.Slots.{weight_in}
 use Rattle.tally_sessions.specs.inside.Totals.{counted, seconds_of}
@@ -124,7 +125,7 @@ seconds_are c rs who until h =
 
 -- the same, by the fields of a count
 pub running-seconds : (r : Running) (rs : List LoginRecord) (who : Option (List ℕ)) (until : Option ℤ) → IsCountOf (counted_in r) rs
-    → kept_sum r.sums who + weight_in (seconds_at who r.clock (unwrap_or until r.last)) r.slots.items ≡ seconds_of who (stays_from 0 [] rs until)
+    → kept_sum r.ended.sums who + weight_in (seconds_at who r.clock (unwrap_or until r.last)) r.slots.items ≡ seconds_of who (stays_from 0 [] rs until)
 running-seconds r rs who until h =
-    (λ i. sym (sum-seen (counted_in r) r.sums who refl refl) i + sym (weight-opens (seconds_at who r.clock (unwrap_or until r.last)) r.slots.items) i)
+    (λ i. sym (sum-seen (counted_in r) r.ended.sums who refl refl) i + sym (weight-opens (seconds_at who r.clock (unwrap_or until r.last)) r.slots.items) i)
     ∙ seconds_are (counted_in r) rs who until h

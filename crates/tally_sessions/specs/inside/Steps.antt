@@ -7,8 +7,9 @@ use Rattle.tally_sessions.specs.Clock.{shift_at}
 use Rattle.tally_sessions.specs.Stays.{ends_event}
 use Rattle.tally_sessions.specs.inside.Track.{is_login_event}
 use Rattle.tally_sessions.specs.inside.Tracking.{pending_at}
-use Rattle.tally_sessions.specs.Opens.{Open, seconds_at}
-use Rattle.tally_sessions.specs.ConnectSums.{Counted, sum_of}
+use Rattle.tally_sessions.specs.Opens.{Open}
+use Rattle.tally_sessions.specs.ConnectSums.{Counted}
+use Rattle.tally_sessions.specs.inside.Ended.{Asked, counted, weighed}
 
 -- whether a record ends an open session
 abbrev pub ends_open : LoginRecord → Open → Bool
@@ -18,9 +19,9 @@ ends_open x o = ends_event Login (event_of x) (bytes_eq o.line x.line)
 abbrev pub staying : LoginRecord → (Open → ℕ) → Open → ℕ
 staying x weight o = if ends_open x o then 0 else weight o
 
--- the seconds of a session that the record ends
-abbrev pub leaving : Option (List ℕ) → ℤ → LoginRecord → Open → ℕ
-leaving who now x o = if ends_open x o then seconds_at who now x.time o else 0
+-- what a session gives that the record ends
+abbrev pub leaving : Bool → Asked → ℤ → LoginRecord → Open → ℕ
+leaving keeps asked now x o = if ends_open x o then weighed keeps asked now x.time o else 0
 
 -- the session of a login, while the clock has moved so far
 abbrev pub opened : LoginRecord → ℤ → Open
@@ -37,4 +38,5 @@ pub record IsStep (old new : Counted) (x : LoginRecord) : Type 0 where
   pub old_time : new.old_time ≡ pending_at (event_of x) x.time old.old_time
   pub last : new.last ≡ x.time
   pub opens : (weight : Open → ℕ) → sum_by weight new.opens ≡ sum_by (staying x weight) old.opens + opening x new.clock weight
-  pub ended : (who : Option (List ℕ)) → sum_of new who ≡ sum_of old who + sum_by (leaving who new.clock x) old.opens
+  pub keeps : new.keeps_sessions ≡ old.keeps_sessions
+  pub ended : (asked : Asked) → counted new asked ≡ counted old asked + sum_by (leaving old.keeps_sessions asked new.clock x) old.opens

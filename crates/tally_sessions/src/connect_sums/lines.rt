@@ -1,7 +1,8 @@
 //! What a login, a logout and the end of all sessions do to the lines of a count.
 ghost use Rattle.std.specs.Prelude.{◌≡◌, ◌≤◌, ◌<◌, ◌+◌, ◌*◌, ◌^◌, ◌++◌, ◌∷◌, [], ℕ, List as Items, Option, None, Some, bytes_eq, if◌then◌else◌, length, set, true, vec_len, vec_capacity};
 ghost use Rattle.std.specs.Map.{lookup};
-ghost use Rattle.tally_sessions.specs.Opens.{Open, seconds_at};
+ghost use Rattle.tally_sessions.specs.Opens.{Open};
+ghost use Rattle.tally_sessions.specs.inside.Ended.{Asked, HasGrown, HasRoom, HaveUsers, measured, weighed};
 ghost use Rattle.tally_sessions.specs.inside.Running.{HasPlaces, IsRunning};
 ghost use Rattle.tally_sessions.specs.inside.Slots.{begun, closed, off_line, on_line, one, slot_at, unlisted, weight_at, weight_in};
 ghost use Rattle.tally_sessions.specs.inside.Track.{IsWithin, sum_of};
@@ -17,22 +18,20 @@ impl Running {
         requires place { place < vec_len self.old.slots }
         requires now { IsWithin ENTRY_LIMIT self.old.clock }
         requires then { (slot_at self.old.slots.items place).is_open ≡ true → IsWithin ENTRY_LIMIT (slot_at self.old.slots.items place).clock_at }
-        requires fits { (who : Option (Items ℕ)) → sum_of self.old.sums who < 2 ^ 63 }
-        requires room { (slot_at self.old.slots.items place).is_open ≡ true → 0 < self.old.sums.users.spare }
-        requires few { length self.old.sums.users.entries < 2 ^ 32 }
+        requires fits { (who : Option (Items ℕ)) → sum_of self.old.ended.sums who < 2 ^ 63 }
+        requires few { length self.old.ended.sums.users.entries < 2 ^ 32 }
+        requires have { HaveUsers self.old.ended }
+        requires room { (slot_at self.old.slots.items place).is_open ≡ true → HasRoom 1 self.old.ended }
         ensures slots { self.new.slots.items ≡ set self.old.slots.items place (closed (slot_at self.old.slots.items place)) }
-        ensures sums { (who : Option (Items ℕ)) → sum_of self.new.sums who ≡ sum_of self.old.sums who + weight_at (seconds_at who self.old.clock time) (slot_at self.old.slots.items place) }
-        ensures small { (who : Option (Items ℕ)) → sum_of self.new.sums who ≤ sum_of self.old.sums who + 4294967295 * weight_at one (slot_at self.old.slots.items place) }
-        ensures users { length self.new.sums.users.entries ≤ length self.old.sums.users.entries + weight_at one (slot_at self.old.slots.items place) }
-        ensures room_left { self.old.sums.users.spare ≤ self.new.sums.users.spare + weight_at one (slot_at self.old.slots.items place) }
-        ensures rest { self.new ≡ record self.old { slots = self.new.slots; sums = self.new.sums } }
+        ensures sums { (asked : Asked) → measured self.new.ended asked ≡ measured self.old.ended asked + weight_at (weighed self.old.ended.keeps_sessions asked self.old.clock time) (slot_at self.old.slots.items place) }
+        ensures grown { HasGrown (weight_at one (slot_at self.old.slots.items place)) self.old.ended self.new.ended }
+        ensures rest { self.new ≡ record self.old { slots = self.new.slots; ended = self.new.ended } }
         ensures capacity { vec_capacity self.new.slots ≡ vec_capacity self.old.slots }
     {
         let slot = &self.slots[place];
         if slot.is_open {
-            let seconds = slot.seconds(self.clock, time);
-            let user = self.sums.enter(slot.user);
-            self.sums.add(user, seconds);
+            let begin = slot.begin(self.clock);
+            self.ended.add(slot.user, begin, time);
             self.slots[place].is_open = false;
         }
     }
@@ -92,10 +91,11 @@ impl Running {
         requires few { self.old.count < ENTRY_LIMIT }
         requires room { HasPlaces 1 self.old }
         ensures opens { (weight : Open → ℕ) → weight_in weight self.new.slots.items ≡ weight_in (off_line line weight) self.old.slots.items + weight (record { line = line; user = user; start = time; clock_at = self.old.clock }) }
-        ensures sums { (who : Option (Items ℕ)) → sum_of self.new.sums who ≡ sum_of self.old.sums who + weight_in (on_line line (seconds_at who self.old.clock time)) self.old.slots.items }
+        ensures sums { (asked : Asked) → measured self.new.ended asked ≡ measured self.old.ended asked + weight_in (on_line line (weighed self.old.ended.keeps_sessions asked self.old.clock time)) self.old.slots.items }
+        ensures keeps { self.new.ended.keeps_sessions ≡ self.old.ended.keeps_sessions }
         ensures running { IsRunning (self.old.count + 1) self.new }
         ensures room_left { (k : ℕ) → HasPlaces (k + 1) self.old → HasPlaces k self.new }
-        ensures rest { self.new ≡ record self.old { lines = self.new.lines; slots = self.new.slots; listed = self.new.listed; sums = self.new.sums } }
+        ensures rest { self.new ≡ record self.old { lines = self.new.lines; slots = self.new.slots; listed = self.new.listed; ended = self.new.ended } }
     {
         match self.lines.find(&line) {
             Some(place) => {
@@ -113,10 +113,11 @@ impl Running {
         requires few { self.old.count < ENTRY_LIMIT }
         requires room { HasPlaces 1 self.old }
         ensures opens { (weight : Open → ℕ) → weight_in weight self.new.slots.items ≡ weight_in (off_line line weight) self.old.slots.items }
-        ensures sums { (who : Option (Items ℕ)) → sum_of self.new.sums who ≡ sum_of self.old.sums who + weight_in (on_line line (seconds_at who self.old.clock time)) self.old.slots.items }
+        ensures sums { (asked : Asked) → measured self.new.ended asked ≡ measured self.old.ended asked + weight_in (on_line line (weighed self.old.ended.keeps_sessions asked self.old.clock time)) self.old.slots.items }
+        ensures keeps { self.new.ended.keeps_sessions ≡ self.old.ended.keeps_sessions }
         ensures running { IsRunning self.old.count self.new }
         ensures room_left { (k : ℕ) → HasPlaces k self.old → HasPlaces k self.new }
-        ensures rest { self.new ≡ record self.old { lines = self.new.lines; slots = self.new.slots; sums = self.new.sums } }
+        ensures rest { self.new ≡ record self.old { lines = self.new.lines; slots = self.new.slots; ended = self.new.ended } }
     {
         if let Some(place) = self.lines.find(&line) {
             self.end(place, time);
@@ -128,15 +129,14 @@ impl Running {
         requires place { place < vec_len self.old.slots }
         requires now { IsWithin ENTRY_LIMIT self.old.clock }
         requires then { (slot_at self.old.slots.items place).is_open ≡ true → IsWithin ENTRY_LIMIT (slot_at self.old.slots.items place).clock_at }
-        requires fits { (who : Option (Items ℕ)) → sum_of self.old.sums who < 2 ^ 63 }
-        requires room { (slot_at self.old.slots.items place).is_open ≡ true → 0 < self.old.sums.users.spare }
-        requires few { length self.old.sums.users.entries < 2 ^ 32 }
+        requires fits { (who : Option (Items ℕ)) → sum_of self.old.ended.sums who < 2 ^ 63 }
+        requires few { length self.old.ended.sums.users.entries < 2 ^ 32 }
+        requires have { HaveUsers self.old.ended }
+        requires room { (slot_at self.old.slots.items place).is_open ≡ true → HasRoom 1 self.old.ended }
         ensures slots { self.new.slots.items ≡ set self.old.slots.items place (unlisted (slot_at self.old.slots.items place)) }
-        ensures sums { (who : Option (Items ℕ)) → sum_of self.new.sums who ≡ sum_of self.old.sums who + weight_at (seconds_at who self.old.clock time) (slot_at self.old.slots.items place) }
-        ensures small { (who : Option (Items ℕ)) → sum_of self.new.sums who ≤ sum_of self.old.sums who + 4294967295 * weight_at one (slot_at self.old.slots.items place) }
-        ensures users { length self.new.sums.users.entries ≤ length self.old.sums.users.entries + weight_at one (slot_at self.old.slots.items place) }
-        ensures room_left { self.old.sums.users.spare ≤ self.new.sums.users.spare + weight_at one (slot_at self.old.slots.items place) }
-        ensures rest { self.new ≡ record self.old { slots = self.new.slots; sums = self.new.sums } }
+        ensures sums { (asked : Asked) → measured self.new.ended asked ≡ measured self.old.ended asked + weight_at (weighed self.old.ended.keeps_sessions asked self.old.clock time) (slot_at self.old.slots.items place) }
+        ensures grown { HasGrown (weight_at one (slot_at self.old.slots.items place)) self.old.ended self.new.ended }
+        ensures rest { self.new ≡ record self.old { slots = self.new.slots; ended = self.new.ended } }
         ensures capacity { vec_capacity self.new.slots ≡ vec_capacity self.old.slots }
     {
         self.end(place, time);
@@ -150,10 +150,11 @@ impl Running {
         requires few { self.old.count < ENTRY_LIMIT }
         requires room { HasPlaces 1 self.old }
         ensures opens { (weight : Open → ℕ) → weight_in weight self.new.slots.items ≡ 0 }
-        ensures sums { (who : Option (Items ℕ)) → sum_of self.new.sums who ≡ sum_of self.old.sums who + weight_in (seconds_at who self.old.clock time) self.old.slots.items }
+        ensures sums { (asked : Asked) → measured self.new.ended asked ≡ measured self.old.ended asked + weight_in (weighed self.old.ended.keeps_sessions asked self.old.clock time) self.old.slots.items }
+        ensures keeps { self.new.ended.keeps_sessions ≡ self.old.ended.keeps_sessions }
         ensures running { IsRunning self.old.count self.new }
         ensures room_left { (k : ℕ) → HasPlaces k self.old → HasPlaces k self.new }
-        ensures rest { self.new ≡ record self.old { slots = self.new.slots; listed = self.new.listed; sums = self.new.sums } }
+        ensures rest { self.new ≡ record self.old { slots = self.new.slots; listed = self.new.listed; ended = self.new.ended } }
     {
         for i in 0..self.listed.len() {
             let place = self.listed[i] as usize;

@@ -6,21 +6,22 @@ ghost use Rattle.tally_records.specs.Event.{event_of};
 ghost use Rattle.tally_records.specs.declared.login.LoginRecord.{LoginRecord};
 ghost use Rattle.tally_sessions.specs.Clock.{shift_at};
 ghost use Rattle.tally_sessions.specs.ConnectSums.{CountsMore, IsAbout, IsCountOf};
-ghost use Rattle.tally_sessions.specs.Opens.{Open, seconds_at};
+ghost use Rattle.tally_sessions.specs.Opens.{Open};
 ghost use Rattle.tally_sessions.specs.Stays.{stays_from};
+ghost use Rattle.tally_sessions.specs.inside.Ended.{Asked, measured};
 ghost use Rattle.tally_sessions.specs.inside.Running.{HasPlaces, IsRunning, counted_in};
 ghost use Rattle.tally_sessions.specs.inside.Slots.{weight_in};
 ghost use Rattle.tally_sessions.specs.inside.Steps.{IsStep, leaving, opening, staying};
 ghost use Rattle.tally_sessions.specs.inside.Sums.{sum_at};
 ghost use Rattle.tally_sessions.specs.inside.Totals.{seconds_of};
-ghost use Rattle.tally_sessions.specs.inside.Track.{IsWithin, sum_of};
+ghost use Rattle.tally_sessions.specs.inside.Track.{IsWithin};
 ghost use Rattle.tally_sessions.specs.inside.Tracking.{pending_at};
 
 use crate::connect::name_key::NameKey;
+use crate::connect_sums::ended::Ended;
 use crate::connect_sums::slot::Slot;
 use crate::sessions::ENTRY_LIMIT;
 use crate::sums::add_for;
-use crate::track::ended::EndedSums;
 use crate::track::name_table::NameTable;
 use crate::track::rules::{pending_after, shift_of};
 use std::alloc::Global;
@@ -36,7 +37,7 @@ pub(crate) struct Running {
     pub(crate) slots: Vec<Slot>,
     /// The places of the lines whose sessions may be open, each once.
     pub(crate) listed: Vec<u32>,
-    pub(crate) sums: EndedSums,
+    pub(crate) ended: Ended,
     pub(crate) count: usize,
     pub(crate) clock: i64,
     /// The old time that waits for its new one.
@@ -68,10 +69,11 @@ impl Running {
         requires few { self.old.count < ENTRY_LIMIT }
         requires room { HasPlaces 1 self.old }
         ensures opens { (x : LoginRecord) → slice_get records.now at ≡ Some x → (weight : Open → ℕ) → weight_in weight self.new.slots.items ≡ weight_in (staying x weight) self.old.slots.items + opening x self.old.clock weight }
-        ensures sums { (x : LoginRecord) → slice_get records.now at ≡ Some x → (who : Option (Items ℕ)) → sum_of self.new.sums who ≡ sum_of self.old.sums who + weight_in (leaving who self.old.clock x) self.old.slots.items }
+        ensures sums { (x : LoginRecord) → slice_get records.now at ≡ Some x → (asked : Asked) → measured self.new.ended asked ≡ measured self.old.ended asked + weight_in (leaving self.old.ended.keeps_sessions asked self.old.clock x) self.old.slots.items }
+        ensures keeps { self.new.ended.keeps_sessions ≡ self.old.ended.keeps_sessions }
         ensures running { IsRunning (self.old.count + 1) self.new }
         ensures room_left { (k : ℕ) → HasPlaces (k + 1) self.old → HasPlaces k self.new }
-        ensures rest { self.new ≡ record self.old { lines = self.new.lines; slots = self.new.slots; listed = self.new.listed; sums = self.new.sums } }
+        ensures rest { self.new ≡ record self.old { lines = self.new.lines; slots = self.new.slots; listed = self.new.listed; ended = self.new.ended } }
     {
         match event {
             Event::Login => {
@@ -96,6 +98,7 @@ impl Running {
         ensures running { IsRunning self.new.count self.new }
         ensures moved { IsWithin self.new.count self.new.clock }
         ensures count { self.new.count ≡ self.old.count + 1 }
+        ensures keeps { self.new.ended.keeps_sessions ≡ self.old.ended.keeps_sessions }
         ensures room_left { (k : ℕ) → HasPlaces (k + 1) self.old → HasPlaces k self.new }
     {
         let event = records.event(at).unwrap();
@@ -115,6 +118,7 @@ impl Running {
         ensures running { IsRunning self.new.count self.new }
         ensures moved { IsWithin self.new.count self.new.clock }
         ensures count { self.new.count ≡ self.old.count + length records.now }
+        ensures keeps { self.new.ended.keeps_sessions ≡ self.old.ended.keeps_sessions }
     {
         for at in 0..records.len() {
             self.advance(records, at);
@@ -132,21 +136,22 @@ impl Running {
         self.lines.reserve(count)?;
         self.slots.reserve(count)?;
         self.listed.reserve(count)?;
-        self.sums.reserve(self.slots.len() + count)?;
+        self.ended.reserve(self.slots.len() + count)?;
         Ok(())
     }
 
-    /// No record is counted yet. The tables of names are hashed by the keys.
-    pub(crate) fn new(alloc: Global, keys: RandomState) -> Running
+    /// No record is counted yet. The tables of names are hashed by the keys. Sessions that end are kept, or only summed.
+    pub(crate) fn new(alloc: Global, keys: RandomState, keeps_sessions: bool) -> Running
         ensures running { IsRunning 0 result }
         ensures moved { IsWithin 0 result.clock }
         ensures counted { IsCountOf (counted_in result) [] }
+        ensures keeps { result.ended.keeps_sessions ≡ keeps_sessions }
     {
         Running {
             lines: NameTable::new(alloc, keys),
             slots: Vec::new(alloc),
             listed: Vec::new(alloc),
-            sums: EndedSums::new(alloc, keys),
+            ended: Ended::new(alloc, keys, keeps_sessions),
             count: 0,
             clock: 0,
             old_time: None,
@@ -163,7 +168,7 @@ impl Running {
         ensures each { result ≤ (2 ^ 32 - 1) * self.now.count }
     {
         let time = until.unwrap_or(self.last);
-        let mut seconds = self.sums.of(who);
+        let mut seconds = self.ended.sums.of(who);
         for k in 0..self.slots.len() {
             seconds += self.slots[k].seconds_of(who, self.clock, time);
         }
@@ -185,7 +190,7 @@ impl Running {
         ensures small { OnOk result ((user : Items ℕ) → sum_at (slice_cmp nat_cmp) sums.new.entries user ≤ sum_at (slice_cmp nat_cmp) sums.old.entries user + (2 ^ 32 - 1) * self.now.count) }
     {
         let time = until.unwrap_or(self.last);
-        self.sums.add_to(sums)?;
+        self.ended.sums.add_to(sums)?;
         for k in 0..self.slots.len() {
             let slot = &self.slots[k];
             let seconds = slot.seconds_of(&None, self.clock, time);

@@ -1,6 +1,7 @@
 //! The latest session on a line.
-ghost use Rattle.std.specs.Prelude.{◌≡◌, ◌≤◌, ◌-◌, ◌*◌, ◌≤ℤ◌, ◌-ℤ◌, ◌^◌, neg_ℤ, pos, true};
+ghost use Rattle.std.specs.Prelude.{◌≡◌, ◌≤◌, ◌-◌, ◌*◌, ◌≤ℤ◌, ◌+ℤ◌, ◌-ℤ◌, ◌^◌, neg_ℤ, pos, true};
 ghost use Rattle.tally_sessions.specs.Opens.{seconds_at};
+ghost use Rattle.tally_sessions.specs.Stays.{clamped};
 ghost use Rattle.tally_sessions.specs.inside.Slots.{length_of, one, weight_at};
 ghost use Rattle.tally_sessions.specs.inside.Track.{IsWithin};
 
@@ -24,14 +25,22 @@ pub(crate) struct Slot {
 }
 
 impl Slot {
+    /// When the session began, by the clock that has moved so far.
+    pub(crate) fn begin(&self, clock: i64) -> i32
+        requires low { neg_ℤ (pos (2 ^ 62)) ≤ℤ (clock -ℤ self.now.clock_at) }
+        requires high { (clock -ℤ self.now.clock_at) ≤ℤ pos (2 ^ 62) }
+        ensures { result ≡ clamped (self.now.start +ℤ (clock -ℤ self.now.clock_at)) }
+    {
+        begin_of(self.start, clock - self.clock_at)
+    }
+
     /// The seconds of the session up to a time, when the clock has moved so far.
-    pub(crate) fn seconds(&self, clock: i64, time: i32) -> u32
+    fn seconds(&self, clock: i64, time: i32) -> u32
         requires low { neg_ℤ (pos (2 ^ 62)) ≤ℤ (clock -ℤ self.now.clock_at) }
         requires high { (clock -ℤ self.now.clock_at) ≤ℤ pos (2 ^ 62) }
         ensures { result ≡ length_of clock time self.now }
     {
-        let begin = begin_of(self.start, clock - self.clock_at);
-        seconds_between(begin, time) as u32
+        seconds_between(self.begin(clock), time) as u32
     }
 
     /// The same where the session is open and one of all users, or of this one, or else 0.

@@ -74,7 +74,7 @@ returns c = record {
       let last_fits : FitsSigned w32 old.last = search rules in
       let time = to_z-of_z w32 c.unwrap_or-time.result fits ∙ c.unwrap_or-time.ensures ∙ ap (unwrap_or c.args.until) (to_z-of_z w32 old.last last_fits) in
       let all = take_all c.loop-k.k old.slots.items (omega (arith, c.loop-k-test.false, c.len-k-end.ensures, old.slots.ok.0)) in
-      let left = c.loop-k.invariant.value who ∙ (λ i. (sum_at (slice_cmp nat_cmp) c.args.sums.now.entries who + sum_of old.sums (Some who)) + weight_in (seconds_at (Some who) old.clock (time i)) (all i)) in
+      let left = c.loop-k.invariant.value who ∙ (λ i. (sum_at (slice_cmp nat_cmp) c.args.sums.now.entries who + sum_of old.ended.sums (Some who)) + weight_in (seconds_at (Some who) old.clock (time i)) (all i)) in
       omega (arith, left, running-seconds old rs (Some who) c.args.until h);
   small = λ who.
       let slots = c.args.self.now.slots in

@@ -5,10 +5,9 @@ use Rattle.std.proofs.lemmas.List.{get_or_default, get_or-set_same, get_or-set_o
 use Rattle.std.specs.Int.{w32}
 use Rattle.tally_sessions.specs.declared.connect_sums.running.Running.{Running}
 use Rattle.tally_sessions.specs.declared.connect_sums.slot.Slot.{Slot}
-use Rattle.tally_sessions.specs.Opens.{seconds_at}
+use Rattle.tally_sessions.specs.inside.Ended.{measured, weighed}
 use Rattle.tally_sessions.specs.inside.Running.{AreKept}
 use Rattle.tally_sessions.specs.inside.Slots.{no_slot, one, slot_at, unlisted, weight_at, weight_in}
-use Rattle.tally_sessions.specs.inside.Track.{sum_of}
 use Rattle.tally_sessions.proofs.connect_sums.KeptLemmas.{kept-unlisted}
 use Rattle.tally_sessions.proofs.connect_sums.SlotLemmas.{weight-none, weight-unlisted}
 use Rattle.tally_sessions.proofs.connect_sums.running.Running.end_all.Goals as goal
@@ -29,9 +28,9 @@ loop-i-preserved c =
     let within : k < length ss = subst (λ p. p < length ss) (sym place) (kept.listed_are i here) in
     let slots = c.end_listed.ensures.slots in
     let clock : now.clock ≡ old.clock = ap (λ (r : Running). r.clock) c.loop-i.invariant.rest in
-    let next = kept-unlisted old.count old.lines ss old.listed.items now.sums new.sums k kept within c.end_listed.ensures.small c.end_listed.ensures.users in
+    let next = kept-unlisted old.count old.lines ss old.listed.items now.ended new.ended k kept within c.end_listed.ensures.grown in
     let count = length-set ss k (unlisted (slot_at ss k)) in record {
-      kept = subst (λ (ts : List Slot). AreKept old.count old.lines ts old.listed.items new.sums) (sym slots) next;
+      kept = subst (λ (ts : List Slot). AreKept old.count old.lines ts old.listed.items new.ended) (sym slots) next;
       done = λ j lt.
           let p = get_or old.listed.items j 0 in
           ap (λ (ts : List Slot). (slot_at ts p).is_listed) slots
@@ -44,15 +43,18 @@ loop-i-preserved c =
                   | inr before ↦ c.loop-i.invariant.done j (omega (arith, lt))
                 ]
           ];
-      left = λ who.
-          let w = ap (λ (ts : List Slot). weight_in (seconds_at who old.clock time) ts) slots in
-          let gone = weight-unlisted (seconds_at who old.clock time) ss k within in
-          let sums = c.end_listed.ensures.sums who ∙ ap (λ (z : ℤ). sum_of now.sums who + weight_at (seconds_at who z time) (slot_at ss k)) clock in
-          omega (arith, w, gone, sums, c.loop-i.invariant.left who);
-      room = omega (arith, c.loop-i.invariant.room, c.end_listed.ensures.room_left, weight-unlisted one ss k within, ap (λ (ts : List Slot). weight_in one ts) slots);
+      left = λ asked.
+          let w = ap (λ (ts : List Slot). weight_in (weighed old.ended.keeps_sessions asked old.clock time) ts) slots in
+          let gone = weight-unlisted (weighed old.ended.keeps_sessions asked old.clock time) ss k within in
+          let sums = c.end_listed.ensures.sums asked ∙ (λ d. measured now.ended asked + weight_at (weighed (c.loop-i.invariant.keeps d) asked (clock d) time) (slot_at ss k)) in
+          omega (arith, w, gone, sums, c.loop-i.invariant.left asked);
+      spare = omega (arith, c.loop-i.invariant.spare, c.end_listed.ensures.grown.spare, weight-unlisted one ss k within, ap (λ (ts : List Slot). weight_in one ts) slots);
+      sessions = omega (arith, c.loop-i.invariant.sessions, c.end_listed.ensures.grown.sessions, weight-unlisted one ss k within, ap (λ (ts : List Slot). weight_in one ts) slots);
+      room = c.end_listed.ensures.grown.capacity ∙ c.loop-i.invariant.room;
+      keeps = c.end_listed.ensures.grown.keeps ∙ c.loop-i.invariant.keeps;
       count = omega (arith, c.loop-i.invariant.count, count, ap length slots, new.slots.ok.0, now.slots.ok.0);
       capacity = c.end_listed.ensures.capacity ∙ c.loop-i.invariant.capacity;
-      rest = c.end_listed.ensures.rest ∙ (λ d. record (c.loop-i.invariant.rest d) { slots = new.slots; sums = new.sums });
+      rest = c.end_listed.ensures.rest ∙ (λ d. record (c.loop-i.invariant.rest d) { slots = new.slots; ended = new.ended });
     }
 
 pub returns-clause-opens : goal.returns-clause-opens
@@ -69,9 +71,9 @@ returns-clause-opens c weight =
         absurd (false≢true (sym none ∙ ap (λ p. (slot_at c.loop-i.self.slots.items p).is_listed) there.2 ∙ slot.pending e))
 
 pub returns-clause-sums : goal.returns-clause-sums
-returns-clause-sums c who =
-    let none = returns-clause-opens c (seconds_at who c.args.self.now.clock c.args.time) in
+returns-clause-sums c asked =
+    let none = returns-clause-opens c (weighed c.args.self.now.ended.keeps_sessions asked c.args.self.now.clock c.args.time) in
     let time = to_z-of_z w32 c.args.time c.ranges.time in
-    let left = c.loop-i.invariant.left who ∙ (λ i. sum_of c.args.self.now.sums who + weight_in (seconds_at who c.args.self.now.clock (time i)) c.args.self.now.slots.items) in
-    let gone = ap (λ z. weight_in (seconds_at who c.args.self.now.clock z) c.loop-i.self.slots.items) time in
+    let left = c.loop-i.invariant.left asked ∙ (λ i. measured c.args.self.now.ended asked + weight_in (weighed c.args.self.now.ended.keeps_sessions asked c.args.self.now.clock (time i)) c.args.self.now.slots.items) in
+    let gone = ap (λ z. weight_in (weighed c.args.self.now.ended.keeps_sessions asked c.args.self.now.clock z) c.loop-i.self.slots.items) time in
     omega (arith, none, left, gone)

@@ -25,6 +25,7 @@ loop-at-preserved c =
       running = c.advance.ensures.running;
       moved = c.advance.ensures.moved;
       count = omega (arith, c.advance.ensures.count, c.loop-at.invariant.count);
+      keeps = c.advance.ensures.keeps ∙ c.loop-at.invariant.keeps;
       counted = λ rs h.
           subst (IsCountOf (counted_in c.advance.new.self)) (append_assoc rs (take at all) (x ∷ []) ∙ ap (λ ys. rs ++ ys) (sym (take_more all at none within)))
           (IsCountOf-step (counted_in c.loop-at.self) (counted_in c.advance.new.self) (rs ++ take at all) x (c.advance.ensures.step x here) (c.loop-at.invariant.counted rs h));

@@ -9,6 +9,7 @@ invariant-loop-at l = record {
   running : IsRunning l.self.count l.self;
   moved : IsWithin l.self.count l.self.clock;
   count : l.self.count ≡ l.fn.self.count + l.at;
+  keeps : l.self.ended.keeps_sessions ≡ l.fn.self.ended.keeps_sessions;
   counted : CountsMore (counted_in l.fn.self) (counted_in l.self) (take l.at l.records);
   room : (k : ℕ) → l.at + k ≡ length l.records → HasPlaces k l.self;
 }

@@ -36,5 +36,5 @@ returns-clause-value c rs h =
     let time = to_z-of_z w32 c.unwrap_or-time.result fits ∙ c.unwrap_or-time.ensures ∙ ap (unwrap_or c.args.until) (to_z-of_z w32 old.last last_fits) in
     let all = take_all c.loop-k.k old.slots.items (omega (arith, c.loop-k-test.false, c.len-k-end.ensures, old.slots.ok.0)) in
     c.loop-k.invariant.value
-    ∙ (λ i. sum_of old.sums c.args.who.now + weight_in (seconds_at c.args.who.now old.clock (time i)) (all i))
+    ∙ (λ i. sum_of old.ended.sums c.args.who.now + weight_in (seconds_at c.args.who.now old.clock (time i)) (all i))
     ∙ running-seconds old rs c.args.who.now c.args.until h

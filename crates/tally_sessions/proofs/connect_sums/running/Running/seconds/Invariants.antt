@@ -6,6 +6,6 @@ use Rattle.tally_sessions.proofs.connect_sums.running.Running.seconds.Given as g
 
 abbrev pub invariant-loop-k : goal.invariant-loop-k
 invariant-loop-k l = record {
-  value : l.seconds ≡ sum_of l.fn.self.sums l.fn.who + weight_in (seconds_at l.fn.who l.fn.self.clock l.time) (take l.k l.fn.self.slots.items);
-  small : l.seconds ≤ sum_of l.fn.self.sums l.fn.who + 4294967295 * open_count (take l.k l.fn.self.slots.items);
+  value : l.seconds ≡ sum_of l.fn.self.ended.sums l.fn.who + weight_in (seconds_at l.fn.who l.fn.self.clock l.time) (take l.k l.fn.self.slots.items);
+  small : l.seconds ≤ sum_of l.fn.self.ended.sums l.fn.who + 4294967295 * open_count (take l.k l.fn.self.slots.items);
 }

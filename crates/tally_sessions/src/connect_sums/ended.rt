@@ -1,0 +1,80 @@
+//! The sessions of a host that have ended: their seconds, and where reports by day are wanted the sessions too.
+ghost use Rattle.std.specs.Prelude.{◌≡◌, ◌<◌, ◌+◌, ◌^◌, [], ℕ, List as Items, Option, OnOk, length};
+ghost use Rattle.tally_sessions.specs.inside.Ended.{Asked, HasGrown, HasRoom, HaveUsers, gives, measured};
+ghost use Rattle.tally_sessions.specs.inside.Track.{sum_of};
+
+use crate::track::ended::EndedSums;
+use crate::track::rules::seconds_between;
+use std::alloc::Global;
+use std::hash::RandomState;
+use tally_records::{Key, Memory};
+
+/// A session that has ended: where its user stands in the table of users, and its times.
+#[derive(Clone, Copy)]
+pub(crate) struct EndedSession {
+    pub(crate) user: u32,
+    pub(crate) begin: i32,
+    pub(crate) end_time: i32,
+}
+
+/// What is kept of the sessions that have ended.
+#[derive(Drop)]
+pub(crate) struct Ended {
+    /// The sums of their lengths.
+    pub(crate) sums: EndedSums,
+    /// Whether they are kept themselves.
+    pub(crate) keeps_sessions: bool,
+    pub(crate) sessions: Vec<EndedSession>,
+}
+
+impl Ended {
+    /// No session has ended.
+    pub(crate) fn new(alloc: Global, keys: RandomState, keeps_sessions: bool) -> Ended
+        ensures sums { (who : Option (Items ℕ)) → sum_of result.sums who ≡ 0 }
+        ensures users { length result.sums.users.entries ≡ 0 }
+        ensures sessions { result.sessions.items ≡ [] }
+        ensures keeps { result.keeps_sessions ≡ keeps_sessions }
+    {
+        Ended {
+            sums: EndedSums::new(alloc, keys),
+            keeps_sessions,
+            sessions: Vec::new(alloc),
+        }
+    }
+
+    /// Makes room for so many sessions more. Nothing that is kept changes.
+    pub(crate) fn reserve(&mut self, count: usize) -> Result<(), Memory>
+        ensures all { self.new.sums.all ≡ self.old.sums.all }
+        ensures users { self.new.sums.users.entries ≡ self.old.sums.users.entries }
+        ensures sessions { self.new.sessions.items ≡ self.old.sessions.items }
+        ensures keeps { self.new.keeps_sessions ≡ self.old.keeps_sessions }
+        ensures room { OnOk result (HasRoom count self.new) }
+    {
+        self.sums.reserve(count)?;
+        if self.keeps_sessions {
+            self.sessions.reserve(count)?;
+        }
+        Ok(())
+    }
+
+    /// Adds a session of a user, in the room that there is for it.
+    pub(crate) fn add(&mut self, user: Key, begin: i32, end_time: i32)
+        requires fits { (who : Option (Items ℕ)) → sum_of self.old.sums who < 2 ^ 63 }
+        requires few { length self.old.sums.users.entries < 2 ^ 32 }
+        requires have { HaveUsers self.old }
+        requires room { HasRoom 1 self.old }
+        ensures sums { (asked : Asked) → measured self.new asked ≡ measured self.old asked + gives self.old.keeps_sessions asked (record { user = user; begin = begin; end_time = end_time }) }
+        ensures grown { HasGrown 1 self.old self.new }
+    {
+        let seconds = seconds_between(begin, end_time) as u32;
+        let place = self.sums.enter(user);
+        self.sums.add(place, seconds);
+        if self.keeps_sessions {
+            self.sessions.push_reserved(EndedSession {
+                user: place,
+                begin,
+                end_time,
+            });
+        }
+    }
+}
