@@ -1,4 +1,5 @@
 -- What no public contract cites.
+pub mod Alike
 pub mod Changes
 pub mod Chosen
 pub mod Counts
