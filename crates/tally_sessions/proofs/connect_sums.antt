@@ -6,3 +6,4 @@ pub mod KeptLemmas
 pub mod SessionLemmas
 pub mod SlotLemmas
 pub mod TotalLemmas
+pub mod WalkLemmas

@@ -7,6 +7,7 @@ pub mod Ended
 pub mod Endings
 pub mod Entries
 pub mod Kept
+pub mod KeptSessions
 pub mod NamedUsers
 pub mod Names
 pub mod Numbers

@@ -1,24 +1,30 @@
 //! Connect time of login records, which are counted and let go: of one host, and of several.
-ghost use Rattle.std.specs.Prelude.{◌≡◌, ◌≤◌, ◌<◌, ◌+◌, ◌-◌, ◌*◌, ◌^◌, ◌↔◌, [], ℕ, List as Items, IfOk, IsTrue, OnErr, OnOk, false, true};
+ghost use Rattle.std.specs.Prelude.{◌≡◌, ◌≤◌, ◌<◌, ◌+◌, ◌-◌, ◌*◌, ◌^◌, ◌↔◌, [], ℕ, List as Items, IfOk, IsTrue, OnErr, OnOk, false, length, true};
 ghost use Rattle.std.specs.Cmp.Lexicographic.{slice_cmp};
 ghost use Rattle.std.specs.Ordering.{nat_cmp};
 ghost use Rattle.tally_records.specs.Choice.{every_login};
+ghost use Rattle.tally_records.specs.declared.login.LoginRecord.{LoginRecord};
 ghost use Rattle.tally_records.specs.Records.{IsLogins, logins_in, record_count};
 ghost use Rattle.tally_sessions.specs.ConnectSums.{CountsMore, IsAbout, IsCountOf};
 ghost use Rattle.tally_sessions.specs.Rows.{user_times};
 ghost use Rattle.tally_sessions.specs.Stays.{stays_from};
 ghost use Rattle.tally_sessions.specs.Sums.{sessions_among};
 ghost use Rattle.tally_sessions.specs.Totals.{session_seconds, user_seconds};
+ghost use Rattle.tally_sessions.specs.inside.Alike.{AreAlike};
+ghost use Rattle.tally_sessions.specs.inside.KeptSessions.{sessions_ahead};
 ghost use Rattle.tally_sessions.specs.inside.Sums.{sum_at};
 
 mod ended;
 pub(crate) mod hosts;
+mod kept_sessions;
+mod kept_walk;
 mod lines;
 mod running;
 mod slot;
 
 use crate::connect::name_key::NameKey;
 use crate::connect::user_rows;
+use crate::connect_sums::kept_sessions::KeptSessions;
 use crate::connect_sums::running::Running;
 use crate::sessions::ENTRY_LIMIT;
 use crate::times::UserTime;
@@ -118,6 +124,14 @@ impl ConnectSums {
         ensures each { result ≤ (2 ^ 32 - 1) * self.now.count }
     {
         self.running.seconds(&Some(Key::of(user)), until)
+    }
+
+    /// The sessions, where they are kept: those that have ended, and then those that are open, counted as in the total.
+    fn sessions(&self, until: Option<i32>) -> KeptSessions<'_>
+        ensures value { self.now.keeps_sessions ≡ true → (rs : Items LoginRecord) → IsCountOf self.now rs → AreAlike (sessions_ahead result) (sessions_among every_login (stays_from 0 [] rs until)) }
+        ensures few { length (sessions_ahead result) ≤ self.now.count }
+    {
+        self.running.sessions(until)
     }
 
     /// Adds the seconds of each user's sessions to its sum, counted as in the total.

@@ -127,5 +127,5 @@ seconds_are c rs who until h =
 pub running-seconds : (r : Running) (rs : List LoginRecord) (who : Option (List ℕ)) (until : Option ℤ) → IsCountOf (counted_in r) rs
     → kept_sum r.ended.sums who + weight_in (seconds_at who r.clock (unwrap_or until r.last)) r.slots.items ≡ seconds_of who (stays_from 0 [] rs until)
 running-seconds r rs who until h =
-    (λ i. sym (sum-seen (counted_in r) r.ended.sums who refl refl) i + sym (weight-opens (seconds_at who r.clock (unwrap_or until r.last)) r.slots.items) i)
+    (λ i. sym (sum-seen (counted_in r) r.ended (Seconds who) refl refl refl refl) i + sym (weight-opens (seconds_at who r.clock (unwrap_or until r.last)) r.slots.items) i)
     ∙ seconds_are (counted_in r) rs who until h

@@ -1,0 +1,20 @@
+//! The sessions of a count that keeps them, to go over.
+ghost use Rattle.tally_sessions.specs.declared.sessions.TheConstants.{ENTRY_LIMIT};
+ghost use Rattle.tally_sessions.specs.inside.Ended.{HaveUsers};
+ghost use Rattle.tally_sessions.specs.inside.Running.{AreNear};
+ghost use Rattle.tally_sessions.specs.inside.Track.{IsWithin};
+
+use crate::connect_sums::running::Running;
+use crate::sessions::ENTRY_LIMIT;
+
+/// A place among the sessions of a count: those that have ended, and then those that are open, up to a time.
+pub(crate) struct KeptSessions<'a> {
+    pub(crate) running: &'a Running,
+    pub(crate) time: i32,
+    /// How many of those that have ended are passed, and how many lines.
+    pub(crate) ended: usize,
+    pub(crate) slot: usize,
+    pub(crate) ghost users: { HaveUsers running.now.ended },
+    pub(crate) ghost now: { IsWithin ENTRY_LIMIT running.now.clock },
+    pub(crate) ghost near: { AreNear running.now.slots.items },
+}
