@@ -11,14 +11,15 @@ ghost use Rattle.tally_sessions.specs.Totals.{connect_of, total_of};
 
 mod chosen_sums;
 mod cut;
-mod day_sums;
+pub(crate) mod day_sums;
 mod day_table;
 mod day_table_rows;
-mod day_table_size;
-mod day_table_sums;
-mod day_user_rows;
+pub(crate) mod day_table_size;
+pub(crate) mod day_table_sums;
+pub(crate) mod day_user_rows;
 pub(crate) mod keys;
 pub(crate) mod name_key;
+pub(crate) mod source;
 mod span;
 mod user_sums;
 pub(crate) mod walk;
@@ -59,7 +60,7 @@ pub(crate) fn user_rows(
 }
 
 /// The rows of the days whose sum is above 0.
-fn day_rows(alloc: Global, sums: &BTreeMap<i32, u64>) -> Result<Vec<DayTime>, AllocError>
+pub(crate) fn day_rows(alloc: Global, sums: &BTreeMap<i32, u64>) -> Result<Vec<DayTime>, AllocError>
     ensures rows { IfOk result (λ rows. rows.items ≡ map day_time_of (filter above_zero sums.now.entries)) }
     ensures ordered { IsOrdered int_cmp sums.now }
 {
@@ -152,7 +153,8 @@ impl Sessions {
         ensures value { IfOk result (λ rows. rows ≡ day_times (local clock.now offset) (sessions_of choice.now self.now.entries until)) }
         ensures days { IfOk result (All (λ row. IsDay row.day)) }
     {
-        let sums = self.day_sums(alloc, clock, offset, choice, until)?;
+        let mut walk = self.walk(choice, until);
+        let sums = day_sums::day_sums(alloc, clock, offset, &mut walk)?;
         List::from_vec(alloc, day_rows(alloc, &sums)?)
     }
 

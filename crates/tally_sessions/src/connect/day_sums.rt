@@ -7,19 +7,18 @@ ghost use Rattle.tally_sessions.specs.inside.Counts.{change_since, size_of, stan
 ghost use Rattle.tally_sessions.specs.inside.Spans.{span_change};
 ghost use Rattle.tally_sessions.specs.Days as days;
 ghost use Rattle.tally_sessions.specs.Days.{local};
-ghost use Rattle.tally_sessions.specs.Sums.{seconds_of_day, sessions_of};
+ghost use Rattle.tally_sessions.specs.Sums.{seconds_of_day};
 ghost use Rattle.tally_sessions.specs.inside.Sums.{sum_at};
 
-use crate::chosen::has_names;
 use crate::connect::cut::{Cut, row_span};
+use crate::connect::source::SessionSource;
 use crate::connect::span::{Span, day_of};
-use crate::connect::walk::Place;
-use crate::sessions::{ENTRY_LIMIT, Sessions};
+use crate::sessions::ENTRY_LIMIT;
 use crate::sums::{Session, add};
 use std::alloc::Global;
 use std::collections::BTreeMap;
 use tally_clock::Clock;
-use tally_records::{LoginChoice, Memory};
+use tally_records::Memory;
 
 /// The first day that a time can have.
 const FIRST_DAY: i32 = -24_858;
@@ -125,57 +124,49 @@ fn add_rows(table: &mut [i64], counts: &[i64], clock: &Clock, offset: i32)
     }
 }
 
-impl Sessions {
-    /// The changes of the seconds of the chosen sessions from day to day.
-    fn day_changes(
-        &self,
-        alloc: Global,
-        clock: &Clock,
-        offset: i32,
-        choice: &LoginChoice,
-        until: Option<i32>,
-    ) -> Result<Vec<i64>, Memory>
-        requires { days.IsOffset offset }
-        ensures all_days { IfOk result (λ table. vec_len table ≡ DAY_COUNT) }
-        ensures few { IfOk result (λ _. length (sessions_of choice.now self.now.entries until) ≤ ENTRY_LIMIT) }
-        ensures value { IfOk result (λ table. (place : ℕ) → place < DAY_COUNT → changes.change_at table.items place
-            ≡ changes.change_of_day (local clock.now offset) (changes.day_at place) (sessions_of choice.now self.now.entries until)) }
-        ensures days { IfOk result (λ _. (day : ℤ) → 0 < seconds_of_day (local clock.now offset) day (sessions_of choice.now self.now.entries until) → days.IsDay day) }
-    {
-        let mut table = vec![in alloc; 0; DAY_COUNT]?;
-        let mut counts = vec![in alloc; 0; clock.rows().len()]?;
-        let entries = self.entries();
-        let named = has_names(choice);
-        let mut at = Place::first();
-        while let Some(session) = self.next_session(entries, &mut at, choice, named, until) {
-            add_session(&mut table, &mut counts, clock, offset, &session);
-        }
-        add_rows(&mut table, &counts, clock, offset);
-        Ok(table)
+/// The changes of the seconds of a source's sessions from day to day.
+fn day_changes<S: SessionSource>(
+    alloc: Global,
+    clock: &Clock,
+    offset: i32,
+    source: &mut S,
+) -> Result<Vec<i64>, Memory>
+    requires offset_in { days.IsOffset offset }
+    requires few { length (S.ahead source.old) ≤ ENTRY_LIMIT }
+    ensures all_days { IfOk result (λ table. vec_len table ≡ DAY_COUNT) }
+    ensures value { IfOk result (λ table. (place : ℕ) → place < DAY_COUNT → changes.change_at table.items place
+        ≡ changes.change_of_day (local clock.now offset) (changes.day_at place) (S.ahead source.old)) }
+    ensures days { IfOk result (λ _. (day : ℤ) → 0 < seconds_of_day (local clock.now offset) day (S.ahead source.old) → days.IsDay day) }
+{
+    let mut table = vec![in alloc; 0; DAY_COUNT]?;
+    let mut counts = vec![in alloc; 0; clock.rows().len()]?;
+    while let Some(session) = source.next_session() {
+        add_session(&mut table, &mut counts, clock, offset, &session);
     }
+    add_rows(&mut table, &counts, clock, offset);
+    Ok(table)
+}
 
-    /// The seconds of the chosen sessions on each day.
-    pub(crate) fn day_sums(
-        &self,
-        alloc: Global,
-        clock: &Clock,
-        offset: i32,
-        choice: &LoginChoice,
-        until: Option<i32>,
-    ) -> Result<BTreeMap<i32, u64>, Memory>
-        requires { days.IsOffset offset }
-        ensures value { IfOk result (λ sums. (day : ℤ) → sum_at int_cmp sums.entries day ≡ seconds_of_day (local clock.now offset) day (sessions_of choice.now self.now.entries until)) }
-        ensures days { IfOk result (λ sums. (day : ℤ) → 0 < sum_at int_cmp sums.entries day → days.IsDay day) }
-    {
-        let table = self.day_changes(alloc, clock, offset, choice, until)?;
-        let mut sums = BTreeMap::new(alloc);
-        let mut seconds = 0;
-        for (place, change) in table.iter().enumerate() {
-            seconds += *change;
-            if seconds > 0 {
-                add(&mut sums, day_at(place), seconds as u64)?;
-            }
+/// The seconds of a source's sessions on each day.
+pub(crate) fn day_sums<S: SessionSource>(
+    alloc: Global,
+    clock: &Clock,
+    offset: i32,
+    source: &mut S,
+) -> Result<BTreeMap<i32, u64>, Memory>
+    requires offset_in { days.IsOffset offset }
+    requires few { length (S.ahead source.old) ≤ ENTRY_LIMIT }
+    ensures value { IfOk result (λ sums. (day : ℤ) → sum_at int_cmp sums.entries day ≡ seconds_of_day (local clock.now offset) day (S.ahead source.old)) }
+    ensures days { IfOk result (λ sums. (day : ℤ) → 0 < sum_at int_cmp sums.entries day → days.IsDay day) }
+{
+    let table = day_changes(alloc, clock, offset, source)?;
+    let mut sums = BTreeMap::new(alloc);
+    let mut seconds = 0;
+    for (place, change) in table.iter().enumerate() {
+        seconds += *change;
+        if seconds > 0 {
+            add(&mut sums, day_at(place), seconds as u64)?;
         }
-        Ok(sums)
     }
+    Ok(sums)
 }

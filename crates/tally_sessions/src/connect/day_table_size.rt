@@ -100,7 +100,7 @@ fn end_day(time: i32) -> i32
 
 impl Extent {
     /// The times of no stays.
-    fn none() -> Extent {
+    pub(crate) fn none() -> Extent {
         Extent {
             begin: i32::MAX,
             end_time: i32::MIN,
@@ -111,7 +111,7 @@ impl Extent {
     }
 
     /// These times with one more stay.
-    fn with(self, clock: &Clock, begin: i32, end_time: i32) -> Extent {
+    pub(crate) fn with(self, clock: &Clock, begin: i32, end_time: i32) -> Extent {
         let days = days_over(begin, end_time);
         let is_long = days > DAYS_OF_A_LONG_STAY;
         Extent {
@@ -124,7 +124,7 @@ impl Extent {
     }
 
     /// These times within a period.
-    fn within(self, period: &Period) -> Extent {
+    pub(crate) fn within(self, period: &Period) -> Extent {
         Extent {
             begin: begin_in(period, self.begin),
             end_time: end_time_in(period, self.end_time),

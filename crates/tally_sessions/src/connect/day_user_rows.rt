@@ -8,22 +8,21 @@ ghost use Rattle.tally_sessions.specs.inside.Spans.{span_change};
 ghost use Rattle.tally_sessions.specs.Days as days;
 ghost use Rattle.tally_sessions.specs.Days.{local};
 ghost use Rattle.tally_sessions.specs.Rows.{day_user_times};
-ghost use Rattle.tally_sessions.specs.Sums.{seconds_of_day_user, sessions_of};
+ghost use Rattle.tally_sessions.specs.Sums.{seconds_of_day_user};
 ghost use Rattle.tally_sessions.specs.declared.connect.keys.DayUser.{DayUser as Key};
 
-use crate::chosen::has_names;
 use crate::connect::cut::{Cut, row_span};
 use crate::connect::keys::{DayUser, RowUser, add_change};
 use crate::connect::name_key::NameKey;
+use crate::connect::source::SessionSource;
 use crate::connect::span::{Span, day_of};
-use crate::connect::walk::Place;
-use crate::sessions::{ENTRY_LIMIT, Sessions};
+use crate::sessions::ENTRY_LIMIT;
 use crate::sums::Session;
 use crate::times::DayUserTime;
 use std::alloc::Global;
 use std::collections::BTreeMap;
 use tally_clock::Clock;
-use tally_records::{LoginChoice, Memory};
+use tally_records::Memory;
 
 /// Adds the changes of a span's seconds from day to day, so many times, to those of a user. They are
 /// on its first two days, its last and the next.
@@ -161,61 +160,53 @@ fn add_rows(
     Ok(())
 }
 
-impl Sessions {
-    /// The changes of the seconds of the chosen sessions from day to day, for each user.
-    fn user_changes(
-        &self,
-        alloc: Global,
-        clock: &Clock,
-        offset: i32,
-        choice: &LoginChoice,
-        until: Option<i32>,
-    ) -> Result<BTreeMap<DayUser, i64>, Memory>
-        requires { days.IsOffset offset }
-        ensures few { IfOk result (λ _. length (sessions_of choice.now self.now.entries until) ≤ ENTRY_LIMIT) }
-        ensures value { IfOk result (λ changes. (k : Key) → day_change changes.entries k ≡ change_of_day_user (local clock.now offset) k (sessions_of choice.now self.now.entries until)) }
-        ensures days { IfOk result (λ _. (k : Key) → 0 < seconds_of_day_user (local clock.now offset) k.day k.user (sessions_of choice.now self.now.entries until) → days.IsDay k.day) }
-    {
-        let mut changes = BTreeMap::new(alloc);
-        let mut counts = BTreeMap::new(alloc);
-        let entries = self.entries();
-        let named = has_names(choice);
-        let mut at = Place::first();
-        while let Some(session) = self.next_session(entries, &mut at, choice, named, until) {
-            add_session(&mut changes, &mut counts, clock, offset, &session)?;
-        }
-        add_rows(&mut changes, &mut counts, clock, offset)?;
-        Ok(changes)
+/// The changes of the seconds of a source's sessions from day to day, for each user.
+fn user_changes<S: SessionSource>(
+    alloc: Global,
+    clock: &Clock,
+    offset: i32,
+    source: &mut S,
+) -> Result<BTreeMap<DayUser, i64>, Memory>
+    requires offset_in { days.IsOffset offset }
+    requires few { length (S.ahead source.old) ≤ ENTRY_LIMIT }
+    ensures value { IfOk result (λ changes. (k : Key) → day_change changes.entries k ≡ change_of_day_user (local clock.now offset) k (S.ahead source.old)) }
+    ensures days { IfOk result (λ _. (k : Key) → 0 < seconds_of_day_user (local clock.now offset) k.day k.user (S.ahead source.old) → days.IsDay k.day) }
+{
+    let mut changes = BTreeMap::new(alloc);
+    let mut counts = BTreeMap::new(alloc);
+    while let Some(session) = source.next_session() {
+        add_session(&mut changes, &mut counts, clock, offset, &session)?;
     }
+    add_rows(&mut changes, &mut counts, clock, offset)?;
+    Ok(changes)
+}
 
-    /// The rows of the users on days that have any time, by day and then by name bytes. The least key
-    /// leaves the changes with all that its user has on the day, and the next day begins with as much.
-    pub(crate) fn day_user_rows(
-        &self,
-        alloc: Global,
-        clock: &Clock,
-        offset: i32,
-        choice: &LoginChoice,
-        until: Option<i32>,
-    ) -> Result<Vec<DayUserTime>, Memory>
-        requires { days.IsOffset offset }
-        ensures rows { IfOk result (λ rows. rows.items ≡ day_user_times (local clock.now offset) (sessions_of choice.now self.now.entries until)) }
-        ensures days { IfOk result (λ rows. All (λ row. days.IsDay row.day) rows.items) }
-    {
-        let mut changes = self.user_changes(alloc, clock, offset, choice, until)?;
-        let mut rows = Vec::new(alloc);
-        while let Some((at, seconds)) = changes.pop_first() {
-            let day = at.day;
-            let user = at.user;
-            if seconds > 0 {
-                rows.push(DayUserTime {
-                    day,
-                    user: user.name(),
-                    seconds: seconds as u64,
-                })?;
-                add_change(&mut changes, DayUser { day: day + 1, user }, seconds)?;
-            }
+/// The rows of the users on days that have any time, by day and then by name bytes. The least key
+/// leaves the changes with all that its user has on the day, and the next day begins with as much.
+pub(crate) fn day_user_rows<S: SessionSource>(
+    alloc: Global,
+    clock: &Clock,
+    offset: i32,
+    source: &mut S,
+) -> Result<Vec<DayUserTime>, Memory>
+    requires offset_in { days.IsOffset offset }
+    requires few { length (S.ahead source.old) ≤ ENTRY_LIMIT }
+    ensures rows { IfOk result (λ rows. rows.items ≡ day_user_times (local clock.now offset) (S.ahead source.old)) }
+    ensures days { IfOk result (λ rows. All (λ row. days.IsDay row.day) rows.items) }
+{
+    let mut changes = user_changes(alloc, clock, offset, source)?;
+    let mut rows = Vec::new(alloc);
+    while let Some((at, seconds)) = changes.pop_first() {
+        let day = at.day;
+        let user = at.user;
+        if seconds > 0 {
+            rows.push(DayUserTime {
+                day,
+                user: user.name(),
+                seconds: seconds as u64,
+            })?;
+            add_change(&mut changes, DayUser { day: day + 1, user }, seconds)?;
         }
-        Ok(rows)
     }
+    Ok(rows)
 }

@@ -5,14 +5,14 @@ use Rattle.std.specs.Prelude.{int_lt, unsigned_abs}
 use Rattle.tally_sessions.specs.declared.sums.Session.{Session}
 use Rattle.tally_sessions.specs.inside.Changes.{change_at, change_of_day, day_at}
 use Rattle.tally_sessions.specs.Days.{IsDay, IsOffset, local}
-use Rattle.tally_sessions.specs.Sums.{seconds_of_day, sessions_of}
+use Rattle.tally_sessions.specs.Sums.{seconds_of_day}
 use Rattle.tally_sessions.specs.inside.Sums.{sum_at}
 use Rattle.tally_sessions.proofs.connect.DayChanges.{none_earlier, none_later, seconds_of_day-le}
 use Rattle.tally_sessions.proofs.days.SpanLemmas.{above}
 use Rattle.tally_sessions.proofs.days.ClockDays.{IsNear, near_local}
 use Rattle.tally_sessions.proofs.connect.Walked.{IsWalked, walk_end, walk_start, walk_step}
-use Rattle.tally_sessions.proofs.sessions.Sessions.day_sums.Goals as goal
-use Rattle.tally_sessions.proofs.sessions.Sessions.day_sums.Goals.{then-seconds-gt0+in_ok-add, else-seconds-gt0}
+use Rattle.tally_sessions.proofs.connect.day_sums.day_sums.Goals as goal
+use Rattle.tally_sessions.proofs.connect.day_sums.day_sums.Goals.{then-seconds-gt0+in_ok-add, else-seconds-gt0}
 
 abbrev held : ℤ → ℤ
 held z = to_z w32 (of_z w32 z)
@@ -59,8 +59,8 @@ amount_is : (z : ℤ) (n : ℕ) → z ≡ pos n → unsigned_abs z ≡ n
 amount_is z n is = ap unsigned_abs is
 
 pub loop-place-init : goal.loop-place-init
-loop-place-init c =
-    let ss = sessions_of c.args.choice.now c.args.self.now.entries c.args.until in
+loop-place-init g c =
+    let ss = g.S.SessionSource.ahead c.args.source.now in
     let clock = local c.args.clock.now (held c.args.offset) in
     let days : (d : ℤ) → 0 < seconds_of_day clock d ss → IsDay d = c.in_ok-table.ensures.days in record {
       seconds = ap pos (sym (none_earlier clock (day_at 0 -ℤ pos 1) ss days (omega (arith, ints))));
@@ -69,33 +69,33 @@ loop-place-init c =
     }
 
 pub overflow_add-seconds : goal.overflow_add-seconds
-overflow_add-seconds c =
-    let ss = sessions_of c.args.choice.now c.args.self.now.entries c.args.until in
+overflow_add-seconds g c =
+    let ss = g.S.SessionSource.ahead c.args.source.now in
     let clock = local c.args.clock.now (held c.args.offset) in
     let place = c.loop-place.place in
     let within : place < 49717 = omega (arith, c.loop-place-test.true, c.deref-change-items.ensures.len, c.in_ok-table.ensures.all_days) in
-    (sum_here clock place ss _ _ _ (near_local c.args.clock.now (held c.args.offset) (subst IsOffset (sym (to_z-of_z w32 c.args.offset c.ranges.offset)) c.requires)) c.in_ok-table.ensures.few c.loop-place.invariant.seconds c.deref-change-items.ensures.value (c.in_ok-table.ensures.value place within)).0
+    (sum_here clock place ss _ _ _ (near_local c.args.clock.now (held c.args.offset) (subst IsOffset (sym (to_z-of_z w32 c.args.offset c.ranges.offset)) c.requires.offset_in)) c.requires.few c.loop-place.invariant.seconds c.deref-change-items.ensures.value (c.in_ok-table.ensures.value place within)).0
 
 pub add-requires : goal.add-requires
-add-requires c =
-    let ss = sessions_of c.args.choice.now c.args.self.now.entries c.args.until in
+add-requires g c =
+    let ss = g.S.SessionSource.ahead c.args.source.now in
     let clock = local c.args.clock.now (held c.args.offset) in
     let place = c.loop-place.place in
     let within : place < 49717 = omega (arith, c.loop-place-test.true, c.deref-change-items.ensures.len, c.in_ok-table.ensures.all_days) in
-    let few = few_seconds clock (day_at place) ss (near_local c.args.clock.now (held c.args.offset) (subst IsOffset (sym (to_z-of_z w32 c.args.offset c.ranges.offset)) c.requires)) c.in_ok-table.ensures.few in
-    let seconds = (sum_here clock place ss _ _ _ (near_local c.args.clock.now (held c.args.offset) (subst IsOffset (sym (to_z-of_z w32 c.args.offset c.ranges.offset)) c.requires)) c.in_ok-table.ensures.few c.loop-place.invariant.seconds c.deref-change-items.ensures.value (c.in_ok-table.ensures.value place within)).1 in
+    let few = few_seconds clock (day_at place) ss (near_local c.args.clock.now (held c.args.offset) (subst IsOffset (sym (to_z-of_z w32 c.args.offset c.ranges.offset)) c.requires.offset_in)) c.requires.few in
+    let seconds = (sum_here clock place ss _ _ _ (near_local c.args.clock.now (held c.args.offset) (subst IsOffset (sym (to_z-of_z w32 c.args.offset c.ranges.offset)) c.requires.offset_in)) c.requires.few c.loop-place.invariant.seconds c.deref-change-items.ensures.value (c.in_ok-table.ensures.value place within)).1 in
     let day : held c.day_at.result ≡ day_at place = to_z-of_z w32 c.day_at.result (search rules) ∙ c.day_at.ensures in
     let none : sum_at int_cmp c.loop-place.sums.entries (held c.day_at.result) ≡ 0 = ap (sum_at int_cmp c.loop-place.sums.entries) day ∙ c.loop-place.invariant.walked.rest (day_at place) (omega (arith, ints)) in
     let amount = amount_is _ _ seconds in
     omega (arith, none, amount, few)
 
 pub loop-place-preserved : goal.loop-place-preserved
-loop-place-preserved c =
-    let ss = sessions_of c.args.choice.now c.args.self.now.entries c.args.until in
+loop-place-preserved g c =
+    let ss = g.S.SessionSource.ahead c.args.source.now in
     let clock = local c.args.clock.now (held c.args.offset) in
     let place = c.loop-place.place in
     let within : place < 49717 = omega (arith, c.loop-place-test.true, c.deref-change-items.ensures.len, c.in_ok-table.ensures.all_days) in
-    let seconds = (sum_here clock place ss _ _ _ (near_local c.args.clock.now (held c.args.offset) (subst IsOffset (sym (to_z-of_z w32 c.args.offset c.ranges.offset)) c.requires)) c.in_ok-table.ensures.few c.loop-place.invariant.seconds c.deref-change-items.ensures.value (c.in_ok-table.ensures.value place within)).1 in
+    let seconds = (sum_here clock place ss _ _ _ (near_local c.args.clock.now (held c.args.offset) (subst IsOffset (sym (to_z-of_z w32 c.args.offset c.ranges.offset)) c.requires.offset_in)) c.requires.few c.loop-place.invariant.seconds c.deref-change-items.ensures.value (c.in_ok-table.ensures.value place within)).1 in
     let amount : ℤ → ℕ = λ (d : ℤ). seconds_of_day clock d ss in
     let now : ℤ → ℕ = sum_at int_cmp c.loop-place.sums.entries in
     let next : ℤ → ℕ = sum_at int_cmp c.if-seconds-gt0.sums.entries in
@@ -115,8 +115,8 @@ loop-place-preserved c =
     }
 
 pub returns-clause-value : goal.returns-clause-value
-returns-clause-value c day =
-    let ss = sessions_of c.args.choice.now c.args.self.now.entries c.args.until in
+returns-clause-value g c day =
+    let ss = g.S.SessionSource.ahead c.args.source.now in
     let clock = local c.args.clock.now (held c.args.offset) in
     let place = c.loop-place.place in
     let offset_is : held c.args.offset ≡ c.args.offset = to_z-of_z w32 c.args.offset (search rules) in
@@ -128,7 +128,7 @@ returns-clause-value c day =
     value ∙ ap (λ (z : ℤ). seconds_of_day (local c.args.clock.now z) day ss) offset_is
 
 pub returns-clause-days : goal.returns-clause-days
-returns-clause-days c day lt =
-    let ss = sessions_of c.args.choice.now c.args.self.now.entries c.args.until in
+returns-clause-days g c day lt =
+    let ss = g.S.SessionSource.ahead c.args.source.now in
     let offset_is : held c.args.offset ≡ c.args.offset = to_z-of_z w32 c.args.offset (search rules) in
-    c.in_ok-table.ensures.days day (subst (λ n. 0 < n) (returns-clause-value c day ∙ ap (λ (z : ℤ). seconds_of_day (local c.args.clock.now z) day ss) (sym offset_is)) lt)
+    c.in_ok-table.ensures.days day (subst (λ n. 0 < n) (returns-clause-value g c day ∙ ap (λ (z : ℤ). seconds_of_day (local c.args.clock.now z) day ss) (sym offset_is)) lt)

@@ -7,7 +7,7 @@ use Rattle.tally_sessions.specs.declared.times.DayUserTime.{DayUserTime}
 use Rattle.tally_sessions.specs.inside.Changes.{day_change, days_from}
 use Rattle.tally_sessions.specs.Rows.{day_user_times}
 use Rattle.tally_sessions.specs.Days.{IsDay, IsOffset, local}
-use Rattle.tally_sessions.specs.Sums.{seconds_of_day_user, sessions_of}
+use Rattle.tally_sessions.specs.Sums.{seconds_of_day_user}
 use Rattle.tally_sessions.proofs.connect.DaySpread.{spread_end}
 use Rattle.tally_sessions.proofs.days.SpanLemmas.{above}
 use Rattle.tally_sessions.proofs.connect.DayUsers.{day_user_rows_are, day_user_rows_days}
@@ -15,7 +15,7 @@ use Rattle.tally_sessions.proofs.connect.RowOrder.{given_by, rows_of_sums, sums_
 use Rattle.tally_sessions.proofs.connect.RowSteps.{ahead_less, change_is_all, IsPopped, IsWalk, popped_high, popped_low, walk_on, walk_past, walk_start}
 use Rattle.tally_sessions.proofs.days.ClockDays.{IsNear, near_local}
 use Rattle.tally_sessions.proofs.connect.UserChanges.{seconds_of_day_user-le}
-use Rattle.tally_sessions.proofs.sessions.Sessions.day_user_rows.Goals as goal
+use Rattle.tally_sessions.proofs.connect.day_user_rows.day_user_rows.Goals as goal
 
 abbrev held : ℤ → ℤ
 held z = to_z w32 (of_z w32 z)
@@ -24,7 +24,7 @@ abbrev kept : ℤ → ℤ
 kept z = to_z w64 (of_z w64 z)
 
 pub loop-at-init : goal.loop-at-init
-loop-at-init c = walk_start _ _ _ c.new-rows.ensures.items c.in_ok-changes.ensures.value
+loop-at-init g c = walk_start _ _ _ c.new-rows.ensures.items c.in_ok-changes.ensures.value
 
 abbrev all_of : (ℤ → ℤ) → List Session → DayUser → ℕ
 all_of clock ss k = seconds_of_day_user clock k.day k.user ss
@@ -59,31 +59,31 @@ day_fits : (d : ℤ) → IsDay d → FitsSigned w32 (held d +ℤ pos 1)
 day_fits d is = let low = is.low in let high = is.high in omega (arith, ints)
 
 pub overflow_add-day : goal.overflow_add-day
-overflow_add-day c =
+overflow_add-day g c =
     let clock = local c.args.clock.now (held c.args.offset) in
-    let near = near_local c.args.clock.now (held c.args.offset) (subst IsOffset (sym (to_z-of_z w32 c.args.offset c.ranges.offset)) c.requires) in
-    let ss = sessions_of c.args.choice.now c.args.self.now.entries c.args.until in
+    let near = near_local c.args.clock.now (held c.args.offset) (subst IsOffset (sym (to_z-of_z w32 c.args.offset c.ranges.offset)) c.requires.offset_in) in
+    let ss = g.S.SessionSource.ahead c.args.source.now in
     let out : IsPopped c.loop-at.changes.entries c.pop_first.new.self.entries c.in-Some.at c.in-Some.seconds = record { value = c.in-Some.ensures.value; least = c.in-Some.ensures.least; updates = c.in-Some.ensures.updates.0 } in
-    let first = first_is clock ss c.loop-at.rows.items _ _ c.in-Some.at c.in-Some.seconds near c.in_ok-changes.ensures.few c.in_ok-changes.ensures.days c.loop-at.invariant out in
+    let first = first_is clock ss c.loop-at.rows.items _ _ c.in-Some.at c.in-Some.seconds near c.requires.few c.in_ok-changes.ensures.days c.loop-at.invariant out in
     day_fits c.in-Some.at.day (c.in_ok-changes.ensures.days c.in-Some.at (some_if _ (subst (λ z. int_lt (pos 0) z ≡ true) first.kept_amount c.if-seconds-gt0.true)))
 
 pub add_change-requires-clause-low : goal.add_change-requires-clause-low
-add_change-requires-clause-low c =
+add_change-requires-clause-low g c =
     let out : IsPopped c.loop-at.changes.entries c.pop_first.new.self.entries c.in-Some.at c.in-Some.seconds = record { value = c.in-Some.ensures.value; least = c.in-Some.ensures.least; updates = c.in-Some.ensures.updates.0 } in
-    popped_low (all_of (local c.args.clock.now (held c.args.offset)) (sessions_of c.args.choice.now c.args.self.now.entries c.args.until)) c.loop-at.rows.items _ _ c.in-Some.at c.in-Some.seconds c.loop-at.invariant out _ (λ j. seconds_of_day_user-le (local c.args.clock.now (held c.args.offset)) j (sessions_of c.args.choice.now c.args.self.now.entries c.args.until) (near_local c.args.clock.now (held c.args.offset) (subst IsOffset (sym (to_z-of_z w32 c.args.offset c.ranges.offset)) c.requires)) c.in_ok-changes.ensures.few)
+    popped_low (all_of (local c.args.clock.now (held c.args.offset)) (g.S.SessionSource.ahead c.args.source.now)) c.loop-at.rows.items _ _ c.in-Some.at c.in-Some.seconds c.loop-at.invariant out _ (λ j. seconds_of_day_user-le (local c.args.clock.now (held c.args.offset)) j (g.S.SessionSource.ahead c.args.source.now) (near_local c.args.clock.now (held c.args.offset) (subst IsOffset (sym (to_z-of_z w32 c.args.offset c.ranges.offset)) c.requires.offset_in)) c.requires.few)
 
 pub add_change-requires-clause-high : goal.add_change-requires-clause-high
-add_change-requires-clause-high c =
+add_change-requires-clause-high g c =
     let out : IsPopped c.loop-at.changes.entries c.pop_first.new.self.entries c.in-Some.at c.in-Some.seconds = record { value = c.in-Some.ensures.value; least = c.in-Some.ensures.least; updates = c.in-Some.ensures.updates.0 } in
-    popped_high (all_of (local c.args.clock.now (held c.args.offset)) (sessions_of c.args.choice.now c.args.self.now.entries c.args.until)) c.loop-at.rows.items _ _ c.in-Some.at c.in-Some.seconds c.loop-at.invariant out _ (λ j. seconds_of_day_user-le (local c.args.clock.now (held c.args.offset)) j (sessions_of c.args.choice.now c.args.self.now.entries c.args.until) (near_local c.args.clock.now (held c.args.offset) (subst IsOffset (sym (to_z-of_z w32 c.args.offset c.ranges.offset)) c.requires)) c.in_ok-changes.ensures.few)
+    popped_high (all_of (local c.args.clock.now (held c.args.offset)) (g.S.SessionSource.ahead c.args.source.now)) c.loop-at.rows.items _ _ c.in-Some.at c.in-Some.seconds c.loop-at.invariant out _ (λ j. seconds_of_day_user-le (local c.args.clock.now (held c.args.offset)) j (g.S.SessionSource.ahead c.args.source.now) (near_local c.args.clock.now (held c.args.offset) (subst IsOffset (sym (to_z-of_z w32 c.args.offset c.ranges.offset)) c.requires.offset_in)) c.requires.few)
 
 small : (z : ℤ) (n : ℕ) → z ≡ pos n → n ≤ 2 ^ 44 → z ≤ℤ pos (2 ^ 61)
 small z n is few = omega (arith, ints)
 
 pub add_change-requires-clause-more_high : goal.add_change-requires-clause-more_high
-add_change-requires-clause-more_high c =
+add_change-requires-clause-more_high g c =
     let out : IsPopped c.loop-at.changes.entries c.pop_first.new.self.entries c.in-Some.at c.in-Some.seconds = record { value = c.in-Some.ensures.value; least = c.in-Some.ensures.least; updates = c.in-Some.ensures.updates.0 } in
-    let first = first_is (local c.args.clock.now (held c.args.offset)) (sessions_of c.args.choice.now c.args.self.now.entries c.args.until) c.loop-at.rows.items _ _ c.in-Some.at c.in-Some.seconds (near_local c.args.clock.now (held c.args.offset) (subst IsOffset (sym (to_z-of_z w32 c.args.offset c.ranges.offset)) c.requires)) c.in_ok-changes.ensures.few c.in_ok-changes.ensures.days c.loop-at.invariant out in
+    let first = first_is (local c.args.clock.now (held c.args.offset)) (g.S.SessionSource.ahead c.args.source.now) c.loop-at.rows.items _ _ c.in-Some.at c.in-Some.seconds (near_local c.args.clock.now (held c.args.offset) (subst IsOffset (sym (to_z-of_z w32 c.args.offset c.ranges.offset)) c.requires.offset_in)) c.requires.few c.in_ok-changes.ensures.days c.loop-at.invariant out in
     small _ _ first.kept_amount first.few
 
 next_day : (d : ℤ) → IsDay d → held (held d +ℤ pos 1) ≡ d +ℤ pos 1
@@ -93,23 +93,23 @@ same_day : (d : ℤ) → IsDay d → held d ≡ d
 same_day d is = let low = is.low in let high = is.high in omega (arith, ints)
 
 pub loop-at-smaller-in-Continue-branch-3 : goal.loop-at-smaller-in-Continue-branch-3
-loop-at-smaller-in-Continue-branch-3 c =
+loop-at-smaller-in-Continue-branch-3 g c =
     let clock = local c.args.clock.now (held c.args.offset) in
-    let near = near_local c.args.clock.now (held c.args.offset) (subst IsOffset (sym (to_z-of_z w32 c.args.offset c.ranges.offset)) c.requires) in
-    let ss = sessions_of c.args.choice.now c.args.self.now.entries c.args.until in
+    let near = near_local c.args.clock.now (held c.args.offset) (subst IsOffset (sym (to_z-of_z w32 c.args.offset c.ranges.offset)) c.requires.offset_in) in
+    let ss = g.S.SessionSource.ahead c.args.source.now in
     let out : IsPopped c.loop-at.changes.entries c.pop_first.new.self.entries c.in-Some.at c.in-Some.seconds = record { value = c.in-Some.ensures.value; least = c.in-Some.ensures.least; updates = c.in-Some.ensures.updates.0 } in
-    let first = first_is clock ss c.loop-at.rows.items _ _ c.in-Some.at c.in-Some.seconds near c.in_ok-changes.ensures.few c.in_ok-changes.ensures.days c.loop-at.invariant out in
+    let first = first_is clock ss c.loop-at.rows.items _ _ c.in-Some.at c.in-Some.seconds near c.requires.few c.in_ok-changes.ensures.days c.loop-at.invariant out in
     let day = c.in_ok-changes.ensures.days c.in-Some.at (some_if _ (subst (λ z. int_lt (pos 0) z ≡ true) first.kept_amount c.if-seconds-gt0.true)) in
     ahead_less c.loop-at.changes.entries c.pop_first.new.self.entries c.add_change.new.changes.entries c.in-Some.at c.in-Some.seconds _ c.in-Some.ensures.removal day.high (next_day c.in-Some.at.day day) (c.in_ok-add_change.ensures.ahead (λ (k : DayUser). days_from k.day))
 
 pub loop-at-preserved-in-Continue-branch-3 : goal.loop-at-preserved-in-Continue-branch-3
-loop-at-preserved-in-Continue-branch-3 c =
+loop-at-preserved-in-Continue-branch-3 g c =
     let clock = local c.args.clock.now (held c.args.offset) in
-    let near = near_local c.args.clock.now (held c.args.offset) (subst IsOffset (sym (to_z-of_z w32 c.args.offset c.ranges.offset)) c.requires) in
-    let ss = sessions_of c.args.choice.now c.args.self.now.entries c.args.until in
+    let near = near_local c.args.clock.now (held c.args.offset) (subst IsOffset (sym (to_z-of_z w32 c.args.offset c.ranges.offset)) c.requires.offset_in) in
+    let ss = g.S.SessionSource.ahead c.args.source.now in
     let at = c.in-Some.at in
     let out : IsPopped c.loop-at.changes.entries c.pop_first.new.self.entries c.in-Some.at c.in-Some.seconds = record { value = c.in-Some.ensures.value; least = c.in-Some.ensures.least; updates = c.in-Some.ensures.updates.0 } in
-    let first = first_is clock ss c.loop-at.rows.items _ _ at c.in-Some.seconds near c.in_ok-changes.ensures.few c.in_ok-changes.ensures.days c.loop-at.invariant out in
+    let first = first_is clock ss c.loop-at.rows.items _ _ at c.in-Some.seconds near c.requires.few c.in_ok-changes.ensures.days c.loop-at.invariant out in
     let some = some_if _ (subst (λ z. int_lt (pos 0) z ≡ true) first.kept_amount c.if-seconds-gt0.true) in
     let day = c.in_ok-changes.ensures.days at some in
     let on : ℤ → DayUser = λ d. record { day = d; user = at.user } in
@@ -121,12 +121,12 @@ loop-at-preserved-in-Continue-branch-3 c =
     c.in_ok-add_change.ensures.value c.in_ok-add_change.ensures.others))
 
 pub loop-at-preserved : goal.loop-at-preserved
-loop-at-preserved c =
+loop-at-preserved g c =
     let clock = local c.args.clock.now (held c.args.offset) in
-    let near = near_local c.args.clock.now (held c.args.offset) (subst IsOffset (sym (to_z-of_z w32 c.args.offset c.ranges.offset)) c.requires) in
-    let ss = sessions_of c.args.choice.now c.args.self.now.entries c.args.until in
+    let near = near_local c.args.clock.now (held c.args.offset) (subst IsOffset (sym (to_z-of_z w32 c.args.offset c.ranges.offset)) c.requires.offset_in) in
+    let ss = g.S.SessionSource.ahead c.args.source.now in
     let out : IsPopped c.loop-at.changes.entries c.pop_first.new.self.entries c.in-Some.at c.in-Some.seconds = record { value = c.in-Some.ensures.value; least = c.in-Some.ensures.least; updates = c.in-Some.ensures.updates.0 } in
-    let first = first_is clock ss c.loop-at.rows.items _ _ c.in-Some.at c.in-Some.seconds near c.in_ok-changes.ensures.few c.in_ok-changes.ensures.days c.loop-at.invariant out in
+    let first = first_is clock ss c.loop-at.rows.items _ _ c.in-Some.at c.in-Some.seconds near c.requires.few c.in_ok-changes.ensures.days c.loop-at.invariant out in
     walk_past (all_of clock ss) c.loop-at.rows.items _ _ c.in-Some.at c.in-Some.seconds c.loop-at.invariant out
     (first.amount ∙ ap pos (none_if _ (subst (λ z. int_lt (pos 0) z ≡ false) first.kept_amount c.if-seconds-gt0.false)))
 
@@ -135,10 +135,10 @@ no_entries [] none k = refl
 no_entries (e ∷ es) none k = absurd (let no = none (omega arith) in cc)
 
 pub returns-clause-rows : goal.returns-clause-rows
-returns-clause-rows c =
-    let ss = sessions_of c.args.choice.now c.args.self.now.entries c.args.until in
+returns-clause-rows g c =
+    let ss = g.S.SessionSource.ahead c.args.source.now in
     let clock = local c.args.clock.now (held c.args.offset) in
-    let near = near_local c.args.clock.now (held c.args.offset) (subst IsOffset (sym (to_z-of_z w32 c.args.offset c.ranges.offset)) c.requires) in
+    let near = near_local c.args.clock.now (held c.args.offset) (subst IsOffset (sym (to_z-of_z w32 c.args.offset c.ranges.offset)) c.requires.offset_in) in
     let offset_is : held c.args.offset ≡ c.args.offset = to_z-of_z w32 c.args.offset c.ranges.offset in
     let h = c.loop-at.invariant in
     sym (rows_of_sums c.loop-at.rows.items h.ordered.timed)
@@ -147,10 +147,10 @@ returns-clause-rows c =
     ∙ ap (λ (z : ℤ). day_user_times (local c.args.clock.now z) ss) offset_is
 
 pub returns-clause-days : goal.returns-clause-days
-returns-clause-days c =
+returns-clause-days g c =
     let clock = local c.args.clock.now (held c.args.offset) in
-    let near = near_local c.args.clock.now (held c.args.offset) (subst IsOffset (sym (to_z-of_z w32 c.args.offset c.ranges.offset)) c.requires) in
-    let ss = sessions_of c.args.choice.now c.args.self.now.entries c.args.until in
+    let near = near_local c.args.clock.now (held c.args.offset) (subst IsOffset (sym (to_z-of_z w32 c.args.offset c.ranges.offset)) c.requires.offset_in) in
+    let ss = g.S.SessionSource.ahead c.args.source.now in
     let h = c.loop-at.invariant in
     subst (All (λ (r : DayUserTime). IsDay r.day)) (rows_of_sums c.loop-at.rows.items h.ordered.timed)
     (day_user_rows_days (sums_of c.loop-at.rows.items) h.ordered.up (λ k lt. c.in_ok-changes.ensures.days k

@@ -8,11 +8,9 @@ use Rattle.tally_sessions.specs.declared.connect.keys.DayUser.{DayUser}
 use Rattle.tally_sessions.specs.declared.connect.keys.RowUser.{RowUser}
 use Rattle.tally_sessions.specs.inside.Changes.{AreWithin, change_of_day_user, count_of, day_change, told_of}
 use Rattle.tally_sessions.specs.inside.Sums.{row_user_cmp}
-use Rattle.tally_sessions.specs.Sums.{sessions_of}
 use Rattle.tally_sessions.proofs.connect.UserTable.{user_table-more, user_table-small, user_table-start, user_table-told, user_table-within, HasUsersBut}
 use Rattle.tally_sessions.proofs.days.ClockDays.{near_local}
-use Rattle.tally_sessions.proofs.sums.SessionLists.{few_sessions}
-use Rattle.tally_sessions.proofs.sessions.Sessions.user_changes.Goals as goal
+use Rattle.tally_sessions.proofs.connect.day_user_rows.user_changes.Goals as goal
 
 abbrev held : ℤ → ℤ
 held z = to_z w32 (of_z w32 z)
@@ -28,36 +26,30 @@ none_counted : (es : List (RowUser × ℤ)) → es ≡ [] → (name : List ℕ) 
 none_counted es none name row = ap (λ xs. count_of xs name row) none
 
 pub loop-session-init : goal.loop-session-init
-loop-session-init c =
-    let es = c.args.self.now.entries in
-    let all = sessions_of c.args.choice.now es c.args.until in
+loop-session-init g c =
+    let all = g.S.SessionSource.ahead c.args.source.now in
     let clock = local c.args.clock.now (held c.args.offset) in
     let rows = c.args.clock.now.rows in
     let changes = c.new-changes.result.entries in
     let counts = c.new-counts.result.entries in
-    let few = few_sessions c.args.choice.now c.args.until c.entries-entries.ensures.value c.entries-entries.ensures.few in
-    subst (λ ss. HasUsersBut clock rows all ss changes counts) (sym (c.first-at.ensures c.args.choice.now es c.args.until))
-    (user_table-start clock rows all changes counts few (none_within counts (length rows) c.new-counts.ensures.empty) (none_changed changes c.new-changes.ensures.empty) (none_counted counts c.new-counts.ensures.empty))
+    user_table-start clock rows all changes counts c.requires.few (none_within counts (length rows) c.new-counts.ensures.empty) (none_changed changes c.new-changes.ensures.empty) (none_counted counts c.new-counts.ensures.empty)
 
 pub add_session-requires-clause-low : goal.add_session-requires-clause-low
-add_session-requires-clause-low c k =
-    let near = near_local c.args.clock.now (held c.args.offset) (subst IsOffset (sym (to_z-of_z w32 c.args.offset c.ranges.offset)) c.requires) in
-    let few = few_sessions c.args.choice.now c.args.until c.entries-entries.ensures.value c.entries-entries.ensures.few in
-    (user_table-within _ _ _ _ c.loop-session.changes.entries c.loop-session.counts.entries near few c.loop-session.invariant k).0
+add_session-requires-clause-low g c k =
+    let near = near_local c.args.clock.now (held c.args.offset) (subst IsOffset (sym (to_z-of_z w32 c.args.offset c.ranges.offset)) c.requires.offset_in) in
+    (user_table-within _ _ _ _ c.loop-session.changes.entries c.loop-session.counts.entries near c.requires.few c.loop-session.invariant k).0
 
 pub add_session-requires-clause-high : goal.add_session-requires-clause-high
-add_session-requires-clause-high c k =
-    let near = near_local c.args.clock.now (held c.args.offset) (subst IsOffset (sym (to_z-of_z w32 c.args.offset c.ranges.offset)) c.requires) in
-    let few = few_sessions c.args.choice.now c.args.until c.entries-entries.ensures.value c.entries-entries.ensures.few in
-    (user_table-within _ _ _ _ c.loop-session.changes.entries c.loop-session.counts.entries near few c.loop-session.invariant k).1
+add_session-requires-clause-high g c k =
+    let near = near_local c.args.clock.now (held c.args.offset) (subst IsOffset (sym (to_z-of_z w32 c.args.offset c.ranges.offset)) c.requires.offset_in) in
+    (user_table-within _ _ _ _ c.loop-session.changes.entries c.loop-session.counts.entries near c.requires.few c.loop-session.invariant k).1
 
 pub add_session-requires-clause-small : goal.add_session-requires-clause-small
-add_session-requires-clause-small c = user_table-small _ _ _ _ c.loop-session.changes.entries c.loop-session.counts.entries c.loop-session.invariant
+add_session-requires-clause-small g c = user_table-small _ _ _ _ c.loop-session.changes.entries c.loop-session.counts.entries c.loop-session.invariant
 
 pub loop-session-preserved : goal.loop-session-preserved
-loop-session-preserved c =
-    let es = c.args.self.now.entries in
-    let all = sessions_of c.args.choice.now es c.args.until in
+loop-session-preserved g c =
+    let all = g.S.SessionSource.ahead c.args.source.now in
     let clock = local c.args.clock.now (held c.args.offset) in
     let rows = c.args.clock.now.rows in
     let changes = c.loop-session.changes.entries in
@@ -67,29 +59,24 @@ loop-session-preserved c =
     user_table-more clock rows all _ c.in-Some.session changes c.add_session.new.changes.entries counts c.add_session.new.counts.entries before e.value e.two e.within e.days
 
 pub add_rows-requires-clause-low : goal.add_rows-requires-clause-low
-add_rows-requires-clause-low c k =
-    let near = near_local c.args.clock.now (held c.args.offset) (subst IsOffset (sym (to_z-of_z w32 c.args.offset c.ranges.offset)) c.requires) in
-    let few = few_sessions c.args.choice.now c.args.until c.entries-entries.ensures.value c.entries-entries.ensures.few in
-    (user_table-told _ _ _ _ c.loop-session.changes.entries c.loop-session.counts.entries near few c.loop-session.invariant k).0
+add_rows-requires-clause-low g c k =
+    let near = near_local c.args.clock.now (held c.args.offset) (subst IsOffset (sym (to_z-of_z w32 c.args.offset c.ranges.offset)) c.requires.offset_in) in
+    (user_table-told _ _ _ _ c.loop-session.changes.entries c.loop-session.counts.entries near c.requires.few c.loop-session.invariant k).0
 
 pub add_rows-requires-clause-high : goal.add_rows-requires-clause-high
-add_rows-requires-clause-high c k =
-    let near = near_local c.args.clock.now (held c.args.offset) (subst IsOffset (sym (to_z-of_z w32 c.args.offset c.ranges.offset)) c.requires) in
-    let few = few_sessions c.args.choice.now c.args.until c.entries-entries.ensures.value c.entries-entries.ensures.few in
-    (user_table-told _ _ _ _ c.loop-session.changes.entries c.loop-session.counts.entries near few c.loop-session.invariant k).1
+add_rows-requires-clause-high g c k =
+    let near = near_local c.args.clock.now (held c.args.offset) (subst IsOffset (sym (to_z-of_z w32 c.args.offset c.ranges.offset)) c.requires.offset_in) in
+    (user_table-told _ _ _ _ c.loop-session.changes.entries c.loop-session.counts.entries near c.requires.few c.loop-session.invariant k).1
 
 pub add_rows-requires-clause-small : goal.add_rows-requires-clause-small
-add_rows-requires-clause-small c = user_table-small _ _ _ _ c.loop-session.changes.entries c.loop-session.counts.entries c.loop-session.invariant
-
-pub returns-clause-few : goal.returns-clause-few
-returns-clause-few c = few_sessions c.args.choice.now c.args.until c.entries-entries.ensures.value c.entries-entries.ensures.few
+add_rows-requires-clause-small g c = user_table-small _ _ _ _ c.loop-session.changes.entries c.loop-session.counts.entries c.loop-session.invariant
 
 end_value : (now told all : ℤ) → now ≡ told → told +ℤ pos 0 ≡ all → now ≡ all
 end_value now told all is whole = omega (arith, ints)
 
 pub returns-clause-value : goal.returns-clause-value
-returns-clause-value c k =
-    let all = sessions_of c.args.choice.now c.args.self.now.entries c.args.until in
+returns-clause-value g c k =
+    let all = g.S.SessionSource.ahead c.args.source.now in
     let rows = c.args.clock.now.rows in
     let clock = local c.args.clock.now (held c.args.offset) in
     let changes = c.loop-session.changes.entries in
@@ -99,8 +86,8 @@ returns-clause-value c k =
     ∙ ap (λ (z : ℤ). change_of_day_user (local c.args.clock.now z) k all) (to_z-of_z w32 c.args.offset c.ranges.offset)
 
 pub returns-clause-days : goal.returns-clause-days
-returns-clause-days c =
-    let all = sessions_of c.args.choice.now c.args.self.now.entries c.args.until in
+returns-clause-days g c =
+    let all = g.S.SessionSource.ahead c.args.source.now in
     let rows = c.args.clock.now.rows in
     let end = subst (λ ss. HasUsersBut (local c.args.clock.now (held c.args.offset)) rows all ss c.loop-session.changes.entries c.loop-session.counts.entries) c.in_default.ensures.end c.loop-session.invariant in
     let done = subst (λ z. HasUsersBut (local c.args.clock.now z) rows all [] c.loop-session.changes.entries c.loop-session.counts.entries) (to_z-of_z w32 c.args.offset c.ranges.offset) end in

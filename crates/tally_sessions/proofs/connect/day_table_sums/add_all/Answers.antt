@@ -4,12 +4,10 @@ use Rattle.std.proofs.lemmas.Option.{get_or_from_slice_get, slice_get_within}
 use Rattle.std.specs.Prelude.{bytes_eq}
 use Rattle.tally_sessions.specs.Days.{IsDay, IsOffset, local}
 use Rattle.tally_sessions.specs.inside.Tables.{key_at, HasSeconds}
-use Rattle.tally_sessions.specs.Sums.{sessions_of}
 use Rattle.tally_sessions.proofs.connect.CellTable.{cell-le, HasSecondsBut, one_rank, seconds_end, seconds_more, seconds_start}
 use Rattle.tally_sessions.proofs.connect.UserChanges.{seconds_of_day_user-le}
 use Rattle.tally_sessions.proofs.days.ClockDays.{near_local}
-use Rattle.tally_sessions.proofs.sums.SessionLists.{few_sessions}
-use Rattle.tally_sessions.proofs.sessions.Sessions.add_all.Goals as goal
+use Rattle.tally_sessions.proofs.connect.day_table_sums.add_all.Goals as goal
 
 abbrev held : ℤ → ℤ
 held z = to_z w32 (of_z w32 z)
@@ -18,29 +16,27 @@ held_day : (d : ℤ) → IsDay d → held d ≡ d
 held_day d is = let low = is.low in let high = is.high in omega (arith, ints)
 
 pub loop-session-init : goal.loop-session-init
-loop-session-init c =
-    let all = sessions_of c.args.choice.now c.args.self.now.entries c.args.until in
-    subst (λ ss. HasSecondsBut (local c.args.clock.now (held c.args.offset)) (held c.args.first) c.args.users.now c.args.cells.now all ss) (sym (c.first-at.ensures c.args.choice.now c.args.self.now.entries c.args.until))
-    (seconds_start (local c.args.clock.now (held c.args.offset)) (held c.args.first) c.args.users.now c.args.cells.now all c.requires.empty)
+loop-session-init g c =
+    let all = g.S.SessionSource.ahead c.args.source.now in
+    seconds_start (local c.args.clock.now (held c.args.offset)) (held c.args.first) c.args.users.now c.args.cells.now all c.requires.empty
 
 pub add_session-requires-clause-few : goal.add_session-requires-clause-few
-add_session-requires-clause-few c place =
+add_session-requires-clause-few g c place =
     let users = c.args.users.now in
     let rank = c.in-Some-rank_by.rank in
     let first = held c.args.first in
-    let all = sessions_of c.args.choice.now c.args.self.now.entries c.args.until in
+    let all = g.S.SessionSource.ahead c.args.source.now in
     let clock = local c.args.clock.now (held c.args.offset) in
     let near = near_local c.args.clock.now (held c.args.offset) (subst IsOffset (sym (to_z-of_z w32 c.args.offset c.ranges.offset)) c.requires.offset_in) in
-    let few = few_sessions c.args.choice.now c.args.until c.entries-entries.ensures.value c.entries-entries.ensures.few in
     cell-le clock first users c.loop-session.cells all _ place rank c.loop-session.invariant (slice_get_within users rank _ c.in-Some-rank_by.ensures)
-    (seconds_of_day_user-le clock (key_at first users place rank) all near few)
+    (seconds_of_day_user-le clock (key_at first users place rank) all near c.requires.few)
 
 pub loop-session-preserved : goal.loop-session-preserved
-loop-session-preserved c =
+loop-session-preserved g c =
     let users = c.args.users.now in
     let rank = c.in-Some-rank_by.rank in
     let first = held c.args.first in
-    let all = sessions_of c.args.choice.now c.args.self.now.entries c.args.until in
+    let all = g.S.SessionSource.ahead c.args.source.now in
     let clock = local c.args.clock.now (held c.args.offset) in
     let cells = c.loop-session.cells in
     let s = c.in-Some.session in
@@ -53,8 +49,8 @@ loop-session-preserved c =
     before (e.cells refl) (e.from_first refl) e.days
 
 pub returns : goal.returns
-returns c done =
-    let all = sessions_of c.args.choice.now c.args.self.now.entries c.args.until in
+returns g c done =
+    let all = g.S.SessionSource.ahead c.args.source.now in
     let users = c.args.users.now in
     let cells = c.loop-session.cells in
     let end = subst (λ ss. HasSecondsBut (local c.args.clock.now (held c.args.offset)) (held c.args.first) users cells all ss) c.in_default.ensures.end c.loop-session.invariant in
