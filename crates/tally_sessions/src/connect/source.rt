@@ -32,7 +32,7 @@ pub(crate) struct Walk<'a> {
     choice: &'a LoginChoice,
     named: bool,
     until: Option<i32>,
-    pub(crate) at: Place,
+    at: Place,
     ghost lent: { entries_in entries ≡ sessions.now.entries },
     ghost names: { named ≡ has_names choice.now },
 }
