@@ -14,6 +14,7 @@ ghost use Rattle.tally_sessions.specs.inside.Alike.{AreAlike};
 ghost use Rattle.tally_sessions.specs.inside.KeptSessions.{sessions_ahead};
 ghost use Rattle.tally_sessions.specs.inside.Sums.{sum_at};
 
+pub(crate) mod day_users;
 mod ended;
 pub(crate) mod hosts;
 mod kept_sessions;
@@ -39,7 +40,7 @@ use tally_records::{Batch, Key, List, Memory, Name};
 /// the lines and the users of logins, and not by how many records there were.
 #[derive(Drop)]
 pub struct ConnectSums {
-    running: Running,
+    pub(crate) running: Running,
 }
 
 impl Model for ConnectSums {
@@ -127,7 +128,7 @@ impl ConnectSums {
     }
 
     /// The sessions, where they are kept: those that have ended, and then those that are open, counted as in the total.
-    fn sessions(&self, until: Option<i32>) -> KeptSessions<'_>
+    pub(crate) fn sessions(&self, until: Option<i32>) -> KeptSessions<'_>
         ensures value { self.now.keeps_sessions ≡ true → (rs : Items LoginRecord) → IsCountOf self.now rs → AreAlike (sessions_ahead result) (sessions_among every_login (stays_from 0 [] rs until)) }
         ensures few { length (sessions_ahead result) ≤ self.now.count }
     {

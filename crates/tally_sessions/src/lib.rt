@@ -27,7 +27,10 @@ mod times;
 mod track;
 
 pub use crate::connect_sums::ConnectSums;
-pub use crate::connect_sums::hosts::{connect_by_user_of_counts, total_of_counts};
+pub use crate::connect_sums::day_users::connect_by_day_user_of_counts;
+pub use crate::connect_sums::hosts::{
+    connect_by_day_of_counts, connect_by_user_of_counts, total_of_counts,
+};
 pub use crate::days::days_add_up;
 pub use crate::entries::Entries;
 pub use crate::entries::iter::EntryIter;

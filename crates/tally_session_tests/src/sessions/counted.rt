@@ -1,4 +1,5 @@
 //! Connect time of records that are counted and let go.
+ghost use Rattle.std.specs.Prelude.{◌≡◌, ◌≤◌, true};
 ghost use Rattle.tally_records.specs.Records.{IsLogins};
 
 use crate::equal::expect_equal;
@@ -7,8 +8,12 @@ use crate::sessions::{login_record, name};
 use std::alloc::Global;
 use std::process::Abort;
 use std::random::RandomSource;
+use tally_clock::Clock;
 use tally_records::{Batch, List, Memory};
-use tally_sessions::{ConnectSums, UserTime, connect_by_user_of_counts, total_of_counts};
+use tally_sessions::{
+    ConnectSums, DayTime, DayUserTime, UserTime, connect_by_day_of_counts,
+    connect_by_day_user_of_counts, connect_by_user_of_counts, total_of_counts,
+};
 
 /// How many records are counted, the total up to the last of them and up to a moment, and ann's time.
 fn answers(sums: &ConnectSums) -> [u64; 4] {
@@ -93,11 +98,38 @@ fn a_count_goes_on_from_batch_to_batch(rt: HostRuntime) {
     drop(evening);
 }
 
-/// The count of a batch.
+/// Asserts the rows of the days.
+fn expect_days(rt: &impl Abort, rows: Result<List<DayTime>, Memory>, wanted: &[(i32, u64)]) {
+    let rows = rows.expect(rt, "memory");
+    expect_equal(rt, &rows.len(), &wanted.len());
+    for (row, &(day, seconds)) in rows.as_slice().iter().zip(wanted) {
+        expect_equal(rt, row, &DayTime { day, seconds });
+    }
+    drop(rows);
+}
+
+/// Asserts the rows of the users on days.
+fn expect_day_users(
+    rt: &impl Abort,
+    rows: Result<List<DayUserTime>, Memory>,
+    wanted: &[(i32, &str, u64)],
+) {
+    let rows = rows.expect(rt, "memory");
+    expect_equal(rt, &rows.len(), &wanted.len());
+    for (row, &(day, user, seconds)) in rows.as_slice().iter().zip(wanted) {
+        let user = name(user);
+        expect_equal(rt, row, &DayUserTime { day, user, seconds });
+    }
+    drop(rows);
+}
+
+/// The count of a batch, which keeps its sessions.
 fn counted(rt: &(impl Abort + RandomSource), alloc: Global, batch: &Batch) -> ConnectSums
     requires { IsLogins batch.now }
+    ensures few { result.count ≤ 1000 }
+    ensures keeps { result.keeps_sessions ≡ true }
 {
-    let mut sums = ConnectSums::new(alloc, new_keys(rt));
+    let mut sums = ConnectSums::with_sessions(alloc, new_keys(rt));
     assert!(rt; sums.len() + batch.len() <= 1000);
     sums.add(batch).expect(rt, "memory");
     sums
@@ -122,4 +154,39 @@ fn counts_of_two_hosts_answer_together(rt: HostRuntime) {
     drop(counts);
     drop(morning);
     drop(evening);
+}
+
+#[test]
+fn counts_of_two_hosts_answer_by_day(rt: HostRuntime) {
+    let rt = &rt;
+    let alloc = rt.alloc();
+    let utc = Clock::utc(alloc);
+    let (evening, morning) = (evening(rt, alloc), morning(rt, alloc));
+    let counts = [counted(rt, alloc, &evening), counted(rt, alloc, &morning)];
+    // 14 minutes west of the clock, a day begins at 840.
+    expect_days(
+        rt,
+        connect_by_day_of_counts(alloc, &counts, &utc, -14, None),
+        &[(-1, 640), (0, 160)],
+    );
+    expect_days(
+        rt,
+        connect_by_day_of_counts(alloc, &counts, &utc, -14, Some(1500)),
+        &[(-1, 980), (0, 1220)],
+    );
+    expect_day_users(
+        rt,
+        connect_by_day_user_of_counts(alloc, &counts, &utc, -14, None),
+        &[
+            (-1, "ann", 300),
+            (-1, "bob", 200),
+            (-1, "carl", 140),
+            (0, "ann", 100),
+            (0, "carl", 60),
+        ],
+    );
+    drop(counts);
+    drop(morning);
+    drop(evening);
+    drop(utc);
 }

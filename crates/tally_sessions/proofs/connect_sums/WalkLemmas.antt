@@ -1,9 +1,9 @@
 -- What is left of the sessions of a count after one of them.
-use Rattle.std.proofs.Common.{◌≡◌, ◌∙◌, ◌+◌, ◌<◌, ℕ, zero, suc, Bool, true, false, cond, List, [], ◌∷◌, Some, drop, get_or, length, map, refl, sym, ap, arith}
+use Rattle.std.proofs.Common.{◌≡◌, ◌∙◌, ◌+◌, ◌<◌, ℕ, zero, suc, Bool, true, false, cond, List, [], ◌∷◌, Option, None, Some, drop, get_or, length, map, refl, sym, ap, arith}
 use Rattle.std.proofs.lemmas.List.{at_drop_more, drop-map}
 use Rattle.std.proofs.lemmas.List.Sums.{sum_by-cons}
 use Rattle.std.specs.Map.{keys_of}
-use Rattle.std.specs.Prelude.{slice_get}
+use Rattle.std.specs.Prelude.{IfSome, slice_get}
 use Rattle.tally_sessions.specs.declared.connect_sums.ended.EndedSession.{EndedSession}
 use Rattle.tally_sessions.specs.declared.connect_sums.slot.Slot.{Slot}
 use Rattle.tally_sessions.specs.declared.sums.Session.{Session}
@@ -48,3 +48,8 @@ opens-count (s ∷ ss) = by s.is_open (opens-count ss) ∙ sym (sum_by-cons (wei
     by : (b : Bool) → length (opens_in ss) ≡ open_count ss → length (cond b (session_of s ∷ opens_in ss) (opens_in ss)) ≡ cond b 1 0 + open_count ss
     by true rest = omega (arith, rest)
     by false rest = omega (arith, rest)
+
+-- what follows of each follows of the one that there is
+pub some-weaker : {X : Type 0} (o : Option X) (P Q : X → Type 0) → ((x : X) → P x → Q x) → IfSome o P → IfSome o Q
+some-weaker None P Q f h = h
+some-weaker (Some x) P Q f h = f x h

@@ -12,7 +12,6 @@ use crate::connect::name_key::NameKey;
 use crate::connect::span::day_of;
 use crate::entries::Entries;
 use crate::sessions::{ENTRY_LIMIT, HOST_LIMIT, Sessions};
-use crate::track::Track;
 use crate::track::ending::{Ending, TrackedStay};
 use std::alloc::Global;
 use tally_clock::Clock;
@@ -176,15 +175,13 @@ impl Extent {
     }
 }
 
-impl Track {
-    /// Adds the users of the host's sessions.
-    fn push_users(&self, users: &mut Vec<NameKey>) -> Result<(), Memory> {
-        for place in 0..self.sums.users.len() {
-            let (name, _) = self.sums.users.pair_at(place);
-            users.push(NameKey::of(&name))?;
-        }
-        Ok(())
-    }
+/// These users, each once, in order of name bytes.
+pub(crate) fn each_once(mut users: Vec<NameKey>) -> Vec<NameKey>
+    ensures { IsStrictlySortedBy (slice_cmp nat_cmp) result.items }
+{
+    users.sort_unstable();
+    users.dedup();
+    users
 }
 
 impl Sessions {
@@ -249,10 +246,8 @@ impl Sessions {
     {
         let mut users = Vec::with_capacity(alloc, self.host_users())?;
         for track in self.tracks.iter().take(self.hosts as usize) {
-            track.push_users(&mut users)?;
+            track.sums.push_users(&mut users)?;
         }
-        users.sort_unstable();
-        users.dedup();
-        Ok(users)
+        Ok(each_once(users))
     }
 }

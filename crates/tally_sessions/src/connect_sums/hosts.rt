@@ -1,20 +1,28 @@
 //! Connect time of several hosts, of which each has a count of its records.
-ghost use Rattle.std.specs.Prelude.{◌≤◌, ℕ, List as Items, IfOk, length};
+ghost use Rattle.std.specs.Prelude.{◌≡◌, ◌≤◌, ℕ, List as Items, All, IfOk, length, sum_by, true};
 ghost use Rattle.std.specs.Cmp.Lexicographic.{slice_cmp};
 ghost use Rattle.std.specs.Ordering.{nat_cmp};
 ghost use Rattle.tally_records.specs.Choice.{every_login};
-ghost use Rattle.tally_sessions.specs.ConnectSums.{IsAboutAll};
-ghost use Rattle.tally_sessions.specs.Rows.{user_times};
+ghost use Rattle.tally_sessions.specs.ConnectSums.{AreCountsOf, IsAboutAll};
+ghost use Rattle.tally_sessions.specs.Days.{IsDay, IsOffset, local};
+ghost use Rattle.tally_sessions.specs.Rows.{day_times, user_times};
 ghost use Rattle.tally_sessions.specs.Sums.{seconds_in, seconds_of_user, sessions_of};
+ghost use Rattle.tally_sessions.specs.declared.entry.Entry.{Entry};
+ghost use Rattle.tally_sessions.specs.inside.Alike.{AreAlike};
+ghost use Rattle.tally_sessions.specs.inside.KeptSessions.{chained_ahead, sessions_ahead};
 ghost use Rattle.tally_sessions.specs.inside.Sums.{sum_at};
 
+use crate::connect::day_sums::day_sums;
 use crate::connect::name_key::NameKey;
-use crate::connect::user_rows;
+use crate::connect::{day_rows, user_rows};
 use crate::connect_sums::ConnectSums;
-use crate::sessions::HOST_LIMIT;
-use crate::times::UserTime;
+use crate::connect_sums::kept_sessions::KeptSessions;
+use crate::connect_sums::kept_walk::ChainedSessions;
+use crate::sessions::{ENTRY_LIMIT, HOST_LIMIT};
+use crate::times::{DayTime, UserTime};
 use std::alloc::Global;
 use std::collections::BTreeMap;
+use tally_clock::Clock;
 use tally_records::{List, Memory};
 
 /// The seconds of the sessions of several hosts, each of which has a count. Those that nothing has ended count up to a moment, in
@@ -57,4 +65,43 @@ pub fn connect_by_user_of_counts(
 {
     let sums = user_sums(alloc, counts, until)?;
     List::from_vec(alloc, user_rows(alloc, &sums)?)
+}
+
+/// The sessions of these hosts, whose counts keep them.
+pub(crate) fn sessions_of_counts<'a>(
+    alloc: Global,
+    counts: &'a [ConnectSums],
+    until: Option<i32>,
+) -> Result<ChainedSessions<KeptSessions<'a>>, Memory>
+    requires few { length counts.now ≤ HOST_LIMIT }
+    requires kept { All (λ c. c.keeps_sessions ≡ true) counts.now }
+    ensures value { IfOk result (λ chain. (es : Items Entry) → AreCountsOf counts.now es → AreAlike (chained_ahead sessions_ahead chain) (sessions_of every_login es until)) }
+    ensures few { IfOk result (λ chain. length (chained_ahead sessions_ahead chain) ≤ sum_by (λ c. c.count) counts.now) }
+{
+    let mut sources = Vec::with_capacity(alloc, counts.len())?;
+    for count in counts {
+        sources.push_reserved(count.sessions(until));
+    }
+    Ok(ChainedSessions { sources, at: 0 })
+}
+
+/// The connect time of each day that has any on these hosts, in order, by the days of a clock with an offset in minutes east of it,
+/// counted as in the total. The counts keep their sessions.
+pub fn connect_by_day_of_counts(
+    alloc: Global,
+    counts: &[ConnectSums],
+    clock: &Clock,
+    offset: i32,
+    until: Option<i32>,
+) -> Result<List<DayTime>, Memory>
+    requires offset_in { IsOffset offset }
+    requires few { length counts.now ≤ HOST_LIMIT }
+    requires room { sum_by (λ c. c.count) counts.now ≤ ENTRY_LIMIT }
+    requires kept { All (λ c. c.keeps_sessions ≡ true) counts.now }
+    ensures value { IfOk result (IsAboutAll counts.now (λ es. day_times (local clock.now offset) (sessions_of every_login es until))) }
+    ensures days { IfOk result (All (λ row. IsDay row.day)) }
+{
+    let mut sessions = sessions_of_counts(alloc, counts, until)?;
+    let sums = day_sums(alloc, clock, offset, &mut sessions)?;
+    List::from_vec(alloc, day_rows(alloc, &sums)?)
 }

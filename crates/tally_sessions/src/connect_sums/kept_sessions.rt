@@ -8,6 +8,7 @@ use crate::connect_sums::running::Running;
 use crate::sessions::ENTRY_LIMIT;
 
 /// A place among the sessions of a count: those that have ended, and then those that are open, up to a time.
+#[derive(Drop)]
 pub(crate) struct KeptSessions<'a> {
     pub(crate) running: &'a Running,
     pub(crate) time: i32,

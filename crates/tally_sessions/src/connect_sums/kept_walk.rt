@@ -15,6 +15,7 @@ impl<'a> KeptSessions<'a> {
     fn next_ended(&mut self) -> Option<Session>
         ensures next { IfSome result (λ s. ended_ahead self.old ≡ s ∷ ended_ahead self.new) }
         ensures end { IfNone result (ended_ahead self.old ≡ []) }
+        ensures none { IfNone result (ended_ahead self.new ≡ []) }
         ensures rest { open_ahead self.new ≡ open_ahead self.old }
     {
         let ended = &self.running.ended;
@@ -82,6 +83,7 @@ impl Running {
 }
 
 /// The sessions of several sources, one source after the other.
+#[derive(Drop)]
 pub(crate) struct ChainedSessions<S> {
     pub(crate) sources: Vec<S>,
     /// How many sources are passed.

@@ -82,6 +82,15 @@ impl EndedSums {
         self.users.add_at(user as usize, u64::from(seconds));
     }
 
+    /// Adds the users.
+    pub(crate) fn push_users(&self, users: &mut Vec<NameKey>) -> Result<(), Memory> {
+        for place in 0..self.users.len() {
+            let (name, _) = self.users.pair_at(place);
+            users.push(NameKey::of(&name))?;
+        }
+        Ok(())
+    }
+
     /// Adds the sum of each user to another.
     pub(crate) fn add_to(&self, sums: &mut BTreeMap<NameKey, u64>) -> Result<(), Memory>
         requires { (user : List ℕ) → sum_at (slice_cmp nat_cmp) sums.old.entries user + sum_of self.now (Some user) < 2 ^ 64 }

@@ -5,7 +5,7 @@ use Rattle.std.proofs.lemmas.List.Kept.{IsStrictlySortedBy-dedup}
 use Rattle.std.specs.Cmp.Lexicographic.{pointwise, slice_cmp, texts_ties}
 use Rattle.std.specs.List.Sorted.{IsStrictlySortedBy}
 use Rattle.std.specs.Ordering.{nat_cmp}
-use Rattle.tally_sessions.proofs.sessions.Sessions.users_in_order.Goals as goal
+use Rattle.tally_sessions.proofs.connect.day_table_size.each_once.Goals as goal
 
 pub returns : goal.returns
 returns c =
