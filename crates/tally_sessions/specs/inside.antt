@@ -13,7 +13,6 @@ pub mod Names
 pub mod Numbers
 pub mod Running
 pub mod Slots
-pub mod Sources
 pub mod Spans
 pub mod Steps
 pub mod Stored

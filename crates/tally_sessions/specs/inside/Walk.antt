@@ -3,6 +3,7 @@ use Rattle.std.specs.Prelude.{ℕ, ℤ, List, [], ◌∷◌, ◌++◌, drop, Opt
 use Rattle.std.specs.List.{flat_map}
 use Rattle.tally_records.specs.declared.choice.LoginChoice.{LoginChoice}
 use Rattle.tally_sessions.specs.declared.connect.walk.Place.{Place}
+use Rattle.tally_sessions.specs.declared.connect.walk.Walk.{Walk}
 use Rattle.tally_sessions.specs.declared.entry.Entry.{Entry}
 use Rattle.tally_sessions.specs.declared.entry.Stay.{Stay}
 use Rattle.tally_sessions.specs.declared.sums.Session.{Session}
@@ -21,3 +22,7 @@ stays_ahead at entries until = stays_after at.stay (drop at.host every_host) ent
 -- the chosen sessions among them
 abbrev pub sessions_ahead : Place → LoginChoice → List Entry → Option ℤ → List Session
 sessions_ahead at choice entries until = sessions_among choice (stays_ahead at entries until)
+
+-- the same of a walk
+abbrev pub ahead_of : Walk → List Session
+ahead_of walk = sessions_ahead walk.at walk.choice.now walk.sessions.now.entries walk.until

@@ -1,14 +1,15 @@
 //! Going over the chosen sessions of all hosts.
-ghost use Rattle.std.specs.Prelude.{◌≡◌, ℤ, List, [], ◌∷◌, IfNone, IfSome, Option};
+ghost use Rattle.std.specs.Prelude.{◌≡◌, ◌≤◌, ℤ, List, Option, length};
 ghost use Rattle.tally_records.specs.declared.choice.LoginChoice.{LoginChoice as Choice};
 ghost use Rattle.tally_sessions.specs.declared.entry.Entry.{Entry as Stored};
 ghost use Rattle.tally_sessions.specs.Lent.{entries_in};
 ghost use Rattle.tally_sessions.specs.Sums.{sessions_of};
 ghost use Rattle.tally_sessions.specs.inside.Chosen.{has_names};
-ghost use Rattle.tally_sessions.specs.inside.Walk.{sessions_ahead};
 
+use crate::chosen::has_names;
+use crate::connect::source::SessionSource;
 use crate::entries::Entries;
-use crate::sessions::{HOST_LIMIT, Sessions};
+use crate::sessions::{ENTRY_LIMIT, HOST_LIMIT, Sessions};
 use crate::sums::Session;
 use tally_records::LoginChoice;
 
@@ -20,6 +21,8 @@ pub(crate) struct Place {
 }
 
 impl Place {
+    ghost use Rattle.tally_sessions.specs.inside.Walk.{sessions_ahead};
+
     /// The place before all stays.
     #[tactic(auto, using(crate::proofs::connect::Ahead::all_ahead))]
     pub(crate) fn first() -> Place
@@ -29,35 +32,60 @@ impl Place {
     }
 }
 
+/// The chosen sessions of all hosts from a place on, each cut to the period.
+#[derive(Drop)]
+pub(crate) struct Walk<'a> {
+    sessions: &'a Sessions,
+    entries: Entries<'a>,
+    choice: &'a LoginChoice,
+    named: bool,
+    until: Option<i32>,
+    at: Place,
+    ghost lent: { entries_in entries ≡ sessions.now.entries },
+    ghost names: { named ≡ has_names choice.now },
+}
+
 impl Sessions {
-    /// Goes on from a place to the one after the next chosen session, if there is one more, and cuts it to the period.
-    pub(crate) fn next_session(
-        &self,
-        entries: Entries<'_>,
-        at: &mut Place,
-        choice: &LoginChoice,
-        named: bool,
-        until: Option<i32>,
-    ) -> Option<Session>
-        requires entries { entries_in entries ≡ self.now.entries }
-        requires named { named ≡ has_names choice.now }
-        ensures next { IfSome result (λ s. sessions_ahead at.old choice.now self.now.entries until ≡ s ∷ sessions_ahead at.new choice.now self.now.entries until) }
-        ensures end { IfNone result (sessions_ahead at.old choice.now self.now.entries until ≡ []) }
+    ghost use Rattle.tally_sessions.specs.inside.Walk.{ahead_of};
+
+    /// The chosen sessions of all hosts.
+    pub(crate) fn walk<'a>(&'a self, choice: &'a LoginChoice, until: Option<i32>) -> Walk<'a>
+        ensures ahead { ahead_of result ≡ sessions_of choice.now self.now.entries until }
+        ensures few { length (ahead_of result) ≤ ENTRY_LIMIT }
     {
-        while at.host < HOST_LIMIT {
-            let track = &self.tracks[at.host as usize];
+        Walk {
+            sessions: self,
+            entries: self.entries(),
+            choice,
+            named: has_names(choice),
+            until,
+            at: Place::first(),
+        }
+    }
+}
+
+impl<'a> SessionSource for Walk<'a> {
+    ghost use Rattle.tally_sessions.specs.inside.Walk.{ahead_of};
+
+    ghost ahead = { ahead_of };
+
+    fn next_session(&mut self) -> Option<Session> {
+        while self.at.host < HOST_LIMIT {
+            let host = self.at.host;
+            let sessions = self.sessions;
+            let track = &sessions.tracks[host as usize];
             if let Some(session) = track.next_session(
-                at.host,
-                entries,
-                &mut at.stay,
-                choice,
-                named,
-                until,
+                host,
+                self.entries,
+                &mut self.at.stay,
+                self.choice,
+                self.named,
+                self.until,
             ) {
                 return Some(session);
             }
-            at.host += 1;
-            at.stay = 0;
+            self.at.host += 1;
+            self.at.stay = 0;
         }
         None
     }
