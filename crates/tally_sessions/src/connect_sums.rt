@@ -92,7 +92,7 @@ impl ConnectSums {
     }
 
     /// Counts the records of a batch too, or none of them. It may ask for memory: for as many new lines and users as the batch has
-    /// records.
+    /// records, and where sessions are kept for as many as it may end.
     pub fn add(&mut self, batch: &Batch) -> Result<(), Memory>
         requires kind { IsLogins batch.now }
         requires room { self.old.count + record_count batch.now ≤ ENTRY_LIMIT }

@@ -5,11 +5,12 @@
 //! the records of one host:
 //! `rules` says what a record means, `ending` ends stays, `kept_ending` is an end if there is one, `ended` sums those that
 //! have ended, `name_table` finds lines and users, `questions` answers, `parts` has the sessions of a choice, `shown` the stays
-//! that it shows. `connect` has the rows of connect time: `chosen_sums` sums the sessions of a choice, `walk` goes over them, `cut` cuts one
+//! that it shows. `connect` has the rows of connect time: `chosen_sums` sums the sessions of a choice, a `source` gives sessions one after the other, `walk` those of a choice, `cut` cuts one
 //! where the offset of a clock changes, `span` counts the days of a part, `user_sums` sums by user, `day_sums` by day,
 //! `day_user_rows` by both, in maps by `keys`, or `day_table`, where it is small enough (`day_table_size`), filled by
 //! `day_table_sums` and read by `day_table_rows`; `sums` is what rows and tracks add up. `connect_sums` counts the records of a host and
-//! keeps none: `running` goes forward over them, `lines` ends and begins the sessions on lines, a `slot` is the latest of one line, `hosts` sums the counts of several hosts. `sessions` holds the
+//! keeps none: `running` goes forward over them, `lines` ends and begins the sessions on lines, a `slot` is the latest of one line, `ended` is what is kept of those that have ended, `kept_sessions` and `kept_walk` go over
+//! them, `hosts` sums the counts of several hosts, `day_users` by user on each day. `sessions` holds the
 //! tracks of all hosts, which `of_entries` makes of a list, each thread those of some hosts; an `entry`
 //! and a stay are plain values, `times` are rows, `days` and `laws` state laws.
 #![tactic(auto)]

@@ -1,5 +1,5 @@
 -- What is kept of the sessions of a host that have ended.
-use Rattle.std.specs.Prelude.{◌≡◌, ◌≤◌, ◌<◌, ◌+◌, ◌*◌, ℕ, ℤ, All, Bool, List, [], Option, get_or, if◌then◌else◌, length, map, sum_by, true, vec_len, vec_capacity}
+use Rattle.std.specs.Prelude.{◌≡◌, ◌≤◌, ◌<◌, ◌+◌, ◌*◌, ℕ, ℤ, All, Bool, List, [], Option, get_or, if◌then◌else◌, length, map, sum_by, true, vec_capacity}
 use Rattle.std.specs.Map.{keys_of}
 use Rattle.tally_sessions.specs.declared.connect_sums.ended.Ended.{Ended}
 use Rattle.tally_sessions.specs.declared.connect_sums.ended.EndedSession.{EndedSession}

@@ -1,5 +1,5 @@
 -- What one record more does to a count.
-use Rattle.std.specs.Prelude.{◌≡◌, ◌+◌, ℕ, Bool, List, Option, bytes_eq, if◌then◌else◌, sum_by, ℤ, ◌+ℤ◌}
+use Rattle.std.specs.Prelude.{◌≡◌, ◌+◌, ℕ, Bool, bytes_eq, if◌then◌else◌, sum_by, ℤ, ◌+ℤ◌}
 use Rattle.tally_records.specs.declared.login.LoginRecord.{LoginRecord}
 use Rattle.tally_records.specs.declared.login.Event.TheVariants.{Login}
 use Rattle.tally_records.specs.Event.{event_of}

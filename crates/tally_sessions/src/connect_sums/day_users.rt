@@ -26,7 +26,7 @@ use tally_records::{List, Memory};
 
 impl Running {
     /// Times with those of the sessions. Those that are open count up to a moment, or else to the last record.
-    fn with_sessions(&self, clock: &Clock, until: Option<i32>, extent: Extent) -> Extent
+    fn extend(&self, clock: &Clock, until: Option<i32>, extent: Extent) -> Extent
         requires running { IsRunning self.now.count self.now }
         requires moved { IsWithin self.now.count self.now.clock }
         requires few { self.now.count ≤ ENTRY_LIMIT }
@@ -59,8 +59,8 @@ impl Running {
 
 impl ConnectSums {
     /// The same of a count.
-    fn with_sessions_of(&self, clock: &Clock, until: Option<i32>, extent: Extent) -> Extent {
-        self.running.with_sessions(clock, until, extent)
+    fn extend(&self, clock: &Clock, until: Option<i32>, extent: Extent) -> Extent {
+        self.running.extend(clock, until, extent)
     }
 
     /// How many users have a session that has ended.
@@ -78,7 +78,7 @@ impl ConnectSums {
 fn extent_of(counts: &[ConnectSums], clock: &Clock, until: Option<i32>) -> Extent {
     let mut extent = Extent::none();
     for count in counts {
-        extent = count.with_sessions_of(clock, until, extent);
+        extent = count.extend(clock, until, extent);
     }
     extent
 }

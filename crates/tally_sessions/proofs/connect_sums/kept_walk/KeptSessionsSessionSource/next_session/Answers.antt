@@ -1,4 +1,4 @@
-use Rattle.std.proofs.Common.{◌≡◌, ◌∙◌, ◌++◌, ◌∷◌, sym}
+use Rattle.std.proofs.Common.{◌∙◌, ◌++◌, ◌∷◌, sym}
 use Rattle.tally_sessions.specs.inside.KeptSessions.{open_ahead}
 use Rattle.tally_sessions.proofs.connect_sums.WalkLemmas.{some-weaker}
 use Rattle.tally_sessions.proofs.connect_sums.kept_walk.KeptSessionsSessionSource.next_session.Goals as goal

@@ -1,4 +1,4 @@
-use Rattle.std.proofs.Common.{◌≡◌, ◌+◌, ◌<◌, ◌≤◌, ℕ, List, false, get_or, length, vec_len, vec_capacity}
+use Rattle.std.proofs.Common.{◌≡◌, ◌+◌, ◌<◌, ◌≤◌, ℕ, false, get_or, length, vec_len, vec_capacity}
 use Rattle.tally_sessions.specs.inside.Ended.{Asked, measured, weighed}
 use Rattle.tally_sessions.specs.inside.Running.{AreKept}
 use Rattle.tally_sessions.specs.inside.Slots.{open_count, slot_at, weight_in}

@@ -3,7 +3,7 @@ use Rattle.std.proofs.lemmas.Int.{to_z-of_z}
 use Rattle.std.specs.Int.{w32}
 use Rattle.tally_sessions.specs.declared.connect_sums.running.Running.{Running}
 use Rattle.tally_sessions.specs.declared.connect_sums.slot.Slot.{Slot}
-use Rattle.tally_sessions.specs.inside.Ended.{Asked, measured, weighed}
+use Rattle.tally_sessions.specs.inside.Ended.{measured, weighed}
 use Rattle.tally_sessions.specs.inside.Numbers.{Numbers}
 use Rattle.tally_sessions.specs.inside.Running.{AreKept}
 use Rattle.tally_sessions.specs.inside.Slots.{closed, slot_at, weight_at, weight_in}
