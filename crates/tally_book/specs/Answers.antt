@@ -99,8 +99,9 @@ answer_of clock (questions.Attempts host limit choice) logins procs =
 answer_of clock (questions.AttemptSums limit choice) logins procs =
     answers.AttemptSums (attempt_sums limit choice logins)
 
--- it is the answer on the connect time of all sessions, by user or in total alone, about whatever logins these are the counts of
-abbrev pub IsAnswerOfCounts : List Counted → Bool → Option ℤ → Answer → Type 0
-IsAnswerOfCounts cs by_user until answer = (clock : ClockRows) (offset : ℤ) (choice : LoginChoice) (logins : List Entry) (procs : List ProcEntry)
+-- it is the answer on the connect time of all sessions, by day of a clock, by user, by both or in total alone, about whatever logins
+-- these are the counts of
+abbrev pub IsAnswerOfCounts : ClockRows → ℤ → List Counted → Bool → Bool → Option ℤ → Answer → Type 0
+IsAnswerOfCounts clock offset cs by_day by_user until answer = (choice : LoginChoice) (logins : List Entry) (procs : List ProcEntry)
     → is_every_login choice ≡ true → AreCountsOf cs logins
-    → answer ≡ answer_of clock (questions.Connect false by_user offset choice until) logins procs
+    → answer ≡ answer_of clock (questions.Connect by_day by_user offset choice until) logins procs

@@ -24,7 +24,7 @@ pub(crate) fn user_rows(alloc: Global, times: &[UserTime]) -> Result<Vec<Connect
         .collect(alloc)
 }
 
-fn day_rows(alloc: Global, times: &[DayTime]) -> Result<Vec<ConnectRow>, AllocError>
+pub(crate) fn day_rows(alloc: Global, times: &[DayTime]) -> Result<Vec<ConnectRow>, AllocError>
     ensures { IfOk result (λ rows. rows.items ≡ map row_of_day times.now) }
 {
     times
@@ -37,7 +37,10 @@ fn day_rows(alloc: Global, times: &[DayTime]) -> Result<Vec<ConnectRow>, AllocEr
         .collect(alloc)
 }
 
-fn day_user_rows(alloc: Global, times: &[DayUserTime]) -> Result<Vec<ConnectRow>, AllocError>
+pub(crate) fn day_user_rows(
+    alloc: Global,
+    times: &[DayUserTime],
+) -> Result<Vec<ConnectRow>, AllocError>
     ensures { IfOk result (λ rows. rows.items ≡ map row_of_day_user times.now) }
 {
     times
