@@ -23,6 +23,7 @@ fn count_batch(sums: &mut ConnectSums, batch: &Batch) -> Result<(), FeedFault>
     requires kind { IsLogins batch.now }
     requires room { sums.old.count + record_count batch.now ≤ ENTRY_LIMIT }
     ensures added { OnOk result (CountsMore sums.old sums.new (logins_in batch.now)) }
+    ensures keeps { sums.new.keeps_sessions ≡ sums.old.keeps_sessions }
     ensures refused { OnErr result (sums.new ≡ sums.old) }
     ensures memory { IfErr result (λ f. f ≡ fault.Memory) }
 {
@@ -47,6 +48,7 @@ fn count_login_blocks<I: Input>(
     ensures some { OnOk result (IsCountOfAtMost (most * 1024) sums.new) }
     ensures whole { OnOk result ((bytes : List ℕ) → I.to_come input.old ≡ Some bytes
         → IsLoginCount most bytes sums.new) }
+    ensures keeps { sums.new.keeps_sessions ≡ sums.old.keeps_sessions }
     ensures stops { IfErr result (λ f. (bytes : List ℕ) → I.to_come input.old ≡ Some bytes
         → IsLoginStop most bytes (stopped_with sums.new.count f)) }
     ensures place { IfErr result (λ f. IsStoppedLoginCount most (stopped_with sums.new.count f)) }
@@ -71,17 +73,32 @@ fn count_login_blocks<I: Input>(
     Ok(())
 }
 
-/// The connect time of an input's login records. They are read by blocks of 1,024, and none is kept.
+/// The count of no records, which keeps its sessions or not. Its tables are hashed by the keys.
+fn count_of_none(alloc: Global, keys: RandomState, keeps_sessions: bool) -> ConnectSums
+    ensures counted { IsCountOf result [] }
+    ensures keeps { result.keeps_sessions ≡ keeps_sessions }
+{
+    if keeps_sessions {
+        ConnectSums::with_sessions(alloc, keys)
+    } else {
+        ConnectSums::new(alloc, keys)
+    }
+}
+
+/// The connect time of an input's login records. They are read by blocks of 1,024, and none is kept. `keeps_sessions` says whether the
+/// count keeps its sessions, for reports by day.
 ///
 /// At most `most` blocks are read, up to 16,384 of them. The first fault of the input is named, which is that of `feed` to a book
 /// with room for `most` blocks, and with it how many records were counted, those of the full blocks before it. `Memory` and
 /// `Read` come where memory runs out or the input fails before. It takes memory for one block of 384 KiB and its batch, and for
-/// the lines and the users of logins, whose tables are hashed by the keys.
+/// the lines and the users of logins, whose tables are hashed by the keys, and 12 bytes for each session that has ended, where these
+/// are kept.
 pub fn count_logins<I: Input>(
     alloc: Global,
     keys: RandomState,
     input: &mut I,
     most: u32,
+    keeps_sessions: bool,
 ) -> Result<ConnectSums, Uncounted>
     requires few { most ≤ 16384 }
     requires countable { I.failures input.old < 2 ^ 64 - 1 }
@@ -91,6 +108,7 @@ pub fn count_logins<I: Input>(
     ensures some { IfOk result (IsCountOfAtMost (most * 1024)) }
     ensures whole { IfOk result (λ sums. (bytes : List ℕ) → I.to_come input.old ≡ Some bytes
         → IsLoginCount most bytes sums) }
+    ensures keeps { IfOk result (λ sums. sums.keeps_sessions ≡ keeps_sessions) }
     ensures stops { IfErr result (λ u. (bytes : List ℕ) → I.to_come input.old ≡ Some bytes
         → IsLoginStop most bytes u) }
     ensures place { IfErr result (IsStoppedLoginCount most) }
@@ -100,7 +118,7 @@ pub fn count_logins<I: Input>(
     ensures read { IfErr result (λ u. u.fault ≡ fault.Read
         → (I.failures input.new ≡ I.failures input.old + 1) × (I.can_fail input.old ≡ true)) }
 {
-    let mut sums = ConnectSums::new(alloc, keys);
+    let mut sums = count_of_none(alloc, keys, keeps_sessions);
     match count_login_blocks(alloc, input, &mut sums, most) {
         Ok(()) => Ok(sums),
         Err(fault) => Err(Uncounted {

@@ -17,12 +17,13 @@ fn expect_counted<R: Abort + RandomSource, I: Input>(
     alloc: Global,
     mut input: I,
     most: u32,
+    keeps_sessions: bool,
     want: Result<usize, Uncounted>,
 )
     requires few { most ≤ 16384 }
     requires countable { I.failures input < 2 ^ 64 - 1 }
 {
-    let outcome = count_logins(alloc, new_keys(rt), &mut input, most);
+    let outcome = count_logins(alloc, new_keys(rt), &mut input, most, keeps_sessions);
     drop(input);
     let count = match outcome {
         Ok(sums) => Ok(sums.len()),
@@ -47,8 +48,10 @@ fn after_a_block<T>(fault: FeedFault) -> Result<T, Uncounted> {
 #[test]
 fn up_to_the_limit_all_login_records_are_counted(rt: HostRuntime) {
     for (most, records) in [(0, 0), (1, 0), (1, 1), (1, 1024), (2, 1025), (16_384, 2049)] {
-        let input = Bytes::new(zeros(&rt, rt.alloc(), records * 384));
-        expect_counted(&rt, rt.alloc(), input, most, Ok(records));
+        for keeps_sessions in [false, true] {
+            let input = Bytes::new(zeros(&rt, rt.alloc(), records * 384));
+            expect_counted(&rt, rt.alloc(), input, most, keeps_sessions, Ok(records));
+        }
     }
 }
 
@@ -63,6 +66,7 @@ fn a_count_of_logins_stops_at_the_end_of_the_last_full_block(rt: HostRuntime) {
         alloc,
         long,
         1,
+        false,
         after_a_block(FeedFault::TooLong { limit }),
     );
     let torn = Bytes::new(zeros(rt, alloc, 394_000));
@@ -72,6 +76,7 @@ fn a_count_of_logins_stops_at_the_end_of_the_last_full_block(rt: HostRuntime) {
         alloc,
         torn,
         2,
+        false,
         after_a_block(FeedFault::Torn { records, rest }),
     );
     let mut bytes = zeros(rt, alloc, 394_368);
@@ -84,6 +89,7 @@ fn a_count_of_logins_stops_at_the_end_of_the_last_full_block(rt: HostRuntime) {
         alloc,
         Bytes::new(bytes),
         2,
+        false,
         after_a_block(FeedFault::Bad { at, fault }),
     );
 }
@@ -109,5 +115,12 @@ impl Read for Failing {
 #[test]
 fn a_read_that_fails_in_the_second_block_stops_a_count_after_the_first(rt: HostRuntime) {
     let input = Reading::new(Failing { left: 393_700 });
-    expect_counted(&rt, rt.alloc(), input, 2, after_a_block(FeedFault::Read));
+    expect_counted(
+        &rt,
+        rt.alloc(),
+        input,
+        2,
+        false,
+        after_a_block(FeedFault::Read),
+    );
 }

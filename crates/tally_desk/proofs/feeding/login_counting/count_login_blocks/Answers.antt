@@ -24,6 +24,7 @@ loop-turn-init g c = record {
   room = holds_named c.block_size.result (block_size Login) (vec_capacity c.in_ok-block.block) c.block_size.ensures c.in_ok-block.ensures.room;
   ready = within_named c.block_size.result (block_size Login) (vec_len c.in_ok-block.block) c.block_size.ensures c.in_ok-block.ensures.ready;
   counted = nothing_counted _ c.requires.empty;
+  keeps = refl;
   told = λ bytes told. told_none c.args.most Login bytes _ (CountsIn c.args.sums.now) c.requires.empty told;
 }
 
@@ -60,6 +61,7 @@ returns-in_err-block g c =
       nature = refl;
       some = tt;
       whole = tt;
+      keeps = refl;
       stops = λ bytes told. count_stops c.args.most bytes _ sums 0 (told_none c.args.most Login bytes _ (CountsIn sums) c.requires.empty told) fault.Memory tt;
       place = stopped_count c.args.most sums 0 fault.Memory (nothing_counted sums c.requires.empty) (omega arith) tt tt;
       failures = tt;
@@ -78,6 +80,7 @@ returns-in_err-batch g c =
       nature = failed.nature ∙ before.nature;
       some = tt;
       whole = tt;
+      keeps = before.keeps;
       stops = λ bytes told.
           let so_far = before.told bytes told in
           count_stops c.args.most bytes _ c.loop-turn.sums c.loop-turn.turn so_far _ (failed.stops so_far.rest so_far.to_come);
@@ -100,6 +103,7 @@ returns-in_default g c =
           let so_far = before.told bytes told in
           let end = takes_end c.args.most Login _ c.loop-turn.turn so_far.rest _ c.in_default.is (taken.takes so_far.rest so_far.to_come) in
           whole_count c.args.most bytes c.loop-turn.sums (told_all c.args.most Login bytes _ (CountsIn c.loop-turn.sums) c.loop-turn.turn so_far end);
+      keeps = before.keeps;
       stops = tt;
       place = tt;
       failures = taken.failures ∙ before.countable;
@@ -120,6 +124,7 @@ returns-in_err-count_batch g c =
       nature = taken.nature ∙ before.nature;
       some = tt;
       whole = tt;
+      keeps = c.count_batch.ensures.keeps ∙ before.keeps;
       stops = λ bytes told.
           count_stops c.args.most bytes _ now c.loop-turn.turn (still_told c.loop-turn.sums now same c.loop-turn.turn c.args.most _ bytes (before.told bytes told)) fault.Memory tt;
       place = stopped_count c.args.most now c.loop-turn.turn fault.Memory (still_counted c.loop-turn.sums now same c.loop-turn.turn before.counted) (within_turns c.args.most _ c.loop-turn-test.true) tt tt;
@@ -146,6 +151,7 @@ returns-then-records-lt-BATCH_LIMIT g c =
           let takes = takes_some c.args.most Login _ c.loop-turn.turn so_far.rest _ c.in-Some.batch c.in-Some.is (taken.takes so_far.rest so_far.to_come) in
           whole_count c.args.most bytes now
           (told_last c.args.most Login bytes _ (CountsIn c.loop-turn.sums) c.loop-turn.turn so_far _ (CountsIn now) c.in-Some.batch takes (counts_one c.loop-turn.sums now c.in-Some.batch more) short);
+      keeps = c.count_batch.ensures.keeps ∙ before.keeps;
       stops = tt;
       place = tt;
       failures = taken.failures ∙ before.countable;
@@ -168,6 +174,7 @@ loop-turn-preserved g c =
       room = next.room;
       ready = next.ready;
       counted = full_counted c.loop-turn.sums now c.loop-turn.turn c.in-Some.batch before.counted batch full more;
+      keeps = c.count_batch.ensures.keeps ∙ before.keeps;
       told = λ bytes told.
           let so_far = before.told bytes told in
           let takes = takes_some c.args.most Login _ c.loop-turn.turn so_far.rest _ c.in-Some.batch c.in-Some.is (next.takes so_far.rest so_far.to_come) in
@@ -186,6 +193,7 @@ returns-in_err-expect_end g c =
       nature = failed.nature ∙ before.nature;
       some = tt;
       whole = tt;
+      keeps = before.keeps;
       stops = λ bytes told.
           let so_far = before.told bytes told in
           count_stops c.args.most bytes _ c.loop-turn.sums c.loop-turn.turn so_far _
@@ -208,6 +216,7 @@ returns g c =
       whole = λ bytes told.
           let so_far = before.told bytes told in
           whole_count c.args.most bytes c.loop-turn.sums (told_all c.args.most Login bytes _ (CountsIn c.loop-turn.sums) c.loop-turn.turn so_far (subst IsAtEnd so_far.to_come ended.ok));
+      keeps = before.keeps;
       stops = tt;
       place = tt;
       failures = ended.failures ∙ before.countable;

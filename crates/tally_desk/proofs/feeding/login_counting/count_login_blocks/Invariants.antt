@@ -14,6 +14,7 @@ invariant-loop-turn g l = record {
   room : block_size Login ≤ vec_capacity l.block;
   ready : vec_len l.block ≤ block_size Login;
   counted : HasCounted l.sums l.turn;
+  keeps : l.sums.keeps_sessions ≡ l.initial.sums.keeps_sessions;
   told : (bytes : List ℕ) → g.I.Input.to_come l.initial.input ≡ Some bytes
       → Told l.most Login (g.I.Input.to_come l.input) (CountsIn l.sums) l.turn bytes;
 }
