@@ -2,6 +2,8 @@
 use Rattle.std.proofs.Common.{◌≡◌, ◌∙◌, ◌≤◌, ◌<◌, ◌+◌, ◌*◌, ◌%◌, ◌⊎◌, inl, inr, ℕ, zero, suc, List, [], ◌∷◌, ◌++◌, length, set, ap, sym, subst, refl, arith, length-append}
 use Rattle.std.proofs.lemmas.Bool.{cases_lt}
 use Rattle.std.proofs.lemmas.List.{get_or-set_other, get_or-set_same, get_or_append_left, get_or_at, length-set}
+use Rattle.std.proofs.lemmas.List.Sums.{sum_by_push}
+use Rattle.std.specs.Prelude.{sum_by}
 use Rattle.tally_sessions.specs.ConnectSums.{Counted}
 use Rattle.tally_cli.specs.declared.fault.RunFault.{RunFault}
 use Rattle.tally_cli.specs.declared.fault.RunFault.TheVariants.{Asker, Callers, File, Memory, Write}
@@ -64,6 +66,10 @@ list_counted us at u near =
     ∙ sym (counts_at us k u (omega (arith, l, near)))) in
     let next = counted_next (counts_of (set us at u)) at in
     omega (arith, next, first, ap counted_of own)
+
+-- one count more among those that were taken
+pub sum_more : (counts : List Counted) (sums : Counted) (before n : ℕ) → sum_by (λ (c : Counted). c.count) counts ≡ before → n ≡ sums.count → sum_by (λ (c : Counted). c.count) (counts ++ sums ∷ []) ≡ before + n
+sum_more counts sums before n all own = omega (arith, sum_by_push (λ (c : Counted). c.count) counts sums, all, own)
 
 -- ---- one count more
 

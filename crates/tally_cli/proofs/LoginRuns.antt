@@ -77,9 +77,9 @@ some_of : {X : Type 0} (xs : List X) (k : ℕ) → k < length xs → X
 some_of [] k l = absurd (omega (arith, l))
 some_of (x ∷ xs) k l = x
 
-module _ {I : Type 0} (to_come : I → Option (List ℕ)) (can_fail : I → Bool) (room n : ℕ) (sources : List (Source I)) (at : ℕ → LoginCount) (came : CameEach (CameOf to_come can_fail room) (StopsAt room) n sources at) (logins : All IsOfLogins sources) where
-  own_fault : (host : ℕ) (s : Source I) (u : Uncounted) → host < length sources → at host ≡ count.Fault u → CameOf to_come can_fail room (get_or sources host s) (count.Fault u)
-  own_fault host s u near is = subst (CameOf to_come can_fail room (get_or sources host s)) is (came.each host s near)
+module _ {I : Type 0} (to_come : I → Option (List ℕ)) (can_fail : I → Bool) (room : ℕ) (keeps_sessions : Bool) (n : ℕ) (sources : List (Source I)) (at : ℕ → LoginCount) (came : CameEach (CameOf to_come can_fail room keeps_sessions) (StopsAt room) n sources at) (logins : All IsOfLogins sources) where
+  own_fault : (host : ℕ) (s : Source I) (u : Uncounted) → host < length sources → at host ≡ count.Fault u → CameOf to_come can_fail room keeps_sessions (get_or sources host s) (count.Fault u)
+  own_fault host s u near is = subst (CameOf to_come can_fail room keeps_sessions (get_or sources host s)) is (came.each host s near)
 
   too_many_refusal : (host stored callers : ℕ) → host < length sources → HasNoRoom room stored → IsLoginRefusal can_fail room callers sources (File host (feed.LoginsFull stored))
   too_many_refusal host stored callers near full = record {
@@ -116,21 +116,28 @@ module _ {I : Type 0} (to_come : I → Option (List ℕ)) (can_fail : I → Bool
   login_refusal callers (Asker caller fault) found = absurd found
   login_refusal callers Write found = absurd found
 
+  -- each count that was taken keeps its sessions as asked
+  pub all_kept : (counts : List Counted) → AreTaken (length sources) at counts → All (λ (c : Counted). c.keeps_sessions ≡ keeps_sessions) counts
+  all_kept counts taken k c l =
+      let near : k < length sources = omega (arith, l, taken.length_is) in
+      let s = some_of sources k near in
+      (subst (CameOf to_come can_fail room keeps_sessions (get_or sources k s)) (taken.each k c near) (came.each k s near)).0
+
   module _ (inputs : List Told) (tell : Tell to_come sources inputs) where
     kind_at : (k : ℕ) (i : Told) → k < length sources → (get_or inputs k i).kind ≡ Login
     kind_at k i l =
         let s = some_of sources k l in
         sym (tell.1 k s i l).kind ∙ logins k s l
 
-    own_sums : (k : ℕ) (i : Told) (c : Counted) (l : k < length sources) → at k ≡ count.Sums c → CameOf to_come can_fail room (get_or sources k (some_of sources k l)) (count.Sums c)
-    own_sums k i c l is = subst (CameOf to_come can_fail room (get_or sources k (some_of sources k l))) is (came.each k (some_of sources k l) l)
+    own_sums : (k : ℕ) (i : Told) (c : Counted) (l : k < length sources) → at k ≡ count.Sums c → CameOf to_come can_fail room keeps_sessions (get_or sources k (some_of sources k l)) (count.Sums c)
+    own_sums k i c l is = subst (CameOf to_come can_fail room keeps_sessions (get_or sources k (some_of sources k l))) is (came.each k (some_of sources k l) l)
 
     good_at : (k : ℕ) (i : Told) → k < length sources → HasSums (at k) → IsGood room (get_or inputs k i)
     good_at k i l has = by (at k) refl has
       where
         by : (c : LoginCount) → at k ≡ c → HasSums c → IsGood room (get_or inputs k i)
         by count.Untried is has = absurd has
-        by (count.Sums c) is has = rw (kind_at k i l) ((own_sums k i c l is (get_or inputs k i).bytes (tell.1 k (some_of sources k l) i l).bytes).no_fault)
+        by (count.Sums c) is has = rw (kind_at k i l) (((own_sums k i c l is).1 (get_or inputs k i).bytes (tell.1 k (some_of sources k l) i l).bytes).no_fault)
         by (count.Fault u) is has = absurd has
 
     -- no more records were counted of an input than its good blocks have
@@ -140,7 +147,7 @@ module _ {I : Type 0} (to_come : I → Option (List ℕ)) (can_fail : I → Bool
         by : (c : LoginCount) → at k ≡ c → counted_of (at k) ≤ good_of room (get_or inputs k i)
         by count.Untried is = let none = ap counted_of is in omega (arith, none)
         by (count.Sums c) is =
-            let own = own_sums k i c l is (get_or inputs k i).bytes (tell.1 k (some_of sources k l) i l).bytes in
+            let own = (own_sums k i c l is).1 (get_or inputs k i).bytes (tell.1 k (some_of sources k l) i l).bytes in
             rw (kind_at k i l, is) (omega (arith, own.counted))
         by (count.Fault u) is =
             let own = (own_fault k (some_of sources k l) u l is).2 (get_or inputs k i).bytes (tell.1 k (some_of sources k l) i l).bytes in
@@ -187,7 +194,7 @@ module _ {I : Type 0} (to_come : I → Option (List ℕ)) (can_fail : I → Bool
             let near : host < length sources = omega (arith, l, taken.length_is) in
             let i = some_of inputs host (omega (arith, near, tell.0)) in
             subst (IsCountOf (get_or counts host c)) (sym (host_records host i near))
-            (own_sums host i (get_or counts host c) near (taken.each host c near) (get_or inputs host i).bytes (tell.1 host (some_of sources host near) i near).bytes).count;
+            ((own_sums host i (get_or counts host c) near (taken.each host c near)).1 (get_or inputs host i).bytes (tell.1 host (some_of sources host near) i near).bytes).count;
         others = λ host l. of_no_file (λ (e : Entry). e.host) (λ (e : Entry). e.item) (λ n r. record { host = n; item = r }) (λ n r. refl) (λ n r. refl) logins_in (map records_told inputs) host
             (omega (arith, l, taken.length_is, tell.0, length-map inputs records_told));
       };

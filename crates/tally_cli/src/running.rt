@@ -237,8 +237,8 @@ fn run_on_desk<R: Threads + Wait + Sync, I: Input + Send, G: Gate + Sync, O: Out
 /// stays or of failed logins has the paths of their files where these are asked for. Nothing is written before every file is found to be
 /// good. A fault is that of the first file at fault, else that of the first asker.
 ///
-/// Each file is one caller of a desk. A report of connect time in total or by user, over all sessions and with no asker, needs no
-/// record and no desk: then the files are counted one by one, in the memory of their lines and users.
+/// Each file is one caller of a desk. A report of connect time over all sessions, with no asker, needs no record and no desk: then the
+/// files are counted one by one, in the memory of their lines and users, and with days of 12 bytes for each session too.
 pub fn run<R: Threads + Wait + Sync, I: Input + Send, G: Gate + Sync, O: Output>(
     rt: &R,
     alloc: Global,

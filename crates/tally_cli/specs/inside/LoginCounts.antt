@@ -26,10 +26,15 @@ use Rattle.tally_cli.specs.inside.Files.{HasSums, IsFault}
 
 -- ---- which runs count
 
--- a report on the connect time of all sessions, without days
-abbrev pub IsOfTotals : Report → Type 0
-IsOfTotals (report.Connect by_day by_user choice) = (by_day ≡ false) × (is_every_login choice ≡ true)
-IsOfTotals r = ⊥
+-- a report on the connect time of all sessions
+abbrev pub IsOfAllSessions : Report → Type 0
+IsOfAllSessions (report.Connect by_day by_user choice) = is_every_login choice ≡ true
+IsOfAllSessions r = ⊥
+
+-- whether a report has rows by day
+abbrev pub is_by_day : Report → Bool
+is_by_day (report.Connect by_day by_user choice) = by_day
+is_by_day r = false
 
 -- a file of login records
 abbrev pub IsOfLogins : {I : Type 0} → Source I → Type 0
@@ -37,7 +42,7 @@ IsOfLogins source = source.kind ≡ Login
 
 -- a job on files that needs no record: nothing is asked meanwhile
 pub record IsCountedRun {I : Type 0} (job : Job) (sources : List (Source I)) : Type 0 where
-  pub report : IsOfTotals job.report
+  pub report : IsOfAllSessions job.report
   pub alone : job.askers ≡ 0
   pub logins : All IsOfLogins sources
 
@@ -61,11 +66,12 @@ counted_of count.Untried = 0
 counted_of (count.Sums sums) = sums.count
 counted_of (count.Fault found) = found.counted
 
--- what a source's count came to, where it was tried and a file has room for so many records
-abbrev pub CameOf : {I : Type 0} → (I → Option (List ℕ)) → (I → Bool) → ℕ → Source I → LoginCount → Type 0
-CameOf to_come can_fail room source count.Untried = ⊤
-CameOf to_come can_fail room source (count.Sums sums) = (bytes : List ℕ) → to_come source.input ≡ Some bytes → IsLoginCount (batches_in room) bytes sums
-CameOf to_come can_fail room source (count.Fault found) = IsStoppedLoginCount (batches_in room) found × (found.fault ≡ feed.Read → can_fail source.input ≡ true)
+-- what a source's count came to, where it was tried, a file has room for so many records and sessions are kept or not
+abbrev pub CameOf : {I : Type 0} → (I → Option (List ℕ)) → (I → Bool) → ℕ → Bool → Source I → LoginCount → Type 0
+CameOf to_come can_fail room keeps_sessions source count.Untried = ⊤
+CameOf to_come can_fail room keeps_sessions source (count.Sums sums) = (sums.keeps_sessions ≡ keeps_sessions)
+    × ((bytes : List ℕ) → to_come source.input ≡ Some bytes → IsLoginCount (batches_in room) bytes sums)
+CameOf to_come can_fail room keeps_sessions source (count.Fault found) = IsStoppedLoginCount (batches_in room) found × (found.fault ≡ feed.Read → can_fail source.input ≡ true)
     × ((bytes : List ℕ) → to_come source.input ≡ Some bytes → IsLoginStop (batches_in room) bytes found)
 
 -- ---- the counts of all files

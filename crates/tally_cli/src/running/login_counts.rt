@@ -1,5 +1,5 @@
 //! Files of login records that several threads count, and of which no record is kept.
-ghost use Rattle.std.specs.Prelude.{◌≡◌, ◌⊎◌, ◌+◌, ◌<◌, ◌≤◌, ℕ, IfErr, IfOk, List, MatchBool, length, map};
+ghost use Rattle.std.specs.Prelude.{◌≡◌, ◌⊎◌, ◌+◌, ◌<◌, ◌≤◌, ℕ, IfErr, IfOk, List, MatchBool, length, map, sum_by};
 ghost use Rattle.std.specs.List.{All};
 ghost use Rattle.tally_cli.specs.Runs.{IsReadable, Tell, Told};
 ghost use Rattle.tally_cli.specs.inside.Files.{AreAllCounted, AreCounted, AreExplained, HasSums, IsFault, IsPlaced, IsUncounted, count_in};
@@ -25,22 +25,24 @@ type LoginCount = Count<ConnectSums, Uncounted>;
 /// A file of login records, and what its count came to.
 type LoginFile<I> = FileCount<I, ConnectSums, Uncounted>;
 
-/// Counts the records of a file, after so many that were counted, and says whether there may be more.
+/// Counts the records of a file, after so many that were counted, and says whether there may be more. Its sessions are kept or not.
 fn count_file<I: Input>(
     alloc: Global,
     keys: RandomState,
     room: Room,
+    keeps_sessions: bool,
     counted: &mut u64,
     file: &mut LoginFile<I>,
 ) -> bool
     requires readable { IsReadable I.failures file.old.source }
     requires few { counted.old ≤ room }
-    ensures came { CameOf I.to_come I.can_fail room file.old.source file.new.count }
+    ensures came { CameOf I.to_come I.can_fail room keeps_sessions file.old.source file.new.count }
     ensures counted { counted.new ≡ counted.old + counted_of file.new.count }
     ensures tried { HasSums file.new.count ⊎ IsFault file.new.count }
     ensures done { MatchBool result (HasSums file.new.count × (counted.new ≤ room)) (IsFault file.new.count ⊎ (room < counted.new)) }
 {
-    match count_logins(alloc, keys, &mut file.source.input, room.batches()) {
+    let most = room.batches();
+    match count_logins(alloc, keys, &mut file.source.input, most, keeps_sessions) {
         Ok(sums) => {
             *counted += sums.len() as u64;
             file.count = Count::Sums(sums);
@@ -55,13 +57,20 @@ fn count_file<I: Input>(
 }
 
 /// Counts a feeder's files in order, up to the first that has a fault, or with which there are more records than all files may have.
-fn count_list<I: Input>(alloc: Global, keys: RandomState, room: Room, files: &mut [LoginFile<I>])
+fn count_list<I: Input>(
+    alloc: Global,
+    keys: RandomState,
+    room: Room,
+    keeps_sessions: bool,
+    files: &mut [LoginFile<I>],
+)
     requires { All (IsUncounted I.failures) files.old }
-    ensures { AreCounted (CameOf I.to_come I.can_fail room) (StopsAt room) files.old files.new }
+    ensures { AreCounted (CameOf I.to_come I.can_fail room keeps_sessions) (StopsAt room) files.old files.new }
 {
     let mut counted = 0;
     for at in 0..files.len() {
-        if !count_file(alloc, keys, room, &mut counted, &mut files[at]) {
+        let file = &mut files[at];
+        if !count_file(alloc, keys, room, keeps_sessions, &mut counted, file) {
             break;
         }
     }
@@ -73,17 +82,18 @@ fn count_lists<R: Threads + Sync, I: Input + Send>(
     alloc: Global,
     keys: RandomState,
     room: Room,
+    keeps_sessions: bool,
     lists: &mut Vec<Vec<LoginFile<I>>>,
     feeders: usize,
 )
     requires feeders { 0 < feeders }
     requires uncounted { All (λ v. All (IsUncounted I.failures) v.items) lists.old.items }
-    ensures { AreAllCounted (CameOf I.to_come I.can_fail room) (StopsAt room) (λ v. v.items) lists.old.items lists.new.items }
+    ensures { AreAllCounted (CameOf I.to_come I.can_fail room keeps_sessions) (StopsAt room) (λ v. v.items) lists.old.items lists.new.items }
 {
     let count = |_: usize, files: &mut Vec<LoginFile<I>>|
         requires { All (IsUncounted I.failures) files.now.items }
-        ensures { AreCounted (CameOf I.to_come I.can_fail room) (StopsAt room) files.entry.now.items files.exit.now.items }
-    { count_list(alloc, keys, room, files.as_mut_slice()) };
+        ensures { AreCounted (CameOf I.to_come I.can_fail room keeps_sessions) (StopsAt room) files.entry.now.items files.exit.now.items }
+    { count_list(alloc, keys, room, keeps_sessions, files.as_mut_slice()) };
     thread::for_each_mut(rt, lists.as_mut_slice(), feeders, &count);
 }
 
@@ -147,6 +157,7 @@ fn take_files<I: Drop>(
     requires placed { (k : ℕ) → k < files → IsPlaced feeders (map (λ v. v.items) lists.items) k }
     requires explained { AreExplained (StopsAt room) feeders files (count_in feeders (map (λ v. v.items) lists.items)) }
     ensures taken { IfOk result (λ counts. AreTaken files (count_in feeders (map (λ v. v.items) lists.items)) counts.items) }
+    ensures room { IfOk result (λ counts. sum_by (λ c. c.count) counts.items ≤ room) }
     ensures fault { IfErr result (IsTakeFault room files (count_in feeders (map (λ v. v.items) lists.items))) }
 {
     let mut counts = Vec::with_capacity(alloc, files as usize)?;
@@ -160,13 +171,14 @@ fn take_files<I: Drop>(
     Ok(counts)
 }
 
-/// Counts the records of each file, several at once, and takes the counts in the order of the files. A fault is that of the first file
-/// that has one, or with which there are more records than all files may have together.
+/// Counts the records of each file, several at once, and takes the counts in the order of the files. Their sessions are kept or not. A
+/// fault is that of the first file that has one, or with which there are more records than all files may have together.
 pub(crate) fn count_sources<R: Threads + Sync, I: Input + Send>(
     rt: &R,
     alloc: Global,
     keys: RandomState,
     room: Room,
+    keeps_sessions: bool,
     sources: Vec<Source<I>>,
     feeders: usize,
 ) -> Result<Vec<ConnectSums>, RunFault>
@@ -176,6 +188,8 @@ pub(crate) fn count_sources<R: Threads + Sync, I: Input + Send>(
     requires readable { All (IsReadable I.failures) sources.items }
     ensures whole { IfOk result (λ counts. (inputs : List Told) → Tell I.to_come sources.items inputs → AreCountedIn room inputs counts.items) }
     ensures few { IfOk result (λ counts. length counts.items ≤ HOST_LIMIT) }
+    ensures kept { IfOk result (λ counts. All (λ c. c.keeps_sessions ≡ keeps_sessions) counts.items) }
+    ensures room { IfOk result (λ counts. sum_by (λ c. c.count) counts.items ≤ room) }
     ensures cause { IfErr result (λ f. (inputs : List Told) → Tell I.to_come sources.items inputs → IsReadCause room inputs f) }
     ensures refused { IfErr result (λ f. (callers : ℕ) → IsLoginRefusal I.can_fail room callers sources.items f) }
     ensures unprinted { IfErr result IsUnprinted }
@@ -183,6 +197,6 @@ pub(crate) fn count_sources<R: Threads + Sync, I: Input + Send>(
     let files = sources.len();
     let feeders = busy_feeders(feeders, files);
     let mut lists = deal(alloc, sources, feeders)?;
-    count_lists(rt, alloc, keys, room, &mut lists, feeders);
+    count_lists(rt, alloc, keys, room, keeps_sessions, &mut lists, feeders);
     take_files(alloc, room, lists, feeders, files as u32)
 }

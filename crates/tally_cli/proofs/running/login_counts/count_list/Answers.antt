@@ -20,7 +20,7 @@ loop-at-preserved g c =
     let ts = c.args.files.now in
     let us = c.loop-at.files in
     let at = c.loop-at.at in
-    let came = CameOf g.I.Input.to_come g.I.Input.can_fail c.args.room in
+    let came = CameOf g.I.Input.to_come g.I.Input.can_fail c.args.room c.args.keeps_sessions in
     let x : LoginFile g.row.I.Denot = get_or us at c.index-files-at.result in
     let near : at < length ts = search rules in
     let is : x ≡ get_or us at x = get_or_default us at c.index-files-at.result x (omega (arith, near, before.to.length_is)) in
@@ -34,7 +34,7 @@ loop-at-preserved g c =
 
 pub returns-after-loop-at : goal.returns-after-loop-at
 returns-after-loop-at g c =
-    let came = CameOf g.I.Input.to_come g.I.Input.can_fail c.args.room in
+    let came = CameOf g.I.Input.to_come g.I.Input.can_fail c.args.room c.args.keeps_sessions in
     let before = c.loop-at.invariant in
     counted_all came (StopsAt c.args.room) (λ s. tt) g.I.Input.failures c.args.files.now c.loop-at.at c.requires c.loop-at.files before.to (search rules) before.sums
 
@@ -44,7 +44,7 @@ returns-then-not-count_file g c =
     let ts = c.args.files.now in
     let us = c.loop-at.files in
     let at = c.loop-at.at in
-    let came = CameOf g.I.Input.to_come g.I.Input.can_fail c.args.room in
+    let came = CameOf g.I.Input.to_come g.I.Input.can_fail c.args.room c.args.keeps_sessions in
     let x : LoginFile g.row.I.Denot = get_or us at c.index-files-at.result in
     let u = c.count_file.new.file in
     let near : at < length ts = search rules in

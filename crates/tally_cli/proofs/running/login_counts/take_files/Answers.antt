@@ -1,7 +1,9 @@
-use Rattle.std.proofs.Common.{rules, arith, map, refl, subst, sym, ◌∙◌, ◌⊎◌, ◌+◌, ◌≤◌}
+use Rattle.std.proofs.Common.{rules, ap, arith, map, refl, subst, sym, ◌∙◌, ◌⊎◌, ◌+◌, ◌≤◌}
+use Rattle.std.specs.Prelude.{sum_by}
+use Rattle.tally_sessions.specs.ConnectSums.{Counted}
 use Rattle.tally_cli.specs.inside.Files.{HasSums, IsFault, count_in}
 use Rattle.tally_cli.specs.inside.LoginCounts.{AreTaken}
-use Rattle.tally_cli.proofs.LoginCounts.{all_taken, counted_more, counted_none, take_fault, taken_more, tried}
+use Rattle.tally_cli.proofs.LoginCounts.{all_taken, counted_more, counted_none, sum_more, take_fault, taken_more, tried}
 use Rattle.tally_cli.proofs.Reported.{at_fault}
 use Rattle.tally_cli.proofs.running.login_counts.take_files.Goals as goal
 
@@ -13,6 +15,7 @@ loop-host-init g c =
       placed = c.requires.placed;
       left = λ k l. refl;
       taken = record { length_is = search rules; each = λ k d l. absurd (omega (arith, l)) };
+      sum = search rules;
       counted = sym (counted_none at);
       few = omega arith;
       capacity = search rules;
@@ -49,6 +52,7 @@ loop-host-preserved g c =
       left = λ k l. c.take_count-count.ensures.others k (λ same. omega (arith, same, l)) ∙ before.left k (omega (arith, l));
       taken = subst (AreTaken (host + 1) at) (sym c.push_reserved.ensures.items)
           (taken_more c.args.room c.args.files at host c.loop-host-test.true c.take_count-count.result is c.loop-host.counts.items before.taken c.in_ok-sums.sums own);
+      sum = ap (sum_by (λ (s : Counted). s.count)) c.push_reserved.ensures.items ∙ sum_more c.loop-host.counts.items c.in_ok-sums.sums c.loop-host.counted _ before.sum c.len.ensures.count;
       counted = counted_more c.args.room c.args.files at host c.loop-host-test.true c.take_count-count.result is c.loop-host.counts.items before.taken c.in_ok-sums.sums c.loop-host.counted _ own before.counted (omega (arith, c.len.ensures));
       few = omega (arith, c.in_ok-sums.ensures.few, c.len.ensures);
       capacity = search rules;

@@ -1,7 +1,9 @@
-use Rattle.std.proofs.Common.{◌+◌, length, map, rules, subst, sym}
+use Rattle.std.proofs.Common.{◌≡◌, ◌∙◌, ◌+◌, ◌≤◌, true, arith, length, map, rules, subst, sym}
 use Rattle.std.specs.List.{All}
+use Rattle.std.specs.Prelude.{sum_by}
 use Rattle.tally_print.specs.Output.{AppendsPrefix}
-use Rattle.tally_sessions.specs.ConnectSums.{AreCountsOf}
+use Rattle.tally_sessions.specs.ConnectSums.{AreCountsOf, Counted}
+use Rattle.tally_sessions.specs.declared.sessions.TheConstants.{ENTRY_LIMIT}
 use Rattle.tally_cli.specs.Output.{login_entries, proc_entries}
 use Rattle.tally_cli.specs.Runs.{IsGood, Told, records_told}
 use Rattle.tally_cli.specs.inside.LoginCounts.{IsLoginRefusal}
@@ -14,8 +16,15 @@ pub returns-in_err-counts-clause-failed : goal.returns-in_err-counts-clause-fail
 returns-in_err-counts-clause-failed g c =
     let found = c.in_err-counts.field-0.0 in
     at_fault _ c.from_residual.result found (search rules) (λ apart together.
-    let own = subst (λ r. IsLoginRefusal g.I.Input.can_fail r (length c.args.sources.items + c.args.job.now.askers) c.args.sources.items found) c.room_for.ensures (c.in_err-counts.ensures.refused (length c.args.sources.items + c.args.job.now.askers)) in
-    failed_unwritten own.allowed own.named own.full own.read (λ inputs tell. subst (λ r. IsReadCause r inputs found) c.room_for.ensures (c.in_err-counts.ensures.cause inputs tell)))
+    let own = subst (λ r. IsLoginRefusal g.I.Input.can_fail r (length c.args.sources.items + c.args.job.now.askers) c.args.sources.items found) c.room_for-room.ensures (c.in_err-counts.ensures.refused (length c.args.sources.items + c.args.job.now.askers)) in
+    failed_unwritten own.allowed own.named own.full own.read (λ inputs tell. subst (λ r. IsReadCause r inputs found) c.room_for-room.ensures (c.in_err-counts.ensures.cause inputs tell)))
+
+pub print_counts-requires-clause-room : goal.print_counts-requires-clause-room
+print_counts-requires-clause-room g c = subst (λ cs. sum_by (λ (x : Counted). x.count) cs ≤ ENTRY_LIMIT) (sym c.as_slice.ensures.value) (omega (arith, c.in_ok-counts.ensures.room, c.room_for-room.ensures, c.requires.runnable.few_millions))
+
+pub print_counts-requires-clause-kept : goal.print_counts-requires-clause-kept
+print_counts-requires-clause-kept g c = λ days. subst (All (λ (x : Counted). x.keeps_sessions ≡ true)) (sym c.as_slice.ensures.value)
+    (subst (λ k. All (λ (x : Counted). x.keeps_sessions ≡ k) c.in_ok-counts.counts.items) (c.is_by_day-by_day.ensures ∙ days) c.in_ok-counts.ensures.kept)
 
 pub returns-in_err-print_counts-clause-failed : goal.returns-in_err-print_counts-clause-failed
 returns-in_err-print_counts-clause-failed g c =
@@ -26,7 +35,7 @@ returns-in_err-print_counts-clause-failed g c =
     let procs = proc_entries (map records_told inputs) in
     let counts = subst (λ cs. AreCountsOf cs logins) (sym c.as_slice.ensures.value) counted.counts in
     let same = plain_printed c.args.clock.now apart c.args.job.now kinds logins procs together.0 together.1 in
-    (subst (λ r. All (IsGood r) inputs) c.room_for.ensures counted.good, λ told. subst (AppendsPrefix _ _) same ((c.in_err-print_counts.ensures.writes kinds logins procs counts).prefix told))))
+    (subst (λ r. All (IsGood r) inputs) c.room_for-room.ensures counted.good, λ told. subst (AppendsPrefix _ _) same ((c.in_err-print_counts.ensures.writes kinds logins procs counts).prefix told))))
 
 pub returns-clause-whole : goal.returns-clause-whole
 returns-clause-whole g c = on_ok_always c.finish.result (λ apart together. record {
@@ -39,7 +48,7 @@ returns-clause-whole g c = on_ok_always c.finish.result (λ apart together. reco
       let procs = proc_entries (map records_told inputs) in
       let counts = subst (λ cs. AreCountsOf cs logins) (sym c.as_slice.ensures.value) counted.counts in
       let same = plain_printed c.args.clock.now apart c.args.job.now kinds logins procs together.0 together.1 in
-      record { good = subst (λ r. All (IsGood r) inputs) c.room_for.ensures counted.good; written = printed_whole (c.in_ok-print_counts.ensures.writes kinds logins procs counts) c.finish.ensures.writes same };
+      record { good = subst (λ r. All (IsGood r) inputs) c.room_for-room.ensures counted.good; written = printed_whole (c.in_ok-print_counts.ensures.writes kinds logins procs counts) c.finish.ensures.writes same };
 })
 
 pub returns-clause-failed : goal.returns-clause-failed
@@ -51,4 +60,4 @@ returns-clause-failed g c =
     let procs = proc_entries (map records_told inputs) in
     let counts = subst (λ cs. AreCountsOf cs logins) (sym c.as_slice.ensures.value) counted.counts in
     let same = plain_printed c.args.clock.now apart c.args.job.now kinds logins procs together.0 together.1 in
-    (subst (λ r. All (IsGood r) inputs) c.room_for.ensures counted.good, λ told. whole_prefix _ _ _ (printed_whole (c.in_ok-print_counts.ensures.writes kinds logins procs counts) c.finish.ensures.writes same told))))
+    (subst (λ r. All (IsGood r) inputs) c.room_for-room.ensures counted.good, λ told. whole_prefix _ _ _ (printed_whole (c.in_ok-print_counts.ensures.writes kinds logins procs counts) c.finish.ensures.writes same told))))
