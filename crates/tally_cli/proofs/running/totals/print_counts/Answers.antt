@@ -1,4 +1,4 @@
-use Rattle.std.proofs.Common.{◌≡◌, [], ◌∷◌, ℤ, Bool, FitsSigned, IsTrue, List, ap, refl, rules, subst, sym, to_z-of_z, w32}
+use Rattle.std.proofs.Common.{◌≡◌, [], ◌∷◌, ℤ, Bool, FitsSigned, List, ap, refl, rules, subst, sym, to_z-of_z, w32}
 use Rattle.std.proofs.lemmas.Result.{IfOk-weaker}
 use Rattle.tally_book.specs.Answers.{IsAnswerOfCounts, answer_of}
 use Rattle.tally_book.specs.declared.question.Answer.{Answer}
@@ -12,7 +12,7 @@ use Rattle.tally_sessions.specs.Days.{local}
 use Rattle.tally_sessions.specs.declared.entry.Entry.{Entry}
 use Rattle.tally_usage.specs.declared.entry.ProcEntry.{ProcEntry}
 use Rattle.tally_cli.specs.Output.{form_text, questions_of, report_text}
-use Rattle.tally_cli.specs.inside.LoginCounts.{IsOfAllSessions, is_by_day}
+use Rattle.tally_cli.specs.inside.LoginCounts.{IsOfAllSessions}
 use Rattle.tally_cli.proofs.Asked.{report_is}
 use Rattle.tally_cli.proofs.running.totals.print_counts.Goals as goal
 
@@ -24,9 +24,6 @@ text_of_answer clock job kinds logins procs by_day by_user choice a is value =
     report_is clock clock job kinds (questions.Connect by_day by_user job.offset choice job.until ∷ []) (a ∷ []) logins procs refl
     (subst (λ r. (questions.Connect by_day by_user job.offset choice job.until ∷ []) ≡ questions_of r job.offset kinds job.until) (sym is) refl)
     (ap (λ x. x ∷ []) value)
-
-pub connect_of_counts-answer-requires-clause-kept : goal.connect_of_counts-answer-requires-clause-kept
-connect_of_counts-answer-requires-clause-kept g c = λ days. c.requires.kept (subst (λ r. IsTrue (is_by_day r)) (sym c.in-Connect.is) days)
 
 pub returns-clause-writes : goal.returns-clause-writes
 returns-clause-writes g c = λ kinds logins procs counts.

@@ -1,9 +1,7 @@
-use Rattle.std.proofs.Common.{◌≡◌, ◌∙◌, ◌+◌, ◌≤◌, true, arith, length, map, rules, subst, sym}
+use Rattle.std.proofs.Common.{◌+◌, length, map, rules, subst, sym}
 use Rattle.std.specs.List.{All}
-use Rattle.std.specs.Prelude.{sum_by}
 use Rattle.tally_print.specs.Output.{AppendsPrefix}
-use Rattle.tally_sessions.specs.ConnectSums.{AreCountsOf, Counted}
-use Rattle.tally_sessions.specs.declared.sessions.TheConstants.{ENTRY_LIMIT}
+use Rattle.tally_sessions.specs.ConnectSums.{AreCountsOf}
 use Rattle.tally_cli.specs.Output.{login_entries, proc_entries}
 use Rattle.tally_cli.specs.Runs.{IsGood, Told, records_told}
 use Rattle.tally_cli.specs.inside.LoginCounts.{IsLoginRefusal}
@@ -18,13 +16,6 @@ returns-in_err-counts-clause-failed g c =
     at_fault _ c.from_residual.result found (search rules) (λ apart together.
     let own = subst (λ r. IsLoginRefusal g.I.Input.can_fail r (length c.args.sources.items + c.args.job.now.askers) c.args.sources.items found) c.room_for-room.ensures (c.in_err-counts.ensures.refused (length c.args.sources.items + c.args.job.now.askers)) in
     failed_unwritten own.allowed own.named own.full own.read (λ inputs tell. subst (λ r. IsReadCause r inputs found) c.room_for-room.ensures (c.in_err-counts.ensures.cause inputs tell)))
-
-pub print_counts-requires-clause-room : goal.print_counts-requires-clause-room
-print_counts-requires-clause-room g c = subst (λ cs. sum_by (λ (x : Counted). x.count) cs ≤ ENTRY_LIMIT) (sym c.as_slice.ensures.value) (omega (arith, c.in_ok-counts.ensures.room, c.room_for-room.ensures, c.requires.runnable.few_millions))
-
-pub print_counts-requires-clause-kept : goal.print_counts-requires-clause-kept
-print_counts-requires-clause-kept g c = λ days. subst (All (λ (x : Counted). x.keeps_sessions ≡ true)) (sym c.as_slice.ensures.value)
-    (subst (λ k. All (λ (x : Counted). x.keeps_sessions ≡ k) c.in_ok-counts.counts.items) (c.is_by_day-by_day.ensures ∙ days) c.in_ok-counts.ensures.kept)
 
 pub returns-in_err-print_counts-clause-failed : goal.returns-in_err-print_counts-clause-failed
 returns-in_err-print_counts-clause-failed g c =
