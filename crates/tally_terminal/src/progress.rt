@@ -1,6 +1,6 @@
 //! How far a run is, in a line on a terminal that is gone before the report is printed.
 ghost use Rattle.std.specs.Prelude.{◌≡◌, ◌+◌, ◌-◌, ◌<◌, ◌^◌, None, false, min};
-ghost use Rattle.tally_terminal.specs.Progress.{record_size};
+ghost use Rattle.tally_terminal.specs.Progress.{followed_file, followed_path, record_size};
 ghost use Rattle.tally_terminal.specs.declared.shown.ErrorsTo.TheVariants as to_where;
 
 use crate::shown::{ErrorsTo, printed};
@@ -140,7 +140,9 @@ impl<'a, R: Clock + Eprint, F: Read + Drop> Followed<'a, R, F> {
         kind: Option<Kind>,
         path: &'a str,
     ) -> Followed<'a, R, F>
-        ensures file { result.file ≡ file }
+        ensures file { followed_file result ≡ file }
+        ensures path { followed_path result ≡ path.now }
+        ensures kind { result.line.kind ≡ kind }
         ensures bytes { result.line.bytes ≡ 0 }
         ensures due { result.progress.due ≡ progress.now.due }
     {
