@@ -1,3 +1,2 @@
+mod FirstFiles
 mod FrontLemmas
-mod NamedFiles
-mod SameKinds

@@ -1,5 +1,7 @@
 //! What a command line asks to report: its clock, its moments and its names of users, worked out.
 ghost use Rattle.std.specs.Prelude.{◌≡◌, IfErr, IfOk, None, Ok, Err};
+ghost use Rattle.std.specs.Process.{exit_status};
+ghost use Rattle.tally.specs.Statuses.{IsRefusal};
 ghost use Rattle.tally_clock.specs.Rows.{utc};
 ghost use Rattle.tally_line.specs.Jobs.{IsRunnable, TakesUntil};
 ghost use Rattle.tally_line.specs.Settled.{Settles, SettlesChoice};
@@ -38,7 +40,8 @@ pub(crate) fn clock_for<R>(rt: &R, to: ErrorsTo, zone: Option<&String>) -> Resul
 where
     R: Files + Eprint + AllocGlobal,
     R::File: Drop,
-    ensures { zone.entry ≡ None → result ≡ Ok utc }
+    ensures utc { zone.entry ≡ None → result ≡ Ok utc }
+    ensures status { IfErr result IsRefusal }
 {
     let Some(word) = zone else {
         return Ok(Clock::utc(rt.alloc()));
@@ -55,6 +58,7 @@ pub(crate) fn job_for<R: Eprint>(rt: &R, asked: Asked<'_>, clock: &Clock) -> Res
     requires until { TakesUntil asked.job.now.report asked.times.now.until }
     ensures settled { IfOk result (λ job. Settles (local clock.now asked.entry.job.now.offset) asked.entry.now asked.entry.times.now asked.entry.job.now (Ok job)) }
     ensures runnable { IfOk result IsRunnable }
+    ensures status { IfErr result (λ status. exit_status status ≡ 2) }
     ensures refused { IfErr result (λ _. (found : TimesFault) × Settles (local clock.now asked.entry.job.now.offset) asked.entry.now asked.entry.times.now asked.entry.job.now (Err found)) }
 {
     match settle(asked.job, asked.times, clock, asked.now) {
@@ -67,6 +71,7 @@ pub(crate) fn job_for<R: Eprint>(rt: &R, asked: Asked<'_>, clock: &Clock) -> Res
 fn users_fault<R: Files + Eprint>(rt: &R, to: ErrorsTo, path: &str, found: UsersFault) -> ExitCode
 where
     R::File: Drop,
+    ensures { exit_status result ≡ 1 }
 {
     match found {
         UsersFault::Memory => fault(rt, FAULT, Memory),
@@ -86,7 +91,8 @@ where
     R: Files + Input + Eprint + AllocGlobal,
     R::File: Drop,
     R::Reader: Drop,
-    ensures { path.entry ≡ None → result ≡ Ok None }
+    ensures none { path.entry ≡ None → result ≡ Ok None }
+    ensures status { IfErr result (λ status. exit_status status ≡ 1) }
 {
     let Some(path) = path else {
         return Ok(None);
@@ -114,6 +120,7 @@ pub(crate) fn choice_for<R: Eprint>(
     clock: &Clock,
 ) -> Result<ProcChoice, ExitCode>
     ensures settled { IfOk result (λ choice. SettlesChoice (local clock.now asked.entry.job.now.offset) asked.entry.now asked.entry.times.now asked.entry.usage.now.uids (Ok choice)) }
+    ensures status { IfErr result (λ status. exit_status status ≡ 2) }
     ensures refused { IfErr result (λ _. (found : TimesFault) × SettlesChoice (local clock.now asked.entry.job.now.offset) asked.entry.now asked.entry.times.now asked.entry.usage.now.uids (Err found)) }
 {
     let uids = asked.usage.uids;

@@ -1,5 +1,6 @@
 //! The check of files before a report of them is believed.
-ghost use Rattle.std.specs.Prelude.{◌≡◌, ◌++◌, OnOk};
+ghost use Rattle.std.specs.Prelude.{◌≡◌, ◌≤◌, ◌++◌, IfErr, OnOk, if◌then◌else◌};
+ghost use Rattle.std.specs.Process.{exit_status};
 ghost use Rattle.tally.specs.Checks.{gap_text, head_text, with_found};
 ghost use Rattle.tally_sessions.specs.Days.{IsOffset, local};
 
@@ -31,6 +32,7 @@ const DOUBTFUL: u8 = 3;
 fn not_checked<R: Files + Eprint>(rt: &R, to: ErrorsTo, path: &str, found: NotChecked) -> ExitCode
 where
     R::File: Drop,
+    ensures { exit_status result ≡ 1 }
 {
     let shown = Shown::new(path, to);
     match found {
@@ -109,6 +111,7 @@ where
     R::File: Drop,
     R::Reader: Drop,
     requires { IsOffset asked.now.offset }
+    ensures { IfErr result (λ status. exit_status status ≡ 1) }
 {
     let checked = match check_path(rt, progress, keys, path) {
         Ok(checked) => checked,
@@ -142,6 +145,7 @@ where
     R::File: Drop,
     R::Reader: Drop,
     requires { IsOffset asked.now.offset }
+    ensures { IfErr result (λ status. exit_status status ≡ 1) }
 {
     if push_head(text, asked).is_err() {
         return Err(fault(rt, FAULT, Memory));
@@ -157,15 +161,26 @@ where
     Ok(is_doubtful)
 }
 
+/// The status of a check whose findings were printed.
+fn status_of(is_doubtful: bool) -> ExitCode
+    ensures { exit_status result ≡ (if is_doubtful then 3 else 0) }
+{
+    if is_doubtful {
+        ExitCode::from(DOUBTFUL)
+    } else {
+        ExitCode::SUCCESS
+    }
+}
+
 /// Prints what was found. Where whoever read the output has gone, nothing is said of it.
 fn print_found<R>(rt: &R, progress: Progress<'_, R>, text: &[u8], is_doubtful: bool) -> ExitCode
 where
     R: Print + Eprint + MachineClock,
+    ensures { exit_status result ≤ 3 }
 {
     let mut out = Writing::new(Watched::new(io::writer(rt), progress));
     match print_text(text, &mut out) {
-        Ok(()) if is_doubtful => ExitCode::from(DOUBTFUL),
-        Ok(()) => ExitCode::SUCCESS,
+        Ok(()) => status_of(is_doubtful),
         Err(_) if out.writer().is_reader_gone() => ExitCode::from(FAULT),
         Err(_) => fault(rt, FAULT, RunFault::Write),
     }
@@ -179,6 +194,7 @@ where
     R::File: Drop,
     R::Reader: Drop,
     requires { IsOffset asked.now.offset }
+    ensures { exit_status result ≤ 3 }
 {
     let keys = match RandomState::new(rt) {
         Ok(keys) => keys,
@@ -203,6 +219,7 @@ where
     R::File: AsRawFd + Drop,
     R::Reader: Drop,
     requires { IsOffset asked.now.offset }
+    ensures { exit_status result ≤ 3 }
 {
     match hold_closed_streams(rt) {
         Ok(_held) => check_files(rt, to, asked),

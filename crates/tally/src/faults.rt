@@ -1,7 +1,9 @@
 //! Fault lines on standard error, and the statuses. Where standard error fails, the status
 //! still shows it.
 ghost use Rattle.std.specs.Prelude.{◌≡◌, ℕ, length};
+ghost use Rattle.std.specs.Process.{exit_status};
 ghost use Rattle.tally.specs.Faults.{is_other_login};
+ghost use Rattle.tally.specs.Statuses.{zone_status};
 ghost use Rattle.tally_cli.specs.Runs.{IsNamed};
 ghost use Rattle.tally_cli.specs.Usages.{IsNamedFile};
 
@@ -22,7 +24,9 @@ pub(crate) const FAULT: u8 = 1;
 pub(crate) const REFUSED: u8 = 2;
 
 /// Prints a fault of the whole run.
-pub(crate) fn fault<R: Eprint, F: Display + Drop>(rt: &R, status: u8, found: F) -> ExitCode {
+pub(crate) fn fault<R: Eprint, F: Display + Drop>(rt: &R, status: u8, found: F) -> ExitCode
+    ensures { exit_status result ≡ status }
+{
     let _ = eprintln!(rt; "tally: {found}");
     ExitCode::from(status)
 }
@@ -33,19 +37,25 @@ pub(crate) fn file_fault<R: Eprint, F: Display + Drop>(
     status: u8,
     path: Shown<'_>,
     found: F,
-) -> ExitCode {
+) -> ExitCode
+    ensures { exit_status result ≡ status }
+{
     let _ = eprintln!(rt; "tally: {path}: {found}");
     ExitCode::from(status)
 }
 
 /// Prints that a file could not be opened.
-pub(crate) fn not_opened<R: Eprint>(rt: &R, path: Shown<'_>) -> ExitCode {
+pub(crate) fn not_opened<R: Eprint>(rt: &R, path: Shown<'_>) -> ExitCode
+    ensures { exit_status result ≡ 1 }
+{
     file_fault(rt, FAULT, path, "cannot be opened")
 }
 
 /// Prints why a database gives no login records. It stays apart, so that a run needs no stack for it.
 #[inline(never)]
-pub(crate) fn database_fault<R: Eprint>(rt: &R, path: Shown<'_>, found: DatabaseFault) -> ExitCode {
+pub(crate) fn database_fault<R: Eprint>(rt: &R, path: Shown<'_>, found: DatabaseFault) -> ExitCode
+    ensures { exit_status result ≡ 1 }
+{
     match found {
         DatabaseFault::Memory => fault(rt, FAULT, Memory),
         found => file_fault(rt, FAULT, path, found),
@@ -53,12 +63,9 @@ pub(crate) fn database_fault<R: Eprint>(rt: &R, path: Shown<'_>, found: Database
 }
 
 /// Prints why a word names no zone.
-pub(crate) fn zone_fault<R: Eprint>(
-    rt: &R,
-    to: ErrorsTo,
-    word: &str,
-    found: ZoneFault,
-) -> ExitCode {
+pub(crate) fn zone_fault<R: Eprint>(rt: &R, to: ErrorsTo, word: &str, found: ZoneFault) -> ExitCode
+    ensures { exit_status result ≡ zone_status found }
+{
     let shown = Shown::new(word, to);
     match found {
         ZoneFault::Memory => fault(rt, FAULT, Memory),
@@ -69,13 +76,17 @@ pub(crate) fn zone_fault<R: Eprint>(
 }
 
 /// Prints why moments are refused, as it is printed of a refused command line.
-pub(crate) fn times_fault<R: Eprint>(rt: &R, found: TimesFault) -> ExitCode {
+pub(crate) fn times_fault<R: Eprint>(rt: &R, found: TimesFault) -> ExitCode
+    ensures { exit_status result ≡ 2 }
+{
     let _ = eprint!(rt; "{found}");
     ExitCode::from(REFUSED)
 }
 
 /// Prints the text of a refused command line.
-pub(crate) fn usage<R: Eprint>(rt: &R, text: &str) -> ExitCode {
+pub(crate) fn usage<R: Eprint>(rt: &R, text: &str) -> ExitCode
+    ensures { exit_status result ≡ 2 }
+{
     let _ = rt.eprint(text);
     ExitCode::from(REFUSED)
 }
@@ -94,7 +105,9 @@ fn is_other_login(found: &FeedFault) -> bool
 }
 
 /// Prints why a file was not read to its end.
-fn read_fault<R: Eprint>(rt: &R, path: Shown<'_>, found: FeedFault) -> ExitCode {
+fn read_fault<R: Eprint>(rt: &R, path: Shown<'_>, found: FeedFault) -> ExitCode
+    ensures { exit_status result ≡ 1 }
+{
     if is_other_login(&found) {
         return file_fault(rt, FAULT, path, "no file of failed logins");
     }
@@ -111,6 +124,7 @@ pub(crate) fn run_fault<R: Eprint>(
     is_reader_gone: bool,
 ) -> ExitCode
     requires { (callers : ℕ) × IsNamed (length files.now) callers found }
+    ensures { exit_status result ≡ 1 }
 {
     match found {
         RunFault::File { host, fault } => {
@@ -131,6 +145,7 @@ pub(crate) fn usage_fault<R: Eprint>(
     is_reader_gone: bool,
 ) -> ExitCode
     requires { IsNamedFile (length files.now) found }
+    ensures { exit_status result ≡ 1 }
 {
     match found {
         UsageFault::File { host, fault } => {

@@ -1,4 +1,6 @@
 //! Hints on a terminal, after a fault line or a report.
+ghost use Rattle.std.specs.Prelude.{◌≡◌};
+ghost use Rattle.std.specs.Process.{exit_status};
 
 use crate::faults::not_opened;
 use crate::looking::{about_unread, looks_of};
@@ -81,6 +83,7 @@ where
 pub(crate) fn hinted_not_opened<R: Files + Eprint>(rt: &R, to: ErrorsTo, path: &str) -> ExitCode
 where
     R::File: Drop,
+    ensures { exit_status result ≡ 1 }
 {
     let status = not_opened(rt, Shown::new(path, to));
     hint_unread(rt, to, path);

@@ -11,6 +11,7 @@ mod limited;
 mod looking;
 mod now;
 mod opened;
+mod opening;
 mod program;
 mod reporting;
 mod room;

@@ -1,4 +1,7 @@
 //! The program over a runtime.
+ghost use Rattle.std.specs.Prelude.{◌≤◌};
+ghost use Rattle.std.specs.Process.{exit_status};
+ghost use Rattle.tally.specs.Statuses.{IsRefusal};
 ghost use Rattle.tally_line.specs.Jobs.{IsRunnable, TakesUntil};
 
 use crate::asked::Asked;
@@ -35,6 +38,7 @@ where
         + Sync,
     R::File: AsRawFd + Drop + Send,
     R::Reader: Send,
+    ensures { exit_status result ≤ 3 }
 {
     let words = match words(rt) {
         Ok(words) => words,
@@ -69,7 +73,9 @@ where
     }
 }
 
-fn help<R: Print + Eprint>(rt: &R, text: &str) -> ExitCode {
+fn help<R: Print + Eprint>(rt: &R, text: &str) -> ExitCode
+    ensures { exit_status result ≤ 1 }
+{
     match rt.print(text) {
         Ok(()) => ExitCode::SUCCESS,
         Err(error) if error.kind() == io::ErrorKind::BrokenPipe => ExitCode::from(FAULT),
@@ -79,12 +85,9 @@ fn help<R: Print + Eprint>(rt: &R, text: &str) -> ExitCode {
 
 /// Prints the text of a refused command line. For a terminal it is the text for the words as they are
 /// shown, which are refused too.
-fn refused<R: Eprint + AllocGlobal>(
-    rt: &R,
-    to: ErrorsTo,
-    words: &[String],
-    text: &str,
-) -> ExitCode {
+fn refused<R: Eprint + AllocGlobal>(rt: &R, to: ErrorsTo, words: &[String], text: &str) -> ExitCode
+    ensures { IsRefusal result }
+{
     let ErrorsTo::Terminal = to else {
         return usage(rt, text);
     };
@@ -103,7 +106,9 @@ fn no_prefix<R: Eprint + AllocGlobal>(
     to: ErrorsTo,
     words: &[String],
     index: usize,
-) -> ExitCode {
+) -> ExitCode
+    ensures { IsRefusal result }
+{
     match file_word(rt.alloc(), words, index) {
         Ok(word) => {
             let shown = Shown::new(word.as_str(), to);
@@ -139,6 +144,7 @@ where
     R::Reader: Send,
     requires runnable { IsRunnable job.now }
     requires until { TakesUntil job.now.report times.now.until }
+    ensures { exit_status result ≤ 2 }
 {
     if let Some(found) = known_fault(times) {
         return times_fault(rt, found);

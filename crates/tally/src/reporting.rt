@@ -1,11 +1,14 @@
 //! The way to a report: its files, its clock and its names, and then the run.
+ghost use Rattle.std.specs.Prelude.{◌≤◌};
+ghost use Rattle.std.specs.Process.{exit_status};
 ghost use Rattle.tally_line.specs.Jobs.{IsRunnable, TakesUntil};
 
 use crate::asked::{Asked, choice_for, clock_for, files_apart, job_for, names_for};
 use crate::defaults::default_files;
 use crate::faults::{FAULT, database_fault, fault, not_opened};
 use crate::hints::hinted_not_opened;
-use crate::opened::{OpenFault, ROOT, hold_closed_streams, open_all};
+use crate::opened::{Opener, ROOT, hold_closed_streams};
+use crate::opening::{OpenFault, open_all};
 use crate::room::records_of;
 use crate::running::run_over;
 use std::hash::RandomState;
@@ -21,23 +24,25 @@ use tally_records::Memory;
 use tally_terminal::{ErrorsTo, Progress, Shown};
 
 /// Opens all files, and then reads them and prints the report in the time of a clock.
-fn report_on<R>(
-    rt: &R,
+fn report_on<'a, R>(
+    rt: &'a R,
     to: ErrorsTo,
     job: &Job,
     wanted: UsageWanted<'_>,
     keys: RandomState,
     clock: &Clock,
-    files: &[FileArg],
+    files: &'a [FileArg],
 ) -> ExitCode
 where
     R: Files + Input + Print + Eprint + MachineClock + AllocGlobal + Threads + Wait + Sync,
     R::File: Drop + Send,
     R::Reader: Send,
     requires { IsRunnable job.now }
+    ensures { exit_status result ≤ 1 }
 {
     let progress = Progress::new(rt, to);
-    let sources = match open_all(rt, rt.alloc(), &progress, files, records_of(job)) {
+    let most = records_of(job);
+    let sources = match open_all(&Opener { rt, most }, rt.alloc(), &progress, files) {
         Ok(sources) => sources,
         Err(OpenFault::Memory) => return fault(rt, FAULT, Memory),
         Err(OpenFault::NotOpened(path)) => return hinted_not_opened(rt, to, path),
@@ -62,6 +67,7 @@ where
     R::File: Drop + Send,
     R::Reader: Send,
     requires { IsRunnable job.now }
+    ensures { exit_status result ≤ 2 }
 {
     let choice = match choice_for(rt, asked, clock) {
         Ok(choice) => choice,
@@ -98,6 +104,7 @@ where
     R::Reader: Send,
     requires runnable { IsRunnable asked.job.now }
     requires until { TakesUntil asked.job.now.report asked.times.now.until }
+    ensures { exit_status result ≤ 2 }
 {
     let keys = match RandomState::new(rt) {
         Ok(keys) => keys,
@@ -130,6 +137,7 @@ where
     R::Reader: Send,
     requires runnable { IsRunnable asked.job.now }
     requires until { TakesUntil asked.job.now.report asked.times.now.until }
+    ensures { exit_status result ≤ 2 }
 {
     if !asked.files.is_empty() {
         return report(rt, to, asked);
@@ -160,6 +168,7 @@ where
     R::Reader: Send,
     requires runnable { IsRunnable asked.job.now }
     requires until { TakesUntil asked.job.now.report asked.times.now.until }
+    ensures { exit_status result ≤ 2 }
 {
     match hold_closed_streams(rt) {
         Ok(_held) => report_files(rt, to, asked),

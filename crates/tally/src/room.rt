@@ -1,6 +1,7 @@
 //! How many records a run takes, and which option takes more.
-ghost use Rattle.std.specs.Prelude.{◌≡◌, ◌*◌};
+ghost use Rattle.std.specs.Prelude.{◌≡◌, ◌<◌, ◌≤◌, ◌*◌, ◌/◌, IfSome};
 ghost use Rattle.tally_line.specs.Jobs.{IsRunnable};
+ghost use Rattle.tally_terminal.specs.Progress.{record_size};
 
 use crate::looking::size_of;
 use std::fmt::{self, Display, Formatter};
@@ -39,7 +40,9 @@ impl Display for Wider {
 }
 
 /// How many records of a kind so many bytes have.
-fn records_in(kind: Kind, size: u64) -> u64 {
+fn records_in(kind: Kind, size: u64) -> u64
+    ensures { result ≡ size / record_size kind }
+{
     match kind {
         Kind::Login | Kind::FailedLogin => size / LOGIN_SIZE as u64,
         Kind::Proc => size / PROC_SIZE as u64,
@@ -64,7 +67,10 @@ pub(crate) fn wider_room<R: Files>(
     millions: u32,
     kind: Kind,
     files: &[FileArg],
-) -> Option<Wider> {
+) -> Option<Wider>
+    ensures more { 0 < millions → IfSome result (λ wider. millions < wider.millions) }
+    ensures most { IfSome result (λ wider. wider.millions ≤ 16) }
+{
     let now = u64::from(millions);
     if now >= MOST_MILLIONS {
         return None;
