@@ -1,5 +1,5 @@
 -- Sources of the first files, and one more.
-use Rattle.std.proofs.Common.{◌≡◌, ◌<◌, ℕ, ◌+◌, List, [], ◌∷◌, ◌++◌, arith, length, inl, inr, sym, ap, subst, slice_index_or, ◌∙◌}
+use Rattle.std.proofs.Common.{◌≡◌, ◌<◌, ℕ, List, [], ◌∷◌, ◌++◌, arith, length, inl, inr, sym, ap, subst, slice_index_or, ◌∙◌}
 use Rattle.std.proofs.lemmas.Bool.{cases_lt}
 use Rattle.std.proofs.lemmas.List.{get_or_append_left, get_or_push, length_push}
 use Rattle.tally.specs.Opened.{AreOfFirst, FileSource, IsFirstRefused, IsRefusedAt, IsSourceAt}
