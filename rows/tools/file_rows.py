@@ -46,6 +46,8 @@ def add_rows(row, lines, U):
         'tally: b: cannot be opened\n', 1, {'a': ann})
     row('files-of-options-too-many', 'ac,ac -f,files', 'Files of -f count among the 128.', ['ac', *64 * ('-f', 'a'), *65 * 'a'], '',
         'tally: 129 callers, 1 to 128 are allowed\n', 1, {'a': ann})
+    row('file-of-the-203rd-word', 'ac,ac -f,files', 'The last of 101 files is read, and the others have no records.', ['ac', *100 * ('-f', 'e'), '-f', 'a'],
+        lines('total                        1.00'), files={'a': ann, 'e': b''})
     row('option-without-its-file', 'last,last -f', '-f wants a file.', ['last', 'a', '-f'], '', None, 2, {'a': ann})
     row('option-in-place-of-a-file', 'last,last -f,last -n', '-n is no file.', ['last', '-f', '-n', '1', 'a'], '', None, 2, {'a': ann})
     row('file-of-an-option-of-sa', 'sa', 'sa has no -f.', ['sa', '-f', 'f'], '', None, 2, {'f': b''})

@@ -25,6 +25,7 @@ from moment_rows import add_rows as add_moment_rows
 from moments import NO_RANGE
 from path_rows import add_rows as add_path_rows
 from people_rows import add_example as add_people_example, add_rows as add_people_rows
+from stream_rows import add_rows as add_stream_rows
 from usage_rows import add_example as add_usage_example, add_rows as add_usage_rows
 from wtmpdb_rows import add_example as add_wtmpdb_example, add_rows as add_wtmpdb_rows
 from zone_rows import BERLIN, add_rows as add_zone_rows
@@ -611,22 +612,7 @@ add_wtmpdb_rows(row, lines, U)
 
 # --- closed standard streams
 
-BESIDE = 'A file and standard input, with '
-for name, closed, about, stdout, stderr in (
-        ('standard-input-beside-a-file', None, 'all streams open.', lines('total                        2.00'), ''),
-        ('closed-input', '0', 'input closed: no file stands in for it.', '', 'tally: /dev/stdin: read failed\n'),
-        ('closed-output', '1', 'output closed.', '', 'tally: write failed\n'),
-        ('closed-error', '2', 'error closed.', lines('total                        2.00'), ''),
-        ('closed-input-and-output', '0 1', 'input and output closed.', '', 'tally: /dev/stdin: read failed\n'),
-        ('closed-input-and-error', '0 2', 'input and error closed.', '', ''),
-        ('closed-output-and-error', '1 2', 'output and error closed.', '', ''),
-        ('closed-streams', '0 1 2', 'all streams closed.', '', '')):
-    row(name, 'ac,files', BESIDE + about, ['ac', 'f', '/dev/stdin'], stdout, stderr, 0 if stdout else 1, {'f': ONE_HOUR},
-        stdin=ONE_HOUR, closed=closed)
-row('closed-input-that-is-not-named', 'ac', 'Who does not name standard input needs none.', ['ac', 'f'], TOTAL_ONE,
-    files={'f': ONE_HOUR}, closed='0')
-row('closed-output-named-as-a-file', 'ac,files', 'No file stands in for a closed output either.', ['ac', 'f', '/dev/fd/1'], '',
-    'tally: /dev/fd/1: read failed\n', 1, {'f': ONE_HOUR}, closed='1')
+add_stream_rows(row, lines, ONE_HOUR, TOTAL_ONE)
 
 # --- odd paths
 

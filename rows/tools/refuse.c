@@ -9,6 +9,7 @@
    write-less, write-one       the Nth write takes one byte less than it is given, or one byte
    random       the Nth call for random bytes fails
    clock        the Nth call for the time of the machine says a second before 1970
+   thread       none is refused; the file REFUSED is made where an Nth thread is started
    short        every read and write moves one byte
    read-last, write-last       so it is, and the Nth read or write fails by EIO
    Where a call was refused, the file REFUSED is made. Reads and writes of standard error are left alone.
@@ -18,6 +19,7 @@
 #include <dlfcn.h>
 #include <errno.h>
 #include <fcntl.h>
+#include <pthread.h>
 #include <stdlib.h>
 #include <string.h>
 #include <sys/time.h>
@@ -27,7 +29,7 @@
 enum { FROM = 1000003, TO = 1000033 };
 
 static const char *kind = "";
-static long at, times = 1, memory, reads, writes, randoms, clocks, signals;
+static long at, times = 1, memory, reads, writes, randoms, clocks, threads, signals;
 static int all_refused, signalled = -1;
 
 __attribute__((constructor)) static void begin(void) {
@@ -40,7 +42,7 @@ __attribute__((constructor)) static void begin(void) {
         if (*colon)
             times = strtol(colon + 1, NULL, 10);
     }
-    memory = reads = writes = randoms = clocks = 0;
+    memory = reads = writes = randoms = clocks = threads = 0;
 }
 
 static void mark(const char *name) {
@@ -143,6 +145,15 @@ time_t time(time_t *to) {
         real = (time_t (*)(time_t *))dlsym(RTLD_NEXT, "time");
     time_t found = refused("clock", ++clocks) ? -1 : real(NULL);
     return to ? *to = found : found;
+}
+
+int pthread_create(pthread_t *thread, const pthread_attr_t *how, void *(*work)(void *), void *given) {
+    static int (*real)(pthread_t *, const pthread_attr_t *, void *(*)(void *), void *);
+    if (!real)
+        real = (int (*)(pthread_t *, const pthread_attr_t *, void *(*)(void *), void *))dlsym(RTLD_NEXT, "pthread_create");
+    if (is("thread") && __atomic_add_fetch(&threads, 1, __ATOMIC_SEQ_CST) == at)
+        mark("REFUSED");
+    return real(thread, how, work, given);
 }
 
 ssize_t read(int fd, void *to, size_t size) {
