@@ -21,6 +21,14 @@ def writer_of(pipe, running):
     raise AssertionError('the pipe was not opened in a minute')
 
 
+def stands_for(stream, running):
+    """What has the number of a standard stream in a running program."""
+    try:
+        return os.readlink('/proc/%d/fd/%d' % (running.pid, stream))
+    except FileNotFoundError:
+        return None
+
+
 def close(streams):
     for stream in streams:
         os.close(stream)
@@ -34,7 +42,7 @@ def folders_for_closed_streams(place):
         running = subprocess.Popen((place.binary, 'ac', 'pipe'), cwd=place.folder, env={}, stdin=subprocess.DEVNULL, stdout=subprocess.DEVNULL,
                                    stderr=subprocess.DEVNULL, preexec_fn=lambda streams=closed: close(streams))
         writer = writer_of(pipe, running)
-        held = tuple(stream for stream in STREAMS if os.readlink('/proc/%d/fd/%d' % (running.pid, stream)) == '/')
+        held = tuple(stream for stream in STREAMS if stands_for(stream, running) == '/')
         os.write(writer, ONE_HOUR)
         os.close(writer)
         same((held, running.wait(timeout=120)), (closed, int(1 in closed)))
