@@ -30,5 +30,6 @@ pub mod Turns
 pub mod UsageRuns
 pub mod WorkedApart
 pub mod WorkedCounts
+pub mod WorkedOutputs
 pub mod WorkedRooms
 pub mod WorkedRows

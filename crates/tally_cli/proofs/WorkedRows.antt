@@ -1,19 +1,26 @@
 -- Worked examples, computed by the definitions.
-use Rattle.std.proofs.Common.{◌≡◌, List, [], ◌∷◌, ◌++◌, true, false, Ok, Err, Some, None, map, refl}
+use Rattle.std.proofs.Common.{◌≡◌, ⊎_elim, List, ℕ, [], ◌∷◌, ◌++◌, true, false, Ok, Err, Some, None, arith, inl, inr, map, refl}
 use Rattle.std.specs.Prelude.{pos}
 use Rattle.tally_book.specs.declared.question.Question.{Question}
 use Rattle.tally_book.specs.declared.question.Question.TheVariants as questions
+use Rattle.tally_book.specs.declared.fault.AskFault.TheVariants as ask
+use Rattle.tally_desk.specs.declared.fault.FeedFault.TheVariants as feed
 use Rattle.tally_records.specs.Choice.{every_login}
 use Rattle.tally_records.specs.declared.choice.LoginChoice.{LoginChoice}
+use Rattle.tally_records.specs.declared.login.LoginRecord.{LoginRecord}
 use Rattle.tally_records.specs.declared.period.Period.{Period}
+use Rattle.tally_records.specs.declared.process.ProcRecord.{ProcRecord}
+use Rattle.tally_records.specs.Records.{Logins, Procs, Records}
+use Rattle.tally_sessions.specs.declared.entry.Entry.{Entry}
+use Rattle.tally_usage.specs.declared.entry.ProcEntry.{ProcEntry}
 use Rattle.tally_records.specs.declared.batch.Kind.TheVariants.{FailedLogin, Login, Proc}
 use Rattle.tally_usage.specs.declared.order.Order.TheVariants as order
 use Rattle.tally_print.specs.declared.output.PrintFault.TheVariants as print
 use Rattle.tally_print.specs.declared.report_table.Table.TheVariants as tables
-use Rattle.tally_cli.specs.Output.{is_wanted, questions_of, table_of}
-use Rattle.tally_cli.specs.Runs.{callers_fault, failed_writes, fault_from}
+use Rattle.tally_cli.specs.Output.{is_wanted, login_entries, proc_entries, questions_of, table_of}
+use Rattle.tally_cli.specs.Runs.{IsWrongNumber, callers_fault, failed_writes, fault_from}
 use Rattle.tally_cli.specs.inside.Tasks.{asker_questions, choice_of}
-use Rattle.tally_cli.specs.declared.fault.RunFault.TheVariants.{Callers, Memory, Write}
+use Rattle.tally_cli.specs.declared.fault.RunFault.TheVariants.{Asker, Callers, File, Memory, Write}
 use Rattle.tally_line.specs.declared.job.Report.TheVariants as report
 
 -- what is chosen: times from 5 up to 9
@@ -67,7 +74,7 @@ one_question = refl
 wanted : is_wanted None Login ∷ is_wanted None Proc ∷ is_wanted (Some Login) Login ∷ is_wanted (Some Login) Proc ∷ is_wanted (Some Proc) Login ∷ is_wanted (Some Proc) Proc ∷ [] ≡ true ∷ true ∷ true ∷ false ∷ false ∷ true ∷ []
 wanted = refl
 
-failed_wanted : is_wanted None FailedLogin ∷ is_wanted (Some FailedLogin) FailedLogin ∷ is_wanted (Some FailedLogin) Login ∷ is_wanted (Some Login) FailedLogin ∷ is_wanted (Some Proc) FailedLogin ∷ [] ≡ true ∷ true ∷ false ∷ false ∷ false ∷ []
+failed_wanted : is_wanted None FailedLogin ∷ is_wanted (Some FailedLogin) FailedLogin ∷ is_wanted (Some FailedLogin) Login ∷ is_wanted (Some Login) FailedLogin ∷ is_wanted (Some Proc) FailedLogin ∷ is_wanted (Some FailedLogin) Proc ∷ [] ≡ true ∷ true ∷ false ∷ false ∷ false ∷ false ∷ []
 failed_wanted = refl
 
 -- each report but that of all is a table, and one of stays may have the seconds in its period
@@ -81,5 +88,42 @@ attempt_tables = refl
 print_faults : map fault_from (print.Memory ∷ print.Write ∷ []) ≡ Memory ∷ Write ∷ []
 print_faults = refl
 
-failures : map failed_writes (Ok tt ∷ Err Write ∷ Err Memory ∷ Err (Callers 0) ∷ []) ≡ 0 ∷ 1 ∷ 0 ∷ 0 ∷ []
+failures : map failed_writes (Ok tt ∷ Err Write ∷ Err Memory ∷ Err (Callers 0) ∷ Err (File 1 feed.Read) ∷ Err (Asker 2 ask.Memory) ∷ []) ≡ 0 ∷ 1 ∷ 0 ∷ 0 ∷ 0 ∷ 0 ∷ []
 failures = refl
+
+-- the record of a second
+abbrev login : ℕ → LoginRecord
+login second = record { kind = 7; line = []; user = []; remote = []; time = pos second }
+
+abbrev proc : ℕ → ProcRecord
+proc second = record { flag = 0; uid = 7; begin = second; user_ticks = 0; system_ticks = 0; real_ticks = 0; mem = 0; io = 0; comm = [] }
+
+-- login records of the first file and of the third, with process records of the second between them
+abbrev files : List Records
+files = Logins (login 5 ∷ login 3 ∷ []) ∷ Procs (proc 8 ∷ proc 2 ∷ []) ∷ Logins (login 4 ∷ []) ∷ []
+
+abbrev entry : ℕ → ℕ → Entry
+entry host second = record { host = host; item = login second }
+
+abbrev proc_entry : ℕ → ℕ → ProcEntry
+proc_entry host second = record { host = host; item = proc second }
+
+-- each record is stored under the number of its file, in the order of the files
+logins_stored : login_entries files ≡ entry 0 5 ∷ entry 0 3 ∷ entry 2 4 ∷ []
+logins_stored = refl
+
+procs_stored : proc_entries files ≡ proc_entry 1 8 ∷ proc_entry 1 2 ∷ []
+procs_stored = refl
+
+-- a run has one caller at least, and 128 at most
+no_caller : IsWrongNumber 0
+no_caller = inl refl
+
+too_many_callers : IsWrongNumber 129
+too_many_callers = inr (omega arith)
+
+one_caller : ¬ IsWrongNumber 1
+one_caller wrong = ⊎_elim (λ none. omega (arith, none)) (λ many. omega (arith, many)) wrong
+
+most_callers : ¬ IsWrongNumber 128
+most_callers wrong = ⊎_elim (λ none. omega (arith, none)) (λ many. omega (arith, many)) wrong
