@@ -12,7 +12,7 @@ use Rattle.tally_sessions.specs.declared.entry.Entry.{Entry}
 use Rattle.tally_print.specs.AttemptSections.{attempt_answers}
 use Rattle.tally_print.specs.AttemptTable.{attempt_fields, attempt_header, attempt_sum_fields, attempt_sum_header}
 use Rattle.tally_print.specs.AttemptText.{attempt_line, attempt_sum_line, attempts_text}
-use Rattle.tally_print.specs.ReportTable.{answer_rows, header}
+use Rattle.tally_print.specs.ReportTable.{answer_rows, header, report_rows}
 use Rattle.tally_print.specs.Sections.{sections}
 use Rattle.tally_print.specs.StayTable.{iso_moment}
 use Rattle.tally_print.specs.Tables.{csv_text}
@@ -66,6 +66,18 @@ fields = refl
 quoted_sums : csv_text (map attempt_sum_fields (sum (codes "root") (codes "a,b") 12 ∷ sum [] (codes "far") 1 ∷ [])) ≡ codes "root,\"a,b\",12\n,far,1\n"
 unfolding attempt_sum_fields digits escaped fields_text is_blank
 quoted_sums = refl
+
+-- the names of the columns stand once, and then the rows of each file
+table_of_two : report_rows Attempts utc (answers.Attempts (attempt (codes "root") [] (pos 501) ∷ attempt (codes "eve") [] (pos 500) ∷ []) None ∷ answers.Attempts (record (attempt (codes "ann") [] (pos 7)) { host = 2 } ∷ []) None ∷ [])
+    ≡ (codes "file" ∷ codes "user" ∷ codes "line" ∷ codes "remote" ∷ codes "time" ∷ codes "at" ∷ [])
+    ∷ (codes "2" ∷ codes "root" ∷ [] ∷ codes "203.0.113.7" ∷ codes "501" ∷ iso_moment (pos 501) utc ∷ []) ∷ (codes "2" ∷ codes "eve" ∷ [] ∷ codes "203.0.113.7" ∷ codes "500" ∷ iso_moment (pos 500) utc ∷ [])
+    ∷ (codes "3" ∷ codes "ann" ∷ [] ∷ codes "203.0.113.7" ∷ codes "7" ∷ iso_moment (pos 7) utc ∷ []) ∷ []
+unfolding attempt_header attempt_fields digits
+table_of_two = refl
+
+table_of_sums : report_rows AttemptSums utc (answers.AttemptSums (sum (codes "root") (codes "far") 3 ∷ sum [] [] 1 ∷ []) ∷ []) ≡ (codes "user" ∷ codes "remote" ∷ codes "attempts" ∷ []) ∷ (codes "root" ∷ codes "far" ∷ codes "3" ∷ []) ∷ ([] ∷ [] ∷ codes "1" ∷ []) ∷ []
+unfolding attempt_sum_header attempt_sum_fields digits
+table_of_sums = refl
 
 -- an answer to another kind of question has no rows
 of_another_kind : answer_rows Attempts utc (answers.AttemptSums (sum [] [] 1 ∷ [])) ∷ answer_rows AttemptSums utc (answers.Attempts [] None) ∷ [] ≡ [] ∷ [] ∷ []

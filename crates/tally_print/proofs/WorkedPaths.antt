@@ -66,6 +66,12 @@ attempts_of_two : path_report_rows Attempts utc (odd ∷ codes "btmp.1" ∷ []) 
 unfolding attempt_header attempt_fields digits
 attempts_of_two = refl
 
+-- a file that has no path has an empty one
+no_path : path_report_rows Attempts utc (codes "btmp" ∷ []) (answers.Attempts [] None ∷ answers.Attempts (root 1 (pos 7) ∷ []) None ∷ [])
+    ≡ (codes "file" ∷ codes "path" ∷ codes "user" ∷ codes "line" ∷ codes "remote" ∷ codes "time" ∷ codes "at" ∷ []) ∷ (codes "2" ∷ [] ∷ codes "root" ∷ codes "tty1" ∷ [] ∷ codes "7" ∷ iso_moment (pos 7) utc ∷ []) ∷ []
+unfolding attempt_header attempt_fields digits
+no_path = refl
+
 -- stays, without the seconds in a period and with them
 stays_of_one : path_rows (Stays None) utc odd (answers.Last (stay ∷ []) None) ++ path_rows (Stays (Some (record { from = Some (pos 300); to = None }))) utc [] (answers.Last (stay ∷ []) None)
     ≡ (codes "2" ∷ codes "a,\"b?" ∷ codes "ann" ∷ codes "tty1" ∷ codes "far" ∷ codes "200" ∷ iso_moment (pos 200) utc ∷ codes "210" ∷ codes "logout" ∷ codes "1000" ∷ iso_moment (pos 1000) utc ∷ codes "790" ∷ [])

@@ -2,6 +2,11 @@
 use Rattle.std.proofs.Common.{◌≡◌, [], ◌∷◌, ◌++◌, drop, map, Bool, true, false, Some, None, ℤ, pos, refl}
 use Rattle.std.specs.Fmt.{digits}
 use Rattle.std.specs.Prelude.{codes}
+use Rattle.csv.specs.Machine.{next_record}
+use Rattle.csv.specs.Reading.{records_from, strip_bom}
+use Rattle.csv.specs.Writing.{fields_text, is_blank}
+use Rattle.tally_book.specs.declared.question.Answer.TheVariants as answers
+use Rattle.tally_book.specs.declared.question.ConnectRow.{ConnectRow}
 use Rattle.tally_records.specs.Period.{always}
 use Rattle.tally_records.specs.Text.{padded}
 use Rattle.tally_sessions.specs.declared.entry.End.{End}
@@ -9,11 +14,13 @@ use Rattle.tally_sessions.specs.declared.entry.End.TheVariants.{Logout, Next, Do
 use Rattle.tally_sessions.specs.declared.entry.Stay.{Stay}
 use Rattle.tally_usage.specs.declared.command.CommandRow.{CommandRow}
 use Rattle.tally_usage.specs.declared.usage.Usage.{Usage}
+use Rattle.tally_usage.specs.declared.user.UidRow.{UidRow}
 use Rattle.tally_print.specs.ConnectTable.{connect_fields, connect_header}
 use Rattle.tally_print.specs.LastText.{ending, line_column, user_column}
-use Rattle.tally_print.specs.ReportTable.{connect_rows, header}
+use Rattle.tally_print.specs.ReportTable.{answer_rows, connect_rows, header, table_text}
 use Rattle.tally_print.specs.StayTable.{end_fields, end_word, part_fields, part_header, start_fields, stay_fields, stay_header, who_fields}
-use Rattle.tally_print.specs.Text.{beginning, span}
+use Rattle.tally_print.specs.Tables.{csv_rows, last_number}
+use Rattle.tally_print.specs.Text.{beginning, date, span}
 use Rattle.tally_print.specs.UsageTable.{command_fields, command_header, name_fields, sum_fields, user_fields, user_header}
 use Rattle.tally_print.specs.UsageText.{average, columns, command_line, named_total_line, total_line, user_line}
 use Rattle.tally_print.specs.declared.report_table.Table.TheVariants.{Stays, Connect, Commands, Users}
@@ -126,3 +133,50 @@ command_row = refl
 user_row : user_fields (record { uid = 66536; usage = forked }) ≡ codes "66536" ∷ codes "2" ∷ codes "120" ∷ codes "120" ∷ codes "6" ∷ codes "24000" ∷ []
 unfolding user_fields sum_fields digits
 user_row = refl
+
+-- ---- whole tables
+
+-- a day is a date, and stands before the user; what a row has not is empty
+abbrev on_day : ConnectRow
+on_day = record { day = Some (pos 3); user = Some (padded 32 (codes "ann")); seconds = 600 }
+
+connect_columns : connect_fields true true on_day ∷ connect_fields true false on_day ∷ connect_fields false false on_day ∷ connect_fields true true (record { day = None; user = None; seconds = 7 }) ∷ []
+    ≡ (date (pos 3) ∷ codes "ann" ∷ codes "600" ∷ []) ∷ (date (pos 3) ∷ codes "600" ∷ []) ∷ (codes "600" ∷ []) ∷ ([] ∷ [] ∷ codes "7" ∷ []) ∷ []
+unfolding connect_fields digits
+connect_columns = refl
+
+abbrev of_user : UidRow
+of_user = record { uid = 66536; usage = forked }
+
+-- the names of the columns stand once, and then the rows of each answer
+command_table : table_text Commands utc (answers.Commands (make true false ∷ []) forked ∷ answers.Commands [] forked ∷ answers.Commands (make false true ∷ []) forked ∷ [])
+    ≡ codes "command,forked,other,calls,real_ticks,cpu_ticks,io,mem_cpu\n" ++ codes "make,1,0,2,120,120,6,24000\n" ++ codes "make,0,1,2,120,120,6,24000\n"
+unfolding command_header command_fields name_fields sum_fields digits fields_text is_blank
+command_table = refl
+
+user_table : table_text Users utc (answers.Users (of_user ∷ []) forked ∷ []) ≡ codes "uid,calls,real_ticks,cpu_ticks,io,mem_cpu\n" ++ codes "66536,2,120,120,6,24000\n"
+unfolding user_header user_fields sum_fields digits fields_text is_blank
+user_table = refl
+
+-- connect time by user has a row for each, and in total alone that of the total
+connect_tables : table_text (Connect false true) utc (answers.Connect (on_day ∷ []) 700 ∷ []) ∷ table_text (Connect false false) utc (answers.Connect (on_day ∷ []) 700 ∷ []) ∷ [] ≡ (codes "user,seconds\n" ++ codes "ann,600\n") ∷ (codes "seconds\n" ++ codes "700\n") ∷ []
+unfolding connect_header connect_fields digits fields_text is_blank
+connect_tables = refl
+
+-- an answer to another kind of question has no rows, and a report with no rows is its header
+of_another_kind : answer_rows Commands utc (answers.Users (of_user ∷ []) forked) ∷ answer_rows Users utc (answers.Commands (make true false ∷ []) forked) ∷ answer_rows (Connect true true) utc (answers.Users (of_user ∷ []) forked) ∷ answer_rows (Stays None) utc (answers.Connect (on_day ∷ []) 600) ∷ []
+    ≡ [] ∷ [] ∷ [] ∷ [] ∷ []
+of_another_kind = refl
+
+no_rows : table_text Users utc [] ∷ table_text (Connect true false) utc (answers.Connect [] 0 ∷ []) ∷ [] ≡ codes "uid,calls,real_ticks,cpu_ticks,io,mem_cpu\n" ∷ codes "day,seconds\n" ∷ []
+unfolding user_header connect_header fields_text is_blank
+no_rows = refl
+
+-- the last field of a row is a number
+last_numbers : map last_number ((codes "ann" ∷ codes "600" ∷ []) ∷ (codes "1,2" ∷ codes "0" ∷ []) ∷ []) ≡ 600 ∷ 0 ∷ []
+last_numbers = refl
+
+-- what is read of a table: quotes stand around a field that has a comma or a quote, and a byte order mark at the beginning is none of a field
+read : csv_rows (239 ∷ 187 ∷ 191 ∷ codes "user,seconds\n" ++ codes "\"a,\"\"b\",7\n" ++ codes ",0\n") ≡ (codes "user" ∷ codes "seconds" ∷ []) ∷ (codes "a,\"b" ∷ codes "7" ∷ []) ∷ ([] ∷ codes "0" ∷ []) ∷ []
+unfolding strip_bom records_from next_record
+read = refl

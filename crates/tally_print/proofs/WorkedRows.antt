@@ -98,3 +98,31 @@ quoted_row = refl
 -- an empty line stands between two sections, and around none
 gaps : sections (codes "a\n" ∷ codes "b\n" ∷ codes "c\n" ∷ []) ∷ sections (codes "a\n" ∷ []) ∷ sections [] ∷ [] ≡ codes "a\n\nb\n\nc\n" ∷ codes "a\n" ∷ [] ∷ []
 gaps = refl
+
+-- the day of the first second that a record can have, and that of the last
+first_date : date (negsuc 24_855) ≡ codes "1901-12-13"
+unfolding date year_of month_of day_of_month days_from_civil day_count days_of_years days_of_months
+first_date = refl
+
+last_date : date (pos 24_855) ≡ codes "2038-01-19"
+unfolding date year_of month_of day_of_month days_from_civil day_count days_of_years days_of_months
+last_date = refl
+
+-- the day before 1970, and a leap day of a century's year
+early_date : date (negsuc 0) ≡ codes "1969-12-31"
+unfolding date year_of month_of day_of_month days_from_civil day_count days_of_years days_of_months
+early_date = refl
+
+leap_date : date (pos 11_016) ≡ codes "2000-02-29"
+unfolding date year_of month_of day_of_month days_from_civil day_count days_of_years days_of_months
+leap_date = refl
+
+-- a leap year's last day, and the first after it
+years : map year_of (pos 20_088 ∷ pos 20_089 ∷ []) ≡ 2024 ∷ 2025 ∷ []
+unfolding year_of days_from_civil day_count days_of_years days_of_months
+years = refl
+
+-- the last second before 1970, and an hour before midnight by a clock that is behind
+early_moments : moment (negsuc 0) (λ time. pos 0) ∷ moment (pos 0) (λ time. negsuc 3599) ∷ [] ≡ codes "1969-12-31 23:59:59" ∷ codes "1969-12-31 23:00:00" ∷ []
+unfolding moment time_of_day
+early_moments = rw early_date refl
