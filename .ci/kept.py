@@ -2,12 +2,13 @@
 so, below XDG_CACHE_HOME, and in .ci/tried the crates of which all were refused.
 
 A function is proved from the contracts of those that it calls, never from their bodies. So of the crates below a crate its verdicts rest
-on definitions, lemmas and sources without the bodies of functions, and not on the proofs of functions.
+on definitions, lemmas and sources without the bodies of functions, and not on the proofs of functions or on worked values.
 """
 import functools
 import hashlib
 import os
 import pathlib
+import re
 import subprocess
 
 from common import TOP, below, lines
@@ -16,6 +17,10 @@ from sources import without_bodies
 SCRIPTS = ('bodies.py', 'sources.py')
 # The proof of one function, which no crate above can cite.
 OF_FUNCTIONS = ('Answers.antt', 'Invariants.antt', 'Proof.antt')
+# Worked values, which none may cite: their files, the lines that name these, and what would cite them.
+OF_VALUES = 'Worked*.antt'
+NAMES_VALUES = re.compile(rb'^(pub )?mod Worked\w+\n?', re.M)
+CITES_VALUES = re.compile(rb'\bproofs\.Worked')
 TRIED = TOP / '.ci' / 'tried'
 HEAD = """# The crates of which every wrong body was refused, with the checksum of all that this rests on: the gate then tries those of must-fail/
 # alone. `.ci/edits --record` writes this file after it has tried them.
@@ -41,6 +46,14 @@ def files_of(crate, part):
     return sorted(it for it in (TOP / 'crates' / crate / part).rglob('*') if it.is_file())
 
 
+def seen_text(it):
+    """The text of a definition or lemma without what names worked values, which it may not cite."""
+    text = it.read_bytes()
+    if CITES_VALUES.search(text):
+        raise SystemExit(f'{it.relative_to(TOP)} cites a worked value')
+    return NAMES_VALUES.sub(b'', text) if it.name == 'Lib.antt' else text
+
+
 @functools.lru_cache(maxsize=None)
 def own_sum(crate):
     """The checksum of a crate whole."""
@@ -52,8 +65,8 @@ def own_sum(crate):
 def surface_sum(crate):
     """The checksum of what the crates above can see of a crate."""
     sources = [(it, without_bodies(it.read_text(encoding='utf-8')).encode()) for it in files_of(crate, 'src')]
-    others = [*files_of(crate, 'specs'), *(it for it in files_of(crate, 'proofs') if it.name not in OF_FUNCTIONS)]
-    its = sources + [(it, it.read_bytes()) for it in others]
+    lemmas = [it for it in files_of(crate, 'proofs') if it.name not in OF_FUNCTIONS and not it.match(OF_VALUES)]
+    its = sources + [(it, seen_text(it)) for it in [*files_of(crate, 'specs'), *lemmas]]
     return checksum(part for it, text in its for part in (it.relative_to(TOP).as_posix().encode(), text))
 
 
