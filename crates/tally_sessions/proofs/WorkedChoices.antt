@@ -9,6 +9,7 @@ use Rattle.tally_records.specs.declared.login.LoginRecord.{LoginRecord}
 use Rattle.tally_sessions.specs.Clock.{pending_old_time}
 use Rattle.tally_sessions.specs.Hosts.{posted_by}
 use Rattle.tally_sessions.specs.Choice.{seconds_within}
+use Rattle.tally_sessions.specs.ChoiceLaws.{in_period}
 use Rattle.tally_sessions.specs.Stays.{seconds_of}
 use Rattle.tally_sessions.specs.Sums.{seconds_in, seconds_of_user, sessions_of}
 use Rattle.tally_sessions.specs.Totals.{every_host, latest_stays}
@@ -128,3 +129,14 @@ moved_first = refl
 within : map (λ (s : Stay). seconds_within (record { from = Some (pos 400); to = Some (pos 950) }) s) (latest_stays 0 None every_login night None) ≡ 0 ∷ 50 ∷ 400 ∷ 100 ∷ 550 ∷ []
 unfolding seconds_of pending_old_time event_of
 within = refl
+
+-- a choice with another period has the same users and lines
+period_alone : in_period (Some (pos 3)) (Some (pos 8)) (record (on_line tty2) { users = named ann; period = record { from = Some (pos 1); to = None } })
+    ≡ record { users = named ann; lines = named tty2; period = record { from = Some (pos 3); to = Some (pos 8) } }
+period_alone = refl
+
+-- parts of a session that a period divides add up, and its later part begins at the moment
+parts : map (λ choice. map span (sessions_of choice night None)) (in_period None (Some (pos 400)) (of_user ann) ∷ in_period (Some (pos 400)) None (of_user ann) ∷ [])
+    ≡ ((pos 200, pos 400) ∷ (pos 900, pos 400) ∷ []) ∷ ((pos 400, pos 500) ∷ (pos 900, pos 1000) ∷ []) ∷ []
+unfolding every_host seconds_of pending_old_time event_of
+parts = refl

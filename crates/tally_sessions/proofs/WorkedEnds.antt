@@ -1,6 +1,7 @@
 -- Worked ends of stays, computed by the definitions.
-use Rattle.std.proofs.Common.{◌≡◌, ℕ, List, [], ◌∷◌, ◌++◌, map, Bool, true, false, Some, None, ℤ, pos, refl}
+use Rattle.std.proofs.Common.{◌≡◌, ℕ, List, [], ◌∷◌, ◌++◌, map, replicate, Bool, true, false, Some, None, ℤ, pos, refl}
 use Rattle.std.specs.Prelude.{codes}
+use Rattle.tally_records.specs.declared.login.Event.{Event}
 use Rattle.tally_records.specs.declared.login.Event.TheVariants as event
 use Rattle.tally_records.specs.declared.login.LoginRecord.{LoginRecord}
 use Rattle.tally_records.specs.Event.{event_of}
@@ -15,7 +16,7 @@ use Rattle.tally_sessions.specs.Hosts.{posted_by}
 use Rattle.tally_records.specs.Choice.{every_login}
 use Rattle.tally_sessions.specs.Sums.{sessions_of}
 use Rattle.tally_sessions.specs.Rows.{user_times}
-use Rattle.tally_sessions.specs.Stays.{end_at, seconds_of, starts_stay}
+use Rattle.tally_sessions.specs.Stays.{end_at, ends_event, seconds_of, starts_stay}
 use Rattle.tally_sessions.specs.Totals.{every_host, first_time, latest_stays, stays_of, total_of}
 
 abbrev utmp : ℕ → List ℕ → List ℕ → ℤ → LoginRecord
@@ -131,3 +132,31 @@ users = refl
 no_running_time : total_of (posted_by 0 (boot 100 ∷ shutdown 1000 ∷ [])) None ≡ 0
 unfolding every_host seconds_of pending_old_time event_of
 no_running_time = refl
+
+-- what ends a login on its line, what ends it from another line, and what ends a running time
+abbrev ending_events : Event → Bool → List Bool
+ending_events start same_line = map (λ later. ends_event start later same_line) (event.Login ∷ event.Logout ∷ event.Boot ∷ event.Down ∷ event.OldTime ∷ event.NewTime ∷ event.Nothing ∷ [])
+
+-- a login is ended by what comes on its line, and by a boot and a shutdown wherever it is; a running time by these two alone
+which_end : ending_events event.Login true ∷ ending_events event.Login false ∷ ending_events event.Boot true ∷ ending_events event.Boot false ∷ []
+    ≡ (true ∷ true ∷ true ∷ true ∷ false ∷ false ∷ false ∷ [])
+    ∷ (false ∷ false ∷ true ∷ true ∷ false ∷ false ∷ false ∷ [])
+    ∷ (false ∷ false ∷ true ∷ true ∷ false ∷ false ∷ false ∷ [])
+    ∷ (false ∷ false ∷ true ∷ true ∷ false ∷ false ∷ false ∷ [])
+    ∷ []
+which_end = refl
+
+-- nothing ends what starts no stay
+no_start : map (λ start. ending_events start true) (event.Logout ∷ event.Down ∷ event.OldTime ∷ event.NewTime ∷ event.Nothing ∷ []) ≡ replicate 5 (replicate 7 false)
+no_start = refl
+
+-- an open session is counted to the last record that its host stored, whatever its time and type
+last_stored : endings (utmp 7 tty1 ann (pos 100) ∷ utmp 0 [] [] (pos 900) ∷ utmp 5 tty2 [] (pos 400) ∷ []) ≡ (false, Still, pos 400, 300) ∷ []
+unfolding seconds_of pending_old_time event_of
+last_stored = refl
+
+-- a moment takes the place of that time, and of no record that ends a stay
+until_a_moment : map ending (stays_of 0 (posted_by 0 (utmp 7 tty1 ann (pos 100) ∷ utmp 7 tty2 bob (pos 200) ∷ utmp 8 tty1 [] (pos 300) ∷ boot 400 ∷ [])) (Some (pos 1000)))
+    ≡ (false, Logout, pos 300, 200) ∷ (false, Crash, pos 400, 200) ∷ (true, Still, pos 1000, 600) ∷ []
+unfolding seconds_of pending_old_time event_of
+until_a_moment = refl
