@@ -11,3 +11,10 @@ pub mod SettledLemmas
 pub mod WalkSteps
 pub mod WorkedRows
 pub mod ZoneLemmas
+pub mod WorkedAsking
+pub mod WorkedJobs
+pub mod WorkedOptions
+pub mod WorkedRuns
+pub mod WorkedTimes
+pub mod WorkedUsageJobs
+pub mod WorkedWords
