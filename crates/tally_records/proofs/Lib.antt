@@ -10,3 +10,6 @@ pub mod Members
 pub mod SortedLemmas
 pub mod WorkedRows
 pub mod WorkedBatches
+pub mod WorkedChoices
+pub mod WorkedContents
+pub mod WorkedPacked
