@@ -6,3 +6,7 @@ pub mod RuleSteps
 pub mod Tests
 pub mod YearSteps
 pub mod ZoneSteps
+pub mod WorkedDays
+pub mod WorkedFiles
+pub mod WorkedRules
+pub mod WorkedWords
