@@ -13,5 +13,10 @@ pub mod SumsLemmas
 pub mod TotalsLemmas
 pub mod UsageLemmas
 pub mod UserLemmas
+pub mod WorkedChoices
+pub mod WorkedCommands
+pub mod WorkedEntries
 pub mod WorkedNames
 pub mod WorkedRows
+pub mod WorkedSums
+pub mod WorkedUsers

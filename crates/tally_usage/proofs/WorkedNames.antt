@@ -1,7 +1,7 @@
 -- Worked examples of names, computed by the definitions.
 use Rattle.std.proofs.Common.{◌≡◌, ℕ, List, [], ◌∷◌, ◌++◌, map, Option, None, Some, true, false, refl}
 use Rattle.std.specs.Prelude.{codes}
-use Rattle.tally_usage.specs.Names.{is_uid, name_in, names_of}
+use Rattle.tally_usage.specs.Names.{fields_of, is_uid, lines_of, name_in, names_of}
 
 abbrev file : List ℕ
 file =
@@ -39,6 +39,10 @@ later = refl
 -- the greatest number, and one past it, which is no number of a user
 numbers : map is_uid (codes "4294967295" ∷ codes "4294967296" ∷ codes "00000000000000000000000000007" ∷ []) ≡ true ∷ false ∷ true ∷ []
 numbers = refl
+
+-- a line feed ends a line and a colon a field, also where nothing stands before it
+parts : lines_of (codes "ann\n\nb:c") ∷ fields_of (codes "ann::b\n") ∷ [] ≡ (codes "ann" ∷ [] ∷ codes "b:c" ∷ []) ∷ (codes "ann" ∷ [] ∷ codes "b\n" ∷ []) ∷ []
+parts = refl
 
 -- names by number
 by_number : map (names_of ((0, codes "root") ∷ (1000, codes "ann") ∷ [])) (1000 ∷ 0 ∷ 1 ∷ []) ≡ Some (codes "ann") ∷ Some (codes "root") ∷ None ∷ []
