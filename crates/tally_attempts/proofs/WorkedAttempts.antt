@@ -1,8 +1,8 @@
 -- Worked failed logins, computed by the definitions.
-use Rattle.std.proofs.Common.{◌≡◌, ℕ, true, false, List, [], ◌∷◌, ◌++◌, map, replicate, Option, Some, None, ℤ, pos, refl}
+use Rattle.std.proofs.Common.{◌≡◌, ℕ, true, false, List, [], ◌∷◌, ◌++◌, map, replicate, Option, Some, None, ℤ, pos, Less, Equal, Greater, refl}
 use Rattle.std.specs.Prelude.{codes}
 use Rattle.tally_attempts.specs.Attempts.{attempts_before, is_attempt, latest_attempts}
-use Rattle.tally_attempts.specs.Sums.{attempt_sums, sum_rows}
+use Rattle.tally_attempts.specs.Sums.{attempt_sum, attempt_sum_cmp, attempt_sums, chosen_attempts, is_from, sum_rows}
 use Rattle.tally_attempts.specs.declared.attempt.Attempt.{Attempt}
 use Rattle.tally_attempts.specs.declared.attempt.AttemptSum.{AttemptSum}
 use Rattle.tally_records.specs.Choice.{every_login}
@@ -37,6 +37,11 @@ attempts : map is_attempt (record_of 6 ssh root far 1 ∷ record_of 7 ssh root f
     ∷ record_of 7 [] [] far 1 ∷ record_of 8 ssh root far 1 ∷ record_of 0 ssh root far 1 ∷ record_of 5 ssh root far 1 ∷ [])
     ≡ true ∷ true ∷ true ∷ true ∷ false ∷ false ∷ false ∷ false ∷ false ∷ []
 attempts = refl
+
+-- type 7 needs a line or a user likewise, and the types of the clock, of boots and of shutdowns are none
+other_types : map is_attempt (record_of 7 [] root far 1 ∷ record_of 7 ssh [] far 1 ∷ record_of 1 ssh root far 1 ∷ record_of 2 ssh root far 1 ∷ record_of 3 ssh root far 1 ∷ record_of 4 ssh root far 1 ∷ record_of 9 ssh root far 1 ∷ [])
+    ≡ true ∷ true ∷ false ∷ false ∷ false ∷ false ∷ false ∷ []
+other_types = refl
 
 -- host 0 from 100 on, after a record that is none at 50; host 1 at 200, between these
 abbrev night : List Entry
@@ -83,6 +88,15 @@ by_time : when 0 None (in_time (Some (pos 100)) (Some (pos 300))) ∷ when 0 Non
     ≡ (pos 150 ∷ pos 100 ∷ []) ∷ [] ∷ (pos 400 ∷ []) ∷ []
 by_time = refl
 
+-- a user, a line and a period choose together
+by_all : when 0 None (record (in_time (Some (pos 100)) (Some (pos 300))) { users = named root; lines = named ssh }) ∷ when 0 None (record of_root { lines = named (codes "tty1") }) ∷ [] ≡ (pos 100 ∷ []) ∷ [] ∷ []
+by_all = refl
+
+-- of all hosts, in stored order
+of_all_hosts : map (λ choice. map (λ (r : LoginRecord). r.time) (chosen_attempts choice night)) (every_login ∷ of_root ∷ on_line (codes "tty1") ∷ [])
+    ≡ (pos 100 ∷ pos 150 ∷ pos 200 ∷ pos 300 ∷ pos 400 ∷ []) ∷ (pos 100 ∷ pos 200 ∷ pos 300 ∷ []) ∷ (pos 150 ∷ []) ∷ []
+of_all_hosts = refl
+
 -- the row of a record
 rows : latest_attempts 1 None every_login night ≡ record { host = 1; user = padded 32 root; line = padded 32 ssh; remote = padded 256 far; time = pos 200 } ∷ []
 rows = refl
@@ -104,6 +118,24 @@ few_sums : attempt_sums (Some 1) every_login night ∷ attempt_sums None of_root
     ≡ (sum_of root far 2 ∷ []) ∷ (sum_of root far 2 ∷ sum_of root near 1 ∷ []) ∷ (sum_of root far 1 ∷ []) ∷ []
 unfolding sum_rows in_order insert_in_order
 few_sums = refl
+
+-- a row counts the records of its user and its remote host, both byte for byte
+sources : map (is_from (padded 32 root) (padded 256 far)) (record_of 6 ssh root far 1 ∷ record_of 7 (codes "tty1") root far 2 ∷ record_of 6 ssh root near 1 ∷ record_of 6 ssh ann far 1 ∷ record_of 6 ssh (codes "Root") far 1 ∷ [])
+    ≡ true ∷ true ∷ false ∷ false ∷ false ∷ []
+sources = refl
+
+row_of_source : attempt_sum (record_of 6 ssh root far 1 ∷ record_of 6 ssh root near 2 ∷ record_of 7 ssh root far 3 ∷ []) (record_of 7 ssh root far 3) ≡ sum_of root far 2
+row_of_source = refl
+
+-- no rows are the first none, and those of no records
+no_sums : attempt_sums (Some 0) every_login night ∷ attempt_sums None every_login [] ∷ [] ≡ [] ∷ [] ∷ []
+unfolding sum_rows in_order insert_in_order
+no_sums = refl
+
+-- the most first, then the user whose first other byte is lower, then the remote host likewise
+row_order : map (attempt_sum_cmp (sum_of root far 2)) (sum_of ann far 1 ∷ sum_of ann far 3 ∷ sum_of ann near 2 ∷ sum_of (codes "rootx") near 2 ∷ sum_of root near 2 ∷ sum_of root (codes "10.0.1.0") 2 ∷ sum_of root far 2 ∷ [])
+    ≡ Less ∷ Greater ∷ Greater ∷ Less ∷ Greater ∷ Less ∷ Equal ∷ []
+row_order = refl
 
 -- at a tie of a user by remote host, in whatever order they came
 ties : map sum_rows ((record_of 6 ssh root near 1 ∷ record_of 6 ssh root far 2 ∷ []) ∷ (record_of 6 ssh root far 1 ∷ record_of 6 ssh root near 2 ∷ []) ∷ [])
