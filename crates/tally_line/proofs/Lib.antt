@@ -18,3 +18,4 @@ pub mod WorkedRuns
 pub mod WorkedTimes
 pub mod WorkedUsageJobs
 pub mod WorkedWords
+pub mod RefusalLemmas

@@ -1,7 +1,7 @@
 //! What is answered where `clap` gives no matches.
-ghost use Rattle.std.specs.Prelude.{◌≡◌, IfErr, IfOk};
+ghost use Rattle.std.specs.Prelude.{◌≡◌, ◌++◌, IfErr, IfOk, MatchBool, string_bytes};
 ghost use Rattle.clap.specs.Words.{kind_of};
-ghost use Rattle.tally_line.specs.inside.LineSteps.{IsFaultFor, IsHelpFor, IsMemoryOrUsage};
+ghost use Rattle.tally_line.specs.inside.LineSteps.{IsFaultFor, IsHelpFor, IsMemoryOrUsage, IsNegativeRefused, begins_with_digit};
 
 use crate::line::{Line, LineFault};
 use clap::Error;
@@ -31,7 +31,7 @@ pub(crate) fn fault_of(alloc: Global, error: &Error) -> LineFault
     if error.kind() == ErrorKind::OutOfMemory {
         return LineFault::Memory;
     }
-    match refusal(alloc, error) {
+    match error.to_string(alloc).and_then(hinted) {
         Ok(text) => LineFault::Usage { text },
         Err(_) => LineFault::Memory,
     }
@@ -42,20 +42,33 @@ const NEGATIVE: &str =
     "\nNo option takes a negative number: the latest 5 stays are -n 5, five hours west --west 300.\n";
 
 /// The text of a refusal, and a line more where a negative number is the reason.
-fn refusal(alloc: Global, error: &Error) -> Result<String, AllocError> {
-    let mut text = error.to_string(alloc)?;
+fn hinted(mut text: String) -> Result<String, AllocError>
+    ensures negative { IsNegativeRefused (string_bytes text) → IfOk result (λ told. string_bytes told ≡ string_bytes text ++ NEGATIVE.now) }
+    ensures other { ¬ IsNegativeRefused (string_bytes text) → IfOk result (λ told. string_bytes told ≡ string_bytes text) }
+{
     if is_negative_refused(text.as_str()) {
         text.push_str(NEGATIVE)?;
     }
     Ok(text)
 }
 
-fn is_negative_refused(text: &str) -> bool {
-    match text
-        .as_bytes()
-        .strip_prefix(b"error: unexpected argument '-")
-    {
-        Some([digit, ..]) => digit.is_ascii_digit(),
-        _ => false,
+/// Whether a text refuses an argument that is a negative number.
+#[tactic(auto, using(crate::proofs::RefusalLemmas::negative_if))]
+fn is_negative_refused(text: &str) -> bool
+    ensures { MatchBool result (IsNegativeRefused text.now) (¬ IsNegativeRefused text.now) }
+{
+    match text.strip_prefix("error: unexpected argument '-") {
+        Some(rest) => begins_with_digit(rest),
+        None => false,
+    }
+}
+
+/// Whether a text begins with a digit.
+fn begins_with_digit(text: &str) -> bool
+    ensures { result ≡ begins_with_digit text.now }
+{
+    match text.as_bytes() {
+        [first, ..] => first.is_ascii_digit(),
+        [] => false,
     }
 }

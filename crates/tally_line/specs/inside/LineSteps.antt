@@ -1,5 +1,6 @@
 -- What each step answers to the words of a command line.
-use Rattle.std.specs.Prelude.{◌≡◌, ◌<◌, ◌⊎◌, List, ⊤, length}
+use Rattle.std.specs.Char.{is_ascii_digit}
+use Rattle.std.specs.Prelude.{◌≡◌, ◌<◌, ◌⊎◌, ◌∷◌, ◌++◌, ℕ, Bool, List, [], ⊤, codes, false, length, true}
 use Rattle.clap.specs.Words.{Text}
 use Rattle.clap.specs.declared.error.kind.ErrorKind.{ErrorKind}
 use Rattle.tally_line.specs.FileWords.{IsFirstBare}
@@ -46,6 +47,15 @@ abbrev pub IsMemoryOrUsage : LineFault → Type 0
 IsMemoryOrUsage fault.Memory = ⊤
 IsMemoryOrUsage (fault.Usage text) = ⊤
 IsMemoryOrUsage (fault.Prefix index) = ⊥
+
+-- whether a text begins with a digit
+abbrev pub begins_with_digit : List ℕ → Bool
+begins_with_digit [] = false
+begins_with_digit (first ∷ rest) = is_ascii_digit first
+
+-- the text refuses an argument that is a negative number: a minus and a digit
+abbrev pub IsNegativeRefused : List ℕ → Type 0
+IsNegativeRefused text = (rest : List ℕ) × (text ≡ codes "error: unexpected argument '-" ++ rest) × (begins_with_digit rest ≡ true)
 
 -- the matches are of a report
 abbrev pub AsksReport : Met → Type 0
