@@ -12,7 +12,7 @@ use Rattle.tally_book.specs.declared.history.Call.{Call}
 use Rattle.tally_book.specs.declared.history.Call.TheVariants.{Posted, Asked}
 use Rattle.tally_book.specs.Contents.{Contents}
 use Rattle.tally_book.specs.Books.{IsCall, IsLegal, calls_of, caller_of}
-use Rattle.tally_book.specs.Deeds.{EntriesArePosts, SameOfEachHost, deed, deeds_of, logins_added, procs_added, procs_of_host}
+use Rattle.tally_book.specs.Deeds.{Ask as AskDeed, EntriesArePosts, SameOfEachHost, deed, deeds_of, logins_added, procs_added, procs_of_host}
 use Rattle.tally_book.specs.Rooms.{batches_in}
 use Rattle.tally_desk.specs.Blocks.{feed_fault}
 use Rattle.tally_desk.specs.Batches.{records_in}
@@ -30,11 +30,11 @@ use Rattle.tally_cli.specs.inside.Deals.{work_of}
 use Rattle.tally_cli.specs.Output.{login_entries, proc_entries}
 use Rattle.tally_cli.specs.Runs.{IsGood, Tell, Told, records_told}
 use Rattle.tally_cli.specs.inside.RunSteps.{AreWorkedThrough}
-use Rattle.tally_cli.specs.inside.Tasks.{IsOutcome}
+use Rattle.tally_cli.specs.inside.Tasks.{IsDone, IsOutcome, asker_questions}
 use Rattle.tally_cli.proofs.Outcomes.{IsBefore, done_before}
 use Rattle.tally_cli.proofs.Calls.{AreFew, outcome_few}
 use Rattle.tally_cli.proofs.Limits.{few_calls}
-use Rattle.tally_cli.proofs.Posted.{Added, AddedNothing, FilePosted, logins_of_file, no_logins_past, no_procs_past, posted_file, procs_of_file}
+use Rattle.tally_cli.proofs.Posted.{Added, AddedNothing, FilePosted, asked_whole, logins_of_file, no_logins_past, no_procs_past, posted_file, procs_of_file}
 use Rattle.tally_cli.proofs.FirstPasses.{are_first}
 
 caller_in : (callers : ℕ) (clock : ClockRows) (logins : List Entry) (procs : List ProcEntry) (c : Call) → IsCall callers clock logins procs c → caller_of c < callers
@@ -115,12 +115,26 @@ module _ {I : Type 0} {to_come : I → Option (List ℕ)} {can_fail : I → Bool
       let stands = All-contains (λ (t : Task I). Stands b t.pass) ended.worked.tasks r.0 ended.worked.stand r.1 in
       stands.seen.clock ∙ r.2.keeps.seen.clock
 
+  -- a caller before the failure is done
+  done_at : (host : ℕ) → IsBefore host failure → (m : Did host) → IsDone m.task.outcome
+  done_at host before m = done_before ended.worked.tasks failure m.task ended.worked.least ended.worked.explained m.held (subst (λ n. IsBefore n failure) (sym m.number) before)
+
+  -- an asker before the failure asked all its questions, and did nothing else
+  pub all_asked : (asker : ℕ) → length sources ≤ asker → asker < b.callers → IsBefore asker failure → deeds_of asker b ≡ map AskDeed (asker_questions asking)
+  all_asked asker past l before =
+      let m = did asker l in
+      let near : asker < length passes = omega (arith, ended.all, l) in
+      let none : slice_get sources asker ≡ None = ⊎_elim (λ found. absurd (omega (arith, past, slice_get_within sources asker found.0 found.1))) (λ never. never.0) (source_or_none sources asker) in
+      let came : IsOutcome to_come can_fail (work_of asking None) (get_or passes asker d) m.task.pass m.task.outcome =
+      subst (λ o. IsOutcome to_come can_fail (work_of asking o) (get_or passes asker d) m.task.pass m.task.outcome) none m.outcome_is in
+      m.done ∙ asked_whole to_come can_fail asking (get_or passes asker d) m.task.pass m.task.outcome (ended.first asker near).1 came (done_at asker before m)
+
   -- what a caller before the failure did is its file
   pub host_posted : (host : ℕ) → host < b.callers → IsBefore host failure → (q : PassState) × FilePosted b.room to_come (slice_get sources host) q × (deeds_of host b ≡ deeds q)
   host_posted host l before =
       let m = did host l in
       let near : host < length passes = omega (arith, ended.all, l) in
-      let whole = done_before ended.worked.tasks failure m.task ended.worked.least ended.worked.explained m.held (subst (λ n. IsBefore n failure) (sym m.number) before) in (
+      let whole = done_at host before m in (
         m.task.pass,
         subst (λ room. FilePosted room to_come (slice_get sources host) m.task.pass) (sym (room_at host near))
             (posted_file to_come can_fail asking (slice_get sources host) (get_or passes host d) m.task.pass m.task.outcome (ended.first host near).1 m.outcome_is whole),

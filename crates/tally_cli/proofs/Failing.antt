@@ -25,7 +25,8 @@ use Rattle.tally_cli.specs.declared.running.task.Task.{Task}
 use Rattle.tally_cli.specs.inside.Deals.{CameOf, task_of, work_of}
 use Rattle.tally_cli.specs.inside.Failures.{IsOfOne, failure_of}
 use Rattle.tally_cli.specs.Runs.{IsAllowed, IsFileCause, IsFullList, IsGood, IsNamed, Tell, Told}
-use Rattle.tally_cli.specs.inside.RunSteps.{IsReadCause, run_fault}
+use Rattle.tally_cli.specs.Reading.{IsReadCause}
+use Rattle.tally_cli.specs.inside.RunSteps.{run_fault}
 use Rattle.tally_cli.specs.inside.Tasks.{FailedToFeed, IsOutcome}
 use Rattle.tally_cli.proofs.Outcomes.{IsBefore}
 use Rattle.tally_cli.proofs.Limits.{ask_allowed, feed_allowed, feed_full, few_seen, not_full, prefix_length}

@@ -23,8 +23,9 @@ use Rattle.tally_cli.specs.declared.fault.RunFault.TheVariants as run
 use Rattle.tally_records.specs.Records.{Records, Logins, Procs, logins_in, procs_in, record_count}
 use Rattle.tally_cli.specs.declared.running.source.Source.{Source}
 use Rattle.tally_cli.specs.declared.running.task.Asking.{Asking}
+use Rattle.tally_cli.specs.Reading.{asked_once}
 use Rattle.tally_cli.specs.Runs.{IsAllowed, IsFullList}
-use Rattle.tally_cli.specs.inside.Tasks.{asked_once, asker_questions}
+use Rattle.tally_cli.specs.inside.Tasks.{asker_questions}
 use Rattle.tally_sessions.specs.declared.entry.Entry.{Entry}
 use Rattle.tally_usage.specs.declared.entry.ProcEntry.{ProcEntry}
 use Rattle.tally_cli.proofs.Calls.{AreFew}
@@ -103,7 +104,7 @@ feed_full room sources host source is seen feed.CallsFull h same logins procs = 
 abbrev NamesFirst : Question → Type 0
 NamesFirst question = (host : ℕ) → NamesHost question host → host ≡ 0
 
-once_first : (asking : Asking) (k : ℕ) (d : Question) → k < 4 → NamesFirst (get_or (asked_once asking) k d)
+once_first : (asking : Asking) (k : ℕ) (d : Question) → k < 4 → NamesFirst (get_or (asked_once asking.choice asking.until) k d)
 once_first asking zero d l = λ host is. sym is
 once_first asking (suc zero) d l = λ host never. absurd never
 once_first asking (suc (suc zero)) d l = λ host never. absurd never
@@ -122,6 +123,6 @@ refusal_is callers calls question (ask.NoSuchHost host) first h few some_callers
 pub ask_allowed : (asking : Asking) (old new : PassState) (fault : AskFault) → AskStops (asker_questions asking) old new fault → length new.seen.calls ≤ 34944 → 0 < new.seen.callers → fault ≡ ask.Memory
 ask_allowed asking old new fault stops few some_callers =
     let near : length stops.done < length (stops.done ++ stops.next ∷ stops.left) = omega (arith, length-append stops.done (stops.next ∷ stops.left)) in
-    let all : All NamesFirst (stops.done ++ stops.next ∷ stops.left) = subst (All NamesFirst) stops.order (all_rounds NamesFirst 4 (asked_once asking) (once_first asking)) in
+    let all : All NamesFirst (stops.done ++ stops.next ∷ stops.left) = subst (All NamesFirst) stops.order (all_rounds NamesFirst 4 (asked_once asking.choice asking.until) (once_first asking)) in
     let next : NamesFirst stops.next = subst NamesFirst (get_or_at stops.done stops.next stops.left stops.next (length stops.done) refl) (all (length stops.done) stops.next near) in
     refusal_is new.seen.callers (length new.seen.calls) stops.next fault next stops.cause few some_callers

@@ -10,7 +10,7 @@ use Rattle.tally_cli.specs.declared.fault.RunFault.TheVariants.{Asker, Callers, 
 use Rattle.tally_cli.specs.declared.running.files.Count.TheVariants as count
 use Rattle.tally_cli.specs.inside.Files.{AreExplained, HasSums, IsFault, counts_of}
 use Rattle.tally_cli.specs.inside.LoginCounts.{AreTaken, HasFault, IsFirstNotTaken, IsNotTaken, IsTakeFault, IsTooMany, LoginCount, LoginFile, StopsAt, counted_before, counted_of}
-use Rattle.tally_cli.specs.inside.RunSteps.{IsUnprinted}
+use Rattle.tally_cli.specs.Reading.{IsUnprinted}
 use Rattle.tally_cli.proofs.Counted.{counts_at}
 
 -- ---- how many records there are so far

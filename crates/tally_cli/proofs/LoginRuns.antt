@@ -24,7 +24,7 @@ use Rattle.tally_cli.specs.declared.running.source.Source.{Source}
 use Rattle.tally_cli.specs.declared.running.files.Count.TheVariants as count
 use Rattle.tally_cli.specs.inside.Files.{HasSums}
 use Rattle.tally_cli.specs.inside.LoginCounts.{AreCountedIn, AreTaken, CameOf, HasFault, IsLoginRefusal, IsOfLogins, IsTakeFault, LoginCount, StopsAt, counted_before, counted_of, stored_when_full}
-use Rattle.tally_cli.specs.inside.RunSteps.{IsReadCause}
+use Rattle.tally_cli.specs.Reading.{IsReadCause}
 use Rattle.tally_cli.proofs.Counted.{CameEach}
 use Rattle.tally_cli.proofs.LoginCounts.{all_taken, counted_next, counted_none}
 use Rattle.tally_cli.proofs.Numbered.{of_file, of_no_file}

@@ -66,6 +66,15 @@ FilePosted room to_come (Some source) q = (bytes : List ℕ) → to_come source.
     → (feed_fault (batches_in room) source.kind bytes ≡ None) × Added (deeds q) (records_in source.kind bytes)
 FilePosted room to_come None q = AddedNothing (deeds q)
 
+-- an asker that is done has asked all its questions, and did nothing else
+pub asked_whole : {I : Type 0} (to_come : I → Option (List ℕ)) (can_fail : I → Bool) (asking : Asking) (p q : PassState) (o : Outcome) → deeds p ≡ [] → IsOutcome to_come can_fail (work_of {I = I} asking None) p q o → IsDone o
+    → deeds q ≡ map AskDeed (asker_questions asking)
+asked_whole to_come can_fail asking p q outcome.Untried e h d = absurd d
+asked_whole to_come can_fail asking p q (outcome.Fed fed) e h d = absurd h
+asked_whole to_come can_fail asking p q (outcome.FeedFailed f) e h d = absurd d
+asked_whole to_come can_fail asking p q (outcome.Asked n) e h d = h.1 ∙ ap (λ (ds : List Deed). ds ++ map AskDeed (asker_questions asking)) e
+asked_whole to_come can_fail asking p q (outcome.AskFailed f) e h d = absurd d
+
 pub posted_file : {I : Type 0} (to_come : I → Option (List ℕ)) (can_fail : I → Bool) (asking : Asking) (source : Option (Source I)) (p q : PassState) (o : Outcome) → deeds p ≡ [] → IsOutcome to_come can_fail (work_of asking source) p q o → IsDone o
     → FilePosted p.seen.room to_come source q
 posted_file to_come can_fail asking (Some s) p q outcome.Untried e h d = absurd d
@@ -85,7 +94,7 @@ posted_file to_come can_fail asking None p q outcome.Untried e h d = absurd d
 posted_file to_come can_fail asking None p q (outcome.Fed fed) e h d = absurd h
 posted_file to_come can_fail asking None p q (outcome.FeedFailed f) e h d = absurd d
 posted_file to_come can_fail asking None p q (outcome.Asked n) e h d =
-    let is : deeds q ≡ map AskDeed (asker_questions asking) = h.1 ∙ ap (λ (ds : List Deed). ds ++ map AskDeed (asker_questions asking)) e in
+    let is = asked_whole to_come can_fail asking p q (outcome.Asked n) e h d in
     record {
       logins = ap (flat_map logins_added) is ∙ asked_records logins_added (λ q. refl) (asker_questions asking);
       procs = ap (flat_map procs_added) is ∙ asked_records procs_added (λ q. refl) (asker_questions asking);

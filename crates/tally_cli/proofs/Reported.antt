@@ -25,7 +25,8 @@ use Rattle.tally_cli.specs.Output.{answers_of, form_text, login_entries, proc_en
 use Rattle.tally_cli.specs.declared.fault.RunFault.{RunFault}
 use Rattle.tally_cli.specs.declared.fault.RunFault.TheVariants.{Asker, Callers, File, Memory, Write}
 use Rattle.tally_cli.specs.Runs.{IsAllowed, IsCause, IsFailedRun, IsFullList, IsGood, IsNamed, IsUnwrittenBefore, Tell, Told, failed_writes, fault_from, output_told, records_told, room_of}
-use Rattle.tally_cli.specs.inside.RunSteps.{AreRead, IsPrintFault, IsReadCause}
+use Rattle.tally_cli.specs.Reading.{AreRead, IsReadCause}
+use Rattle.tally_cli.specs.inside.RunSteps.{IsPrintFault}
 
 -- the kinds that the sources tell
 pub kinds_told : {I : Type 0} (to_come : I → Option (List ℕ)) (sources : List (Source I)) (inputs : List Told) → Tell to_come sources inputs → map (λ (s : Source I). s.kind) sources ≡ map (λ (i : Told). i.kind) inputs
@@ -48,7 +49,7 @@ host_entries host (e ∷ es) = one_entry host e es (e.host == host) refl (host_e
 pub output_is : {I : Type 0} (to_come : I → Option (List ℕ)) (clock : ClockRows) (apart : Apart) (job : Job) (sources : List (Source I)) (inputs : List Told) (b : Contents) {kinds shown : List Kind} {lent : List (Source I)}
     → shown ≡ kinds → kinds ≡ map (λ (s : Source I). s.kind) lent → lent ≡ sources
     → ((logins others : List Entry) (procs rest : List ProcEntry) → SameOfEachHost logins others procs rest → (clock : ClockRows) (q : Question) → answer_of clock q logins procs ≡ answer_of clock q others rest)
-    → Tell to_come sources inputs → AreRead (room_of job) inputs b
+    → Tell to_come sources inputs → AreRead job inputs b
     → apart_text clock apart job shown b.logins b.procs ≡ output_told clock apart job inputs
 output_is {I} to_come clock apart job sources inputs b {shown = shown} e f h order tell read =
     let logins : List Entry = login_entries (map records_told inputs) in

@@ -9,7 +9,7 @@ use Rattle.tally_line.specs.declared.job.Job.{Job}
 use Rattle.tally_line.specs.declared.job.Report.TheVariants as report
 use Rattle.tally_records.specs.declared.batch.Kind.TheVariants.{Login}
 use Rattle.tally_cli.specs.Runs.{room_of}
-use Rattle.tally_cli.specs.inside.RunSteps.{most_calls}
+use Rattle.tally_cli.specs.Reading.{most_calls}
 
 abbrev job_of : ℕ → Job
 job_of millions = record { report = report.All; form = Text; millions = millions; feeders = 4; askers = 0; offset = pos 0; until = None }

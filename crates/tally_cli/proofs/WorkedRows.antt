@@ -19,8 +19,10 @@ use Rattle.tally_print.specs.declared.output.PrintFault.TheVariants as print
 use Rattle.tally_print.specs.declared.report_table.Table.TheVariants as tables
 use Rattle.tally_cli.specs.Output.{is_wanted, login_entries, proc_entries, questions_of, table_of}
 use Rattle.tally_cli.specs.Runs.{IsWrongNumber, callers_fault, failed_writes, fault_from}
-use Rattle.tally_cli.specs.inside.Tasks.{asker_questions, choice_of}
+use Rattle.tally_cli.specs.Reading.{choice_of, questions_beside}
+use Rattle.tally_cli.specs.inside.Tasks.{asker_questions}
 use Rattle.tally_cli.specs.declared.fault.RunFault.TheVariants.{Asker, Callers, File, Memory, Write}
+use Rattle.tally_line.specs.declared.job.Form.TheVariants.{Text}
 use Rattle.tally_line.specs.declared.job.Report.TheVariants as report
 
 -- what is chosen: times from 5 up to 9
@@ -53,6 +55,10 @@ once = questions.Last 0 (Some 10) logins (Some (pos 7000)) ∷ questions.Connect
 -- an asker asks four questions four times: the ten latest chosen stays of the first file, connect time, commands and users by cpu
 asked : asker_questions (record { choice = logins; until = Some (pos 7000) }) ≡ once ++ once ++ once ++ once
 asked = refl
+
+-- beside a job it asks over the sessions of the job's report, up to the job's moment
+beside : questions_beside (record { report = report.Connect true false logins; form = Text; millions = 1; feeders = 4; askers = 2; offset = pos 60; until = Some (pos 7000) }) ≡ once ++ once ++ once ++ once
+beside = refl
 
 -- what it asks is over the sessions that the report is over
 asked_over : map choice_of (report.Last None logins false ∷ report.Connect true false logins ∷ report.Commands order.Cpu false false ∷ report.Users order.Cpu false ∷ report.All ∷ report.Attempts None logins ∷ report.AttemptSums None logins ∷ []) ≡ logins ∷ logins ∷ every_login ∷ every_login ∷ every_login ∷ every_login ∷ every_login ∷ []

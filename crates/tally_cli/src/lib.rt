@@ -13,10 +13,10 @@ mod running;
 pub use crate::fault::{RunFault, UsageFault};
 pub use crate::running::apart::FilesApart;
 pub use crate::running::counting::FILE_BLOCKS;
-pub use crate::running::run;
 pub use crate::running::source::Source;
 pub use crate::running::usage::{is_usage_run, run_usage};
 pub use crate::running::wanted::UsageWanted;
+pub use crate::running::{read_all, run};
 pub use tally_line::{
     FileArg, FilesAsked, Form, Job, Line, LineFault, Report, Times, TimesFault, file_word, job_of,
     known_fault, settle,

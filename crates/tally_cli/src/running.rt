@@ -8,7 +8,8 @@ ghost use Rattle.tally_print.specs.Output.{IsWritable};
 ghost use Rattle.tally_cli.specs.Apart.{apart_of};
 ghost use Rattle.tally_cli.specs.Runs.{IsReadable, IsAllowed, IsFailedRun, IsFullList, IsNamed, IsWholeRun, IsWrongNumber, Tell, Told, callers_fault, failed_writes, room_of};
 ghost use Rattle.tally_line.specs.Jobs.{IsRunnable};
-ghost use Rattle.tally_cli.specs.inside.RunSteps.{AreRead, AreWorkedThrough, IsReadCause, IsUnprinted, most_calls, run_fault};
+ghost use Rattle.tally_cli.specs.Reading.{AreRead, IsReadCause, IsUnprinted, most_calls};
+ghost use Rattle.tally_cli.specs.inside.RunSteps.{AreWorkedThrough, run_fault};
 
 pub(crate) mod apart;
 mod by_file;
@@ -160,35 +161,36 @@ fn work_through<R: Threads + Wait + Sync, I: Input + Send, G: Gate + Sync>(
     Ok((close_all(desk, back), failure))
 }
 
-/// Reads each file as one caller of a desk, several at once, and hands out the book. A fault is
-/// that of the first file at fault, else that of the first asker.
-fn feed_all<R: Threads + Wait + Sync, I: Input + Send, G: Gate + Sync>(
+/// Reads each file as one caller of a desk, several at once, and hands out the book: it has the records of the files, those of each under its
+/// number, and what was asked of it. Askers ask meanwhile, four times what a report would, of what is stored by then. A fault is that
+/// of the first file at fault, else that of the first asker.
+pub fn read_all<R: Threads + Wait + Sync, I: Input + Send, G: Gate + Sync>(
     rt: &R,
     alloc: Global,
     keys: RandomState,
     clock: &Clock,
     job: &Job,
-    callers: u32,
     sources: Vec<Source<I>>,
     gate: &G,
 ) -> Result<Book, RunFault>
     requires runnable { IsRunnable job.now }
-    requires callers { callers ≡ length sources.items + job.now.askers }
-    requires some { 0 < callers }
-    requires few { callers ≤ HOST_LIMIT }
     requires readable { All (IsReadable I.failures) sources.items }
-    ensures whole { IfOk result (λ b. (inputs : List Told) → Tell I.to_come sources.items inputs → AreRead (room_of job.now) inputs b) }
-    ensures callers { IfOk result (λ b. b.callers ≡ callers) }
+    ensures whole { IfOk result (λ b. (inputs : List Told) → Tell I.to_come sources.items inputs → AreRead job.now inputs b) }
+    ensures legal { IfOk result IsLegal }
+    ensures callers { IfOk result (λ b. b.callers ≡ length sources.items + job.now.askers) }
     ensures clock { IfOk result (λ b. b.clock ≡ clock.now) }
     ensures calls { IfOk result (λ b. length b.calls ≤ most_calls) }
-    ensures cause { IfErr result (λ f. (inputs : List Told) → Tell I.to_come sources.items inputs → IsReadCause (room_of job.now) inputs f) }
-    ensures allowed { IfErr result (IsAllowed callers) }
-    ensures named { IfErr result (IsNamed (length sources.items) callers) }
+    ensures refused { IsWrongNumber (length sources.items + job.now.askers)
+        → result ≡ Err (callers_fault (length sources.items + job.now.askers)) }
+    ensures allowed { IfErr result (IsAllowed (length sources.items + job.now.askers)) }
+    ensures named { IfErr result (IsNamed (length sources.items) (length sources.items + job.now.askers)) }
     ensures full { IfErr result (IsFullList (room_of job.now) sources.items) }
     ensures unprinted { IfErr result IsUnprinted }
     ensures read { IfErr result (λ f. (host : ℕ) → f ≡ RunFault.File host feed_fault_of.Read
         → (s : Source _) → I.can_fail (slice_index_or sources.items host s).input ≡ true) }
+    ensures cause { IfErr result (λ f. (inputs : List Told) → Tell I.to_come sources.items inputs → IsReadCause (room_of job.now) inputs f) }
 {
+    let callers = callers_of(sources.len(), job.askers)?;
     let (desk, passes) = open(alloc, keys, clock, room_for(job), callers)?;
     let feeders = job.feeders as usize;
     entries_are_posts();
@@ -208,15 +210,13 @@ fn run_on_desk<R: Threads + Wait + Sync, I: Input + Send, G: Gate + Sync, O: Out
     clock: &Clock,
     job: &Job,
     apart: FilesApart<'_>,
-    callers: u32,
     sources: Vec<Source<I>>,
     gate: &G,
     out: &mut O,
 ) -> Result<(), RunFault>
     requires runnable { IsRunnable job.now }
-    requires callers { callers ≡ length sources.items + job.now.askers }
-    requires some { 0 < callers }
-    requires few { callers ≤ HOST_LIMIT }
+    requires some { 0 < length sources.items + job.now.askers }
+    requires few { length sources.items + job.now.askers ≤ HOST_LIMIT }
     requires readable { All (IsReadable I.failures) sources.items }
     requires writable { IsWritable (O.state out.old) }
     ensures whole { OnOk result (IsWholeRun I.to_come clock.now (apart_of apart.entry) job.now sources.items (O.state out.old) (O.state out.new)) }
@@ -225,7 +225,7 @@ fn run_on_desk<R: Threads + Wait + Sync, I: Input + Send, G: Gate + Sync, O: Out
     ensures tells { (O.state out.new).tells ≡ (O.state out.old).tells }
 {
     let kinds = kinds_of(alloc, sources.as_slice())?;
-    let book = feed_all(rt, alloc, keys, clock, job, callers, sources, gate)?;
+    let book = read_all(rt, alloc, keys, clock, job, sources, gate)?;
     host_order_is_enough();
     report(rt, alloc, clock, job, apart, kinds.as_slice(), book, out)?;
     finish(out)
@@ -260,12 +260,10 @@ pub fn run<R: Threads + Wait + Sync, I: Input + Send, G: Gate + Sync, O: Output>
     ensures counts { (O.state out.new).failures ≡ (O.state out.old).failures + failed_writes result }
     ensures tells { (O.state out.new).tells ≡ (O.state out.old).tells }
 {
-    let callers = callers_of(sources.len(), job.askers)?;
+    let _callers = callers_of(sources.len(), job.askers)?;
     if is_counted(job, apart, sources.as_slice()) {
         run_counted(rt, alloc, keys, clock, job, sources, out)
     } else {
-        run_on_desk(
-            rt, alloc, keys, clock, job, apart, callers, sources, gate, out,
-        )
+        run_on_desk(rt, alloc, keys, clock, job, apart, sources, gate, out)
     }
 }

@@ -1,8 +1,7 @@
 -- What a worker does of its tasks.
-use Rattle.std.specs.Prelude.{◌≡◌, ◌<◌, ◌∷◌, [], ℕ, Bool, List, Option, Some, false, pos, true, ⊤, length, slice_index_or}
+use Rattle.std.specs.Prelude.{◌≡◌, ◌<◌, ℕ, Bool, List, Option, Some, true, ⊤, length, slice_index_or}
 use Rattle.std.specs.List.{All, Contains}
 use Rattle.tally_book.specs.declared.question.Question.{Question}
-use Rattle.tally_book.specs.declared.question.Question.TheVariants as questions
 use Rattle.tally_book.specs.Rooms.{batches_in}
 use Rattle.tally_desk.specs.Feeds.{Counts, IsFeedRefusal, IsStopped, IsWhole, Posts, Stops}
 use Rattle.tally_desk.specs.Passes.{DeskState, Keeps, PassState}
@@ -10,13 +9,9 @@ use Rattle.tally_desk.specs.Rounds.{AskStops, Asks, in_rounds}
 use Rattle.tally_desk.specs.declared.fault.FeedFault.{FeedFault}
 use Rattle.tally_desk.specs.declared.fault.FeedFault.TheVariants.{Read}
 use Rattle.tally_desk.specs.declared.feeding.Fed.{Fed}
-use Rattle.tally_line.specs.declared.job.Report.{Report}
-use Rattle.tally_line.specs.declared.job.Report.TheVariants as report
-use Rattle.tally_records.specs.Choice.{every_login}
 use Rattle.tally_records.specs.Records.{Records}
-use Rattle.tally_records.specs.declared.choice.LoginChoice.{LoginChoice}
 use Rattle.tally_records.specs.declared.batch.Kind.{Kind}
-use Rattle.tally_usage.specs.declared.order.Order.TheVariants as order
+use Rattle.tally_cli.specs.Reading.{asked_once}
 use Rattle.tally_cli.specs.Runs.{IsReadable}
 use Rattle.tally_cli.specs.declared.running.source.Source.{Source}
 use Rattle.tally_cli.specs.declared.running.task.Asking.{Asking}
@@ -54,21 +49,9 @@ pub record FailedToFeed (told : Option (List ℕ)) (can_fail : Bool) (kind : Kin
   pub full : IsFeedRefusal kind new.seen fault
   pub read : fault ≡ Read → can_fail ≡ true
 
--- the sessions that a report is over, or all of them where it has none
-abbrev pub choice_of : Report → LoginChoice
-choice_of (report.Last limit choice within) = choice
-choice_of (report.Connect by_day by_user choice) = choice
-choice_of r = every_login
-
--- what an asker asks in a round: the latest chosen stays of the first host, connect time of what is chosen, and the usage of commands
--- and users
-abbrev pub asked_once : Asking → List Question
-asked_once asking = questions.Last 0 (Some 10) asking.choice asking.until ∷ questions.Connect false false (pos 0) asking.choice asking.until
-    ∷ questions.Commands order.Cpu false false ∷ questions.Users order.Cpu false ∷ []
-
--- all that it asks, in four rounds
+-- all that an asker asks, in four rounds
 abbrev pub asker_questions : Asking → List Question
-asker_questions asking = in_rounds 4 (asked_once asking)
+asker_questions asking = in_rounds 4 (asked_once asking.choice asking.until)
 
 -- what a caller did of its work, by what it says of it
 abbrev pub IsOutcome : {I : Type 0} → (I → Option (List ℕ)) → (I → Bool) → Work I → PassState → PassState → Outcome → Type 0

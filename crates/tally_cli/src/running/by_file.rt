@@ -6,7 +6,8 @@ ghost use Rattle.tally_cli.specs.Apart.{apart_of, by_file_text, file_table, file
 ghost use Rattle.tally_cli.specs.Output.{report_text};
 ghost use Rattle.tally_cli.specs.Runs.{failed_writes};
 ghost use Rattle.tally_cli.specs.inside.Parts.{HasPart, part_alone, part_text};
-ghost use Rattle.tally_cli.specs.inside.RunSteps.{IsPrintFault, most_calls};
+ghost use Rattle.tally_cli.specs.Reading.{most_calls};
+ghost use Rattle.tally_cli.specs.inside.RunSteps.{IsPrintFault};
 ghost use Rattle.tally_line.specs.Jobs.{IsRunnable};
 ghost use Rattle.tally_line.specs.declared.job.Report.TheVariants as reports;
 ghost use Rattle.tally_print.specs.Output.{IsWritable, Prints, failed_calls};

@@ -4,7 +4,7 @@ ghost use Rattle.std.specs.List.{All};
 ghost use Rattle.tally_cli.specs.Runs.{IsReadable, Tell, Told};
 ghost use Rattle.tally_cli.specs.inside.Files.{AreAllCounted, AreCounted, AreExplained, HasSums, IsFault, IsPlaced, IsUncounted, count_in};
 ghost use Rattle.tally_cli.specs.inside.LoginCounts.{AreCountedIn, AreTaken, CameOf, IsLoginRefusal, IsNotTaken, IsOfLogins, IsTakeFault, StopsAt, counted_of, stored_when_full};
-ghost use Rattle.tally_cli.specs.inside.RunSteps.{IsReadCause, IsUnprinted};
+ghost use Rattle.tally_cli.specs.Reading.{IsReadCause, IsUnprinted};
 ghost use Rattle.tally_desk.specs.declared.fault.FeedFault.TheVariants as feed_fault_of;
 
 use crate::fault::RunFault;

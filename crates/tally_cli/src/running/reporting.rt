@@ -1,11 +1,12 @@
 //! The job's report on the closed book, printed.
-ghost use Rattle.std.specs.Prelude.{◌≡◌, ◌<◌, ◌≤◌, [], IfErr, IfOk, OnOk, length, map};
+ghost use Rattle.std.specs.Prelude.{◌≡◌, ◌<◌, ◌≤◌, ◌↔◌, [], IfErr, IfOk, IsTrue, OnOk, length, map};
 ghost use Rattle.std.specs.List.{All};
 ghost use Rattle.tally_book.specs.Answers.{HasDays, answer_of};
 ghost use Rattle.tally_cli.specs.Apart.{apart_of, apart_text};
 ghost use Rattle.tally_cli.specs.Output.{form_text, questions_of, report_text};
 ghost use Rattle.tally_cli.specs.Runs.{failed_writes};
-ghost use Rattle.tally_cli.specs.inside.RunSteps.{IsPrintFault, most_calls};
+ghost use Rattle.tally_cli.specs.Reading.{most_calls};
+ghost use Rattle.tally_cli.specs.inside.RunSteps.{HasStays, IsPrintFault};
 ghost use Rattle.tally_line.specs.Jobs.{IsRunnable};
 ghost use Rattle.tally_line.specs.declared.job.Report.TheVariants as reports;
 ghost use Rattle.tally_print.specs.Output.{IsWritable, Prints, failed_calls};
@@ -43,10 +44,12 @@ fn count_for<R: Threads + Sync>(
 }
 
 /// Whether a report of files of these kinds has stays.
-fn has_stays(report: &Report, kinds: &[Kind]) -> bool {
+fn has_stays(report: &Report, kinds: &[Kind]) -> bool
+    ensures { IsTrue result ↔ HasStays report.now kinds.now }
+{
     match report {
         Report::Last { .. } => true,
-        Report::All => kinds.contains(&Kind::Login),
+        Report::All => !kinds.iter().all(|kind| *kind != Kind::Login),
         Report::Attempts { .. }
         | Report::AttemptSums { .. }
         | Report::Connect { .. }

@@ -2,8 +2,9 @@
 ghost use Rattle.std.specs.Prelude.{◌≡◌, IfErr, IfOk, MatchBool, OnOk};
 ghost use Rattle.tally_desk.specs.Passes.{Keeps};
 ghost use Rattle.tally_desk.specs.Rounds.{AskStops, Asks};
+ghost use Rattle.tally_cli.specs.Reading.{asked_once, choice_of};
 ghost use Rattle.tally_cli.specs.Runs.{IsReadable};
-ghost use Rattle.tally_cli.specs.inside.Tasks.{asked_once, asker_questions, choice_of, HasFailed, IsDone, IsUntried, Works};
+ghost use Rattle.tally_cli.specs.inside.Tasks.{asker_questions, HasFailed, IsDone, IsUntried, Works};
 
 use crate::running::source::Source;
 use std::alloc::Global;
@@ -77,7 +78,7 @@ const ROUNDS: u32 = 4;
 
 /// The questions of a round.
 fn questions(asking: Asking) -> [Question; 4]
-    ensures { result ≡ asked_once asking }
+    ensures { result ≡ asked_once asking.choice asking.until }
 {
     let Asking { choice, until } = asking;
     [

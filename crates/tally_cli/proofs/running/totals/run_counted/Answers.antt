@@ -5,7 +5,7 @@ use Rattle.tally_sessions.specs.ConnectSums.{AreCountsOf}
 use Rattle.tally_cli.specs.Output.{login_entries, proc_entries}
 use Rattle.tally_cli.specs.Runs.{IsGood, Told, records_told}
 use Rattle.tally_cli.specs.inside.LoginCounts.{IsLoginRefusal}
-use Rattle.tally_cli.specs.inside.RunSteps.{IsReadCause}
+use Rattle.tally_cli.specs.Reading.{IsReadCause}
 use Rattle.tally_cli.proofs.ByFile.{plain_printed}
 use Rattle.tally_cli.proofs.Reported.{at_fault, failed_printing, failed_unwritten, faults_are, on_ok_always, printed_whole, whole_prefix}
 use Rattle.tally_cli.proofs.running.totals.run_counted.Goals as goal
