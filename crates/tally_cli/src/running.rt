@@ -162,7 +162,7 @@ fn work_through<R: Threads + Wait + Sync, I: Input + Send, G: Gate + Sync>(
 }
 
 /// Reads each file as one caller of a desk, several at once, and hands out the book: it has the records of the files, those of each under its
-/// number, and what was asked of it. Askers ask meanwhile, four times what a report would, of what is stored by then. A fault is that
+/// number, and what was asked of it. Each asker meanwhile asks four reports of it, four times, of what is stored by then. A fault is that
 /// of the first file at fault, else that of the first asker.
 pub fn read_all<R: Threads + Wait + Sync, I: Input + Send, G: Gate + Sync>(
     rt: &R,
