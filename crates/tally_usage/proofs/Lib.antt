@@ -8,6 +8,7 @@ pub mod NameLemmas
 pub mod NumberLemmas
 pub mod PasswdLemmas
 pub mod PermutationLemmas
+pub mod RowTotals
 pub mod SummaryLemmas
 pub mod SumsLemmas
 pub mod TotalsLemmas

@@ -20,7 +20,7 @@ use Rattle.tally_usage.proofs.UserLemmas.{user_cmp_total}
 use Rattle.tally_records.proofs.Members.{Member, Member-from_Contains, Contains-from_Member}
 use Rattle.tally_records.proofs.SortedLemmas.{TiesAreEqual, ascending_unique, in_order-ascends, in_order-from, in_order-has}
 
-sum_by-filter : {X : Type 0} (f : X → ℕ) (p : X → Bool) (xs : List X) → sum_by f (filter p xs) ≡ sum_by (λ x. cond (p x) (f x) 0) xs
+pub sum_by-filter : {X : Type 0} (f : X → ℕ) (p : X → Bool) (xs : List X) → sum_by f (filter p xs) ≡ sum_by (λ x. cond (p x) (f x) 0) xs
 sum_by-filter f p [] = refl
 sum_by-filter {X} f p (x ∷ xs) = by (p x) (sum_by-filter f p xs) ∙ sym (sum_by-cons (λ y. cond (p y) (f y) 0) x xs)
   where

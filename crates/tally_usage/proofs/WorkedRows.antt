@@ -8,6 +8,7 @@ use Rattle.tally_usage.specs.declared.command.CommandRow.{CommandRow}
 use Rattle.tally_usage.specs.declared.usage.Usage.{Usage}
 use Rattle.tally_usage.specs.declared.order.Order.TheVariants.{Cpu, Calls}
 use Rattle.tally_usage.specs.Command.{command_rows, is_printable}
+use Rattle.tally_usage.specs.Laws.{together}
 use Rattle.tally_usage.specs.Usage.{usage_of}
 use Rattle.tally_usage.specs.User.{user_rows}
 
@@ -75,3 +76,7 @@ users = refl
 -- names print from a blank to a tilde, up to the first zero
 printable : map (λ byte. is_printable (97 ∷ byte ∷ 0 ∷ 27 ∷ [])) (0x1F ∷ 0x20 ∷ 0x7E ∷ 0x7F ∷ 0x80 ∷ 0xFF ∷ []) ≡ false ∷ true ∷ true ∷ false ∷ false ∷ false ∷ []
 printable = refl
+
+-- rows have together what their records used
+in_rows : together (λ (row : CommandRow). row.usage) (stray_row ∷ forked_row ∷ []) ≡ record { count = 3; real = 720; cpu = 300; io = 1006; mem_cpu = 114000 }
+in_rows = refl

@@ -3,6 +3,7 @@ pub mod Blocks
 pub mod Counted
 pub mod Entries
 pub mod Keys
+pub mod Marks
 pub mod Names
 pub mod Rows
 pub mod Sound
