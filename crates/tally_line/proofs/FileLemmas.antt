@@ -10,6 +10,9 @@ use Rattle.clap.specs.Words.{Text}
 use Rattle.tally_records.specs.declared.batch.Kind.{Kind}
 use Rattle.tally_line.specs.FileWords.{HasPrefix, IsFirstBare, NamesFiles, Reads, prefix_of, word_of}
 use Rattle.tally_line.specs.declared.line.FileArg.{FileArg}
+use Rattle.tally_line.specs.declared.line.LineFault.{LineFault}
+use Rattle.tally_line.specs.declared.line.LineFault.TheVariants as fault
+use Rattle.tally_line.specs.inside.LineSteps.{IsFileFault, IsWordFault}
 use Rattle.tally_line.specs.declared.job.Report.{Report}
 use Rattle.tally_line.specs.declared.job.Report.TheVariants as report
 
@@ -55,3 +58,10 @@ first_bare r words i d files lt all bare names =
       bare = λ has. bare (subst HasPrefix at has);
       earlier = subst (All HasPrefix) (sym front) (prefixes files (subst (λ x. All (λ file. Reads x file.kind) files) all names.each_kind));
     }
+
+-- the fault of a word is that of the words, where those before it name files
+pub word_fault : (r : Report) (words : List (Bor Text)) (i : ℕ) (d : Bor Text) (files : List FileArg) (f : LineFault)
+    → i < length words → NamesFiles r (texts (take i words)) files → IsWordFault r i (slice_index_or words i d).now f → IsFileFault r (texts words) f
+word_fault r words i d files fault.Memory lt names is = tt
+word_fault r words i d files (fault.Usage text) lt names is = absurd is
+word_fault r words i d files (fault.Prefix at) lt names is = (is.1, subst (IsFirstBare (texts words)) (sym is.0) (first_bare r words i d files lt is.1 is.2 names))

@@ -2,7 +2,7 @@
 ghost use Rattle.std.specs.Prelude.{◌≡◌, ◌≢◌, ◌++◌, [], None, IfErr, IfNone, IfOk, IfSome, string_bytes, unwrap_or};
 ghost use Rattle.clap.specs.Walk.{texts};
 ghost use Rattle.tally_line.specs.FileWords.{HasPrefix, NamesFiles, Reads, prefix_of, word_of};
-ghost use Rattle.tally_line.specs.inside.LineSteps.{IsFileFault};
+ghost use Rattle.tally_line.specs.inside.LineSteps.{IsFileFault, IsWordFault};
 
 use crate::job::Report;
 use crate::line::{FileArg, LineFault};
@@ -20,13 +20,23 @@ pub(crate) fn files_of(
 {
     let mut files = Vec::new(alloc);
     for (index, word) in words.iter().enumerate() {
-        let Some((kind, path)) = named_file(report, word) else {
-            return Err(LineFault::Prefix { index });
-        };
-        let path = String::from_str(alloc, path)?;
-        files.push(FileArg { kind, path })?;
+        let file = file_of(alloc, report, index, word)?;
+        files.push(file)?;
     }
     Ok(files)
+}
+
+/// The file that the word at an index names to a report.
+fn file_of(alloc: Global, report: Report, index: usize, word: &str) -> Result<FileArg, LineFault>
+    ensures word { IfOk result (λ file. word.entry.now ≡ word_of report file.kind (string_bytes file.path)) }
+    ensures kind { IfOk result (λ file. Reads report file.kind) }
+    ensures err { IfErr result (IsWordFault report index word.entry.now) }
+{
+    let Some((kind, path)) = named_file(report, word) else {
+        return Err(LineFault::Prefix { index });
+    };
+    let path = String::from_str(alloc, path)?;
+    Ok(FileArg { kind, path })
 }
 
 /// The kind and the path of the file that a word names to a report.

@@ -3,7 +3,7 @@ use Rattle.std.specs.Char.{is_ascii_digit}
 use Rattle.std.specs.Prelude.{◌≡◌, ◌<◌, ◌⊎◌, ◌∷◌, ◌++◌, ℕ, Bool, List, [], ⊤, codes, false, length, true}
 use Rattle.clap.specs.Words.{Text}
 use Rattle.clap.specs.declared.error.kind.ErrorKind.{ErrorKind}
-use Rattle.tally_line.specs.FileWords.{IsFirstBare}
+use Rattle.tally_line.specs.FileWords.{HasPrefix, IsFirstBare}
 use Rattle.tally_line.specs.declared.job.Report.{Report}
 use Rattle.tally_line.specs.declared.line.Line.{Line}
 use Rattle.tally_line.specs.declared.line.LineFault.{LineFault}
@@ -23,6 +23,12 @@ abbrev pub IsFaultOf : Met → LineFault → Type 0
 IsFaultOf met fault.Memory = ⊤
 IsFaultOf met (fault.Usage text) = ¬ AreSound (rows_met met)
 IsFaultOf met (fault.Prefix index) = AsksFor report.All met × IsFirstBare (file_words met) index
+
+-- why the word at an index names no file to a report
+abbrev pub IsWordFault : Report → ℕ → Text → LineFault → Type 0
+IsWordFault r index word fault.Memory = ⊤
+IsWordFault r index word (fault.Usage text) = ⊥
+IsWordFault r index word (fault.Prefix at) = (at ≡ index) × (r ≡ report.All) × ¬ HasPrefix word
 
 -- why words name no files to a report
 abbrev pub IsFileFault : Report → List Text → LineFault → Type 0
