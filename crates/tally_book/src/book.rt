@@ -14,7 +14,7 @@ use crate::history::{Call, Receipt, Served, record};
 use crate::logins::LoginStore;
 use crate::question::{Answer, Question};
 use crate::room::Room;
-use crate::storing::{check_room, counts, store};
+use crate::storing::{check_room, counts, is_full, store};
 use std::alloc::Global;
 use std::hash::RandomState;
 use std::marker::Model;
@@ -268,7 +268,7 @@ impl Book {
         ensures cause { IfErr result (IsAskRefusal self.old.callers (length self.old.calls) question.now) }
         ensures legal { IsLegal self.new }
     {
-        if self.calls.len() >= CALL_LIMIT {
+        if is_full(self.calls.len()) {
             return Err(AskFault::CallsFull);
         }
         check_host(self.callers, question)?;

@@ -1,5 +1,5 @@
 //! The steps in which a batch is stored.
-ghost use Rattle.std.specs.Prelude.{◌≡◌, ◌≢◌, ◌+◌, ◌++◌, is_ok, if◌then◌else◌, ◌<◌, ◌≤◌, length, IfErr, OnOk};
+ghost use Rattle.std.specs.Prelude.{◌≡◌, ◌≢◌, ◌+◌, ◌++◌, is_ok, if◌then◌else◌, ◌<◌, ◌≤◌, length, IfErr, MatchBool, OnOk};
 ghost use Rattle.tally_book.specs.Refusals.{HasRoom, IsPostRefusal};
 ghost use Rattle.tally_sessions.specs.Hosts.{posted_by};
 ghost use Rattle.tally_usage.specs.Summary.{entries_of};
@@ -23,6 +23,13 @@ pub(crate) fn counts(logins: &LoginStore, summary: &Summary) -> Counts
         logins: logins.entries().len() as u64,
         procs: summary.entries().len() as u64,
     }
+}
+
+/// Whether a history of so many calls has room for no other.
+pub(crate) fn is_full(calls: usize) -> bool
+    ensures { MatchBool result (CALL_LIMIT ≤ calls) (calls < CALL_LIMIT) }
+{
+    calls >= CALL_LIMIT
 }
 
 /// Sees that the batch and the call fit.
@@ -56,7 +63,7 @@ pub(crate) fn check_room(
         }
         Kind::Login | Kind::FailedLogin | Kind::Proc => {}
     }
-    if calls >= CALL_LIMIT {
+    if is_full(calls) {
         return Err(PostFault::CallsFull);
     }
     Ok(())

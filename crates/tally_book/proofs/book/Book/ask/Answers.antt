@@ -11,14 +11,14 @@ use Rattle.tally_book.proofs.AskLemmas.{calls_full, calls_left, memory_refused, 
 use Rattle.tally_book.proofs.Growth.{asked_legal}
 use Rattle.tally_book.proofs.book.Book.ask.Goals as goal
 
-pub returns-then-len-ge-CALL_LIMIT-clause-refused : goal.returns-then-len-ge-CALL_LIMIT-clause-refused
-returns-then-len-ge-CALL_LIMIT-clause-refused c = refl
+pub returns-then-is_full-clause-refused : goal.returns-then-is_full-clause-refused
+returns-then-is_full-clause-refused c = refl
 
-pub returns-then-len-ge-CALL_LIMIT-clause-cause : goal.returns-then-len-ge-CALL_LIMIT-clause-cause
-returns-then-len-ge-CALL_LIMIT-clause-cause c = calls_full c.self.inside c.args.self.now c.self.view_is c.len.result c.len.ensures c.self.invariant c.if-len-ge-CALL_LIMIT.true
+pub returns-then-is_full-clause-cause : goal.returns-then-is_full-clause-cause
+returns-then-is_full-clause-cause c = calls_full c.self.inside c.args.self.now c.self.view_is c.len.result c.len.ensures c.self.invariant c.if-is_full.ensures
 
-pub returns-then-len-ge-CALL_LIMIT-clause-legal : goal.returns-then-len-ge-CALL_LIMIT-clause-legal
-returns-then-len-ge-CALL_LIMIT-clause-legal c = subst IsLegal c.self.view_is c.self.invariant.legal
+pub returns-then-is_full-clause-legal : goal.returns-then-is_full-clause-legal
+returns-then-is_full-clause-legal c = subst IsLegal c.self.view_is c.self.invariant.legal
 
 pub returns-in_err-check_host-clause-stored : goal.returns-in_err-check_host-clause-stored
 returns-in_err-check_host-clause-stored c =
@@ -43,7 +43,7 @@ returns-in_err-check_host-clause-refused c =
 pub returns-in_err-check_host-clause-cause : goal.returns-in_err-check_host-clause-cause
 returns-in_err-check_host-clause-cause c =
     let p = err_from_is_err_and c.from_residual.result c.from_residual.ensures.1 in
-    rw (p.1, p.2) (no_such_host c.self.inside c.args.self.now c.self.view_is c.len.result c.len.ensures c.args.question.now _ c.if-len-ge-CALL_LIMIT.false c.in_err-check_host.ensures.cause)
+    rw (p.1, p.2) (no_such_host c.self.inside c.args.self.now c.self.view_is c.len.result c.len.ensures c.args.question.now _ c.if-is_full.ensures c.in_err-check_host.ensures.cause)
 
 pub returns-in_err-check_host-clause-legal : goal.returns-in_err-check_host-clause-legal
 returns-in_err-check_host-clause-legal c = subst IsLegal c.self.view_is c.self.invariant.legal
@@ -79,7 +79,7 @@ returns-in_err-reserve-clause-refused c =
 pub returns-in_err-reserve-clause-cause : goal.returns-in_err-reserve-clause-cause
 returns-in_err-reserve-clause-cause c =
     let p = err_from_is_err_and c.from_residual-in_err-reserve.result c.from_residual-in_err-reserve.ensures.1 in
-    rw (p.1, p.2) (memory_refused c.self.inside c.args.self.now c.self.view_is c.len.result c.len.ensures c.args.question.now c.if-len-ge-CALL_LIMIT.false c.in_ok-check_host.ensures.host)
+    rw (p.1, p.2) (memory_refused c.self.inside c.args.self.now c.self.view_is c.len.result c.len.ensures c.args.question.now c.if-is_full.ensures c.in_ok-check_host.ensures.host)
 
 pub returns-in_err-reserve-clause-legal : goal.returns-in_err-reserve-clause-legal
 returns-in_err-reserve-clause-legal c = (invariant_of-self c).legal
@@ -115,7 +115,7 @@ returns-in_err-count_for-clause-refused c =
 pub returns-in_err-count_for-clause-cause : goal.returns-in_err-count_for-clause-cause
 returns-in_err-count_for-clause-cause c =
     let p = err_from_is_err_and c.from_residual-in_err-count_for.result c.from_residual-in_err-count_for.ensures.1 in
-    rw (p.1, p.2) (memory_refused c.self.inside c.args.self.now c.self.view_is c.len.result c.len.ensures c.args.question.now c.if-len-ge-CALL_LIMIT.false c.in_ok-check_host.ensures.host)
+    rw (p.1, p.2) (memory_refused c.self.inside c.args.self.now c.self.view_is c.len.result c.len.ensures c.args.question.now c.if-is_full.ensures c.in_ok-check_host.ensures.host)
 
 pub returns-in_err-count_for-clause-legal : goal.returns-in_err-count_for-clause-legal
 returns-in_err-count_for-clause-legal c = (invariant_of-self-in_err-count_for c).legal
@@ -163,7 +163,7 @@ returns-in_err-answer-clause-refused c =
 pub returns-in_err-answer-clause-cause : goal.returns-in_err-answer-clause-cause
 returns-in_err-answer-clause-cause c =
     let p = err_from_is_err_and c.from_residual-in_err-answer.result c.from_residual-in_err-answer.ensures.1 in
-    rw (p.1, p.2, c.in_err-answer.ensures.cause) (memory_refused c.self.inside c.args.self.now c.self.view_is c.len.result c.len.ensures c.args.question.now c.if-len-ge-CALL_LIMIT.false c.in_ok-check_host.ensures.host)
+    rw (p.1, p.2, c.in_err-answer.ensures.cause) (memory_refused c.self.inside c.args.self.now c.self.view_is c.len.result c.len.ensures c.args.question.now c.if-is_full.ensures c.in_ok-check_host.ensures.host)
 
 pub returns-in_err-answer-clause-legal : goal.returns-in_err-answer-clause-legal
 returns-in_err-answer-clause-legal c = (invariant_of-self-in_err-answer c).legal
@@ -199,7 +199,7 @@ returns-in_err-asked-clause-refused c =
 pub returns-in_err-asked-clause-cause : goal.returns-in_err-asked-clause-cause
 returns-in_err-asked-clause-cause c =
     let p = err_from_is_err_and c.from_residual-in_err-asked.result c.from_residual-in_err-asked.ensures.1 in
-    rw (p.1, p.2) (memory_refused c.self.inside c.args.self.now c.self.view_is c.len.result c.len.ensures c.args.question.now c.if-len-ge-CALL_LIMIT.false c.in_ok-check_host.ensures.host)
+    rw (p.1, p.2) (memory_refused c.self.inside c.args.self.now c.self.view_is c.len.result c.len.ensures c.args.question.now c.if-is_full.ensures c.in_ok-check_host.ensures.host)
 
 pub returns-in_err-asked-clause-legal : goal.returns-in_err-asked-clause-legal
 returns-in_err-asked-clause-legal c = (invariant_of-self-in_err-asked c).legal
@@ -217,7 +217,7 @@ invariant_of-self-2 c =
     let calls : c.record-call.new.calls.items ≡ (asked b c.args.caller question).calls =
     c.record-call.ensures.history ∙ (λ i. c.reserve.ensures.items i ++ kept i ∷ []) in
     let near = subst (λ (s : Contents). c.args.caller < s.callers) (sym c.self.view_is) c.requires.caller in
-    let room = calls_left c.self.inside b refl c.len.result c.len.ensures c.if-len-ge-CALL_LIMIT.false in
+    let room = calls_left c.self.inside b refl c.len.result c.len.ensures c.if-is_full.ensures in
     let legal : IsLegal (asked b c.args.caller question) = asked_legal b c.args.caller question c.self.invariant.legal near room c.in_ok-check_host.ensures.host in
     record {
       hosts = c.in_ok-count_for.ensures.hosts ∙ c.self.invariant.hosts;
