@@ -1,5 +1,5 @@
 //! The clock of a time zone file.
-ghost use Rattle.std.specs.Prelude.{◌≡◌, ◌⊎◌, ◌+◌, ◌<◌, ◌≤◌, ◌^◌, IfErr, IfOk, length, slice_index};
+ghost use Rattle.std.specs.Prelude.{◌≡◌, ◌⊎◌, ◌+◌, ◌<◌, ◌≤◌, ◌^◌, IfErr, IfOk, length, nat_lt, slice_index};
 ghost use Rattle.jiff_core.specs.declared.error.TzifFault.{TzifFault};
 ghost use Rattle.jiff_tz.specs.TzifReader.{be_u32, read_tzif};
 ghost use Rattle.tally_clock.specs.Files as Spec;
@@ -87,6 +87,20 @@ fn leap_count(bytes: &[u8]) -> usize
     number_at(bytes, header + 28)
 }
 
+/// Whether there are more bytes than a time zone file has.
+fn is_large(bytes: &[u8]) -> bool
+    ensures { result ≡ nat_lt FILE_LIMIT (length bytes.now) }
+{
+    bytes.len() > FILE_LIMIT
+}
+
+/// Whether a file counts leap seconds.
+fn has_leap_seconds(bytes: &[u8]) -> bool
+    ensures { result ≡ nat_lt 0 (Spec.leap_count bytes.now) }
+{
+    leap_count(bytes) > 0
+}
+
 /// The table that bytes hold.
 fn table_of(alloc: Global, bytes: &[u8]) -> Result<Tzif, FileFault>
     ensures value { IfOk result (Spec.IsTableOf bytes.now) }
@@ -100,6 +114,21 @@ fn table_of(alloc: Global, bytes: &[u8]) -> Result<Tzif, FileFault>
     }
 }
 
+/// The table that bytes hold, which counts no leap seconds.
+fn table_without_leap_seconds(alloc: Global, bytes: &[u8]) -> Result<Tzif, FileFault>
+    ensures value { IfOk result (Spec.IsTableOf bytes.now) }
+    ensures no_leap_seconds { IfOk result (λ _. Spec.leap_count bytes.now ≡ 0) }
+    ensures err { IfErr result (λ found. (found ≡ FileFault.Memory) ⊎ ((found ≡ FileFault.NoZone) × Spec.HoldsNoTable bytes.now)
+        ⊎ ((found ≡ FileFault.LeapSeconds) × (0 < Spec.leap_count bytes.now))) }
+    ensures broken { (f : TzifFault) → read_tzif bytes.now ≡ Err f → result ≡ Err FileFault.NoZone }
+{
+    let table = table_of(alloc, bytes)?;
+    if has_leap_seconds(bytes) {
+        return Err(FileFault::LeapSeconds);
+    }
+    Ok(table)
+}
+
 /// The clock of a table.
 fn clock_of(alloc: Global, table: &Tzif) -> Result<Clock, ClockFault>
     ensures shows { IfOk result (Spec.ShowsTable table.now) }
@@ -110,19 +139,17 @@ fn clock_of(alloc: Global, table: &Tzif) -> Result<Clock, ClockFault>
 
 impl Clock {
     /// The clock of the zone that the bytes of a file hold.
+    #[tactic(auto, using(crate::proofs::FaultLemmas::clock_is_of_file, crate::proofs::FaultLemmas::file_refused))]
     pub fn of_file(alloc: Global, bytes: &[u8]) -> Result<Clock, FileFault>
         ensures value { IfOk result (Spec.IsClockOfFile bytes.now) }
         ensures err { IfErr result (Spec.RefusesFile bytes.now) }
         ensures large { FILE_LIMIT < length bytes.now → result ≡ Err FileFault.Large }
         ensures broken { (f : TzifFault) → length bytes.now ≤ FILE_LIMIT → read_tzif bytes.now ≡ Err f → result ≡ Err FileFault.NoZone }
     {
-        if bytes.len() > FILE_LIMIT {
+        if is_large(bytes) {
             return Err(FileFault::Large);
         }
-        let table = table_of(alloc, bytes)?;
-        if leap_count(bytes) > 0 {
-            return Err(FileFault::LeapSeconds);
-        }
+        let table = table_without_leap_seconds(alloc, bytes)?;
         Ok(clock_of(alloc, &table)?)
     }
 }
