@@ -15,6 +15,7 @@ pub mod DaySpread
 pub mod DayTable
 pub mod DayUsers
 pub mod KeyLemmas
+pub mod LocalTime
 pub mod NameBytes
 pub mod NameWords
 pub mod RowLemmas

@@ -3,6 +3,7 @@ pub mod Alike
 pub mod Changes
 pub mod Chosen
 pub mod Counts
+pub mod Cuts
 pub mod Ended
 pub mod Endings
 pub mod Entries

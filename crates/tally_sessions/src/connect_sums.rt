@@ -144,12 +144,20 @@ impl ConnectSums {
         self.running.add_users(sums, until)
     }
 
+    /// The seconds of each user's sessions, counted as in the total.
+    fn user_sums(&self, alloc: Global, until: Option<i32>) -> Result<BTreeMap<NameKey, u64>, Memory>
+        ensures { IfOk result (λ sums. (user : Items ℕ) → IsAbout self.now (λ rs. user_seconds user (stays_from 0 [] rs until)) (sum_at (slice_cmp nat_cmp) sums.entries user)) }
+    {
+        let mut sums = BTreeMap::new(alloc);
+        self.add_users(&mut sums, until)?;
+        Ok(sums)
+    }
+
     /// The connect time of each user that has any, in order of name bytes, counted as in the total.
     pub fn by_user(&self, alloc: Global, until: Option<i32>) -> Result<List<UserTime>, Memory>
         ensures value { IfOk result (IsAbout self.now (λ rs. user_times (sessions_among every_login (stays_from 0 [] rs until)))) }
     {
-        let mut sums = BTreeMap::new(alloc);
-        self.add_users(&mut sums, until)?;
+        let sums = self.user_sums(alloc, until)?;
         List::from_vec(alloc, user_rows(alloc, &sums)?)
     }
 }

@@ -1,11 +1,23 @@
 -- The change of a cut session from a day to the next.
-use Rattle.std.proofs.Common.{◌≡◌, ℕ, ◌+◌, ℤ, pos, ◌+ℤ◌, ◌-ℤ◌, List, arith}
+use Rattle.std.proofs.Common.{◌≡◌, ℕ, ◌+◌, ℤ, pos, ◌+ℤ◌, ◌-ℤ◌, List, Option, None, Some, ap, arith}
 use Rattle.std.proofs.lemmas.Int.{ints}
 use Rattle.tally_clock.specs.Days.{seconds_on}
 use Rattle.tally_clock.specs.declared.row.Row.{Row}
+use Rattle.tally_sessions.specs.declared.connect.cut.Rest.{Rest}
 use Rattle.tally_sessions.specs.inside.Changes.{change_on}
 use Rattle.tally_sessions.specs.inside.Counts.{change_since, seconds_since}
+use Rattle.tally_sessions.specs.inside.Cuts.{rest_change}
 use Rattle.tally_sessions.specs.inside.Spans.{span_change, span_on}
+
+-- where it ends in the row where it begins
+pub no_rest : (day : ℤ) (rest : Option Rest) → rest ≡ None → rest_change day rest ≡ pos 0
+unfolding rest_change
+no_rest day rest is = ap (rest_change day) is
+
+-- and where it ends in a later one
+pub one_rest : (day : ℤ) (rest : Option Rest) (r : Rest) → rest ≡ Some r → rest_change day rest ≡ span_change day r.last.begin r.last.end_time
+unfolding rest_change
+one_rest day rest r is = ap (rest_change day) is
 
 -- of one span
 pub one_change : (clock : ℤ → ℤ) (b e x y : ℤ) → ((day : ℤ) → seconds_on clock day b e ≡ span_on day x y) → (day : ℤ) → change_on clock day b e ≡ span_change day x y

@@ -1,7 +1,7 @@
 //! Sessions cut where the offset of a clock changes.
-ghost use Rattle.std.specs.Prelude.{◌≡◌, ◌+◌, ◌<◌, ◌≤◌, ◌^◌, ℕ, ℤ, pos, neg_ℤ, ◌≤ℤ◌, IfNone, IfSome, length};
+ghost use Rattle.std.specs.Prelude.{◌≡◌, ◌+◌, ◌<◌, ◌≤◌, ◌^◌, ℕ, ℤ, pos, neg_ℤ, ◌+ℤ◌, ◌*ℤ◌, ◌≤ℤ◌, IfNone, IfSome, length};
 ghost use Rattle.tally_clock.specs.Days.{seconds_on};
-ghost use Rattle.tally_clock.specs.Rows.{count_at};
+ghost use Rattle.tally_clock.specs.Rows.{count_at, offset_after};
 ghost use Rattle.tally_sessions.specs.Days.{IsDay, IsOffset, local};
 ghost use Rattle.tally_sessions.specs.inside.Counts.{seconds_since, start_of};
 ghost use Rattle.tally_sessions.specs.inside.Spans.{span_on};
@@ -31,6 +31,18 @@ pub(crate) struct Cut {
     pub(crate) rest: Option<Rest>,
 }
 
+/// By how many seconds local time is ahead after so many rows, with a question's offset in minutes.
+#[tactic(auto, using(crate::proofs::connect::LocalTime::ahead_is))]
+fn ahead_after(clock: &Clock, count: usize, offset: i32) -> i32
+    requires offset_in { IsOffset offset }
+    requires count { count ≤ length clock.now.rows }
+    ensures value { result ≡ (offset_after clock.now.first clock.now.rows count).seconds +ℤ pos 60 *ℤ offset }
+    ensures low { neg_ℤ (pos 179939) ≤ℤ result }
+    ensures high { result ≤ℤ pos 179939 }
+{
+    clock.offset_after(count).seconds + 60 * offset
+}
+
 /// The local time of seconds that have one offset: that after so many rows, with a question's in minutes.
 fn span_in(clock: &Clock, offset: i32, count: usize, begin: i64, end_time: i64) -> Span
     requires offset_in { IsOffset offset }
@@ -42,7 +54,7 @@ fn span_in(clock: &Clock, offset: i32, count: usize, begin: i64, end_time: i64) 
     requires end_high { end_time ≤ℤ pos (2 ^ 31) }
     ensures { (day : ℤ) → seconds_on (local clock.now offset) day begin end_time ≡ span_on day result.begin result.end_time }
 {
-    let ahead = i64::from(clock.offset_after(count).seconds) + 60 * i64::from(offset);
+    let ahead = i64::from(ahead_after(clock, count, offset));
     Span {
         begin: begin + ahead,
         end_time: end_time + ahead,

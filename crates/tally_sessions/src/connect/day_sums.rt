@@ -4,6 +4,7 @@ ghost use Rattle.std.specs.Ordering.{int_cmp};
 ghost use Rattle.tally_clock.specs.Days.{seconds_on};
 ghost use Rattle.tally_sessions.specs.inside.Changes as changes;
 ghost use Rattle.tally_sessions.specs.inside.Counts.{change_since, size_of, stand_for};
+ghost use Rattle.tally_sessions.specs.inside.Cuts.{rest_change};
 ghost use Rattle.tally_sessions.specs.inside.Spans.{span_change};
 ghost use Rattle.tally_sessions.specs.Days as days;
 ghost use Rattle.tally_sessions.specs.Days.{local};
@@ -67,6 +68,20 @@ fn add_changes(table: &mut [i64], span: &Span, times: i64)
     }
 }
 
+/// Adds the changes of a cut session's seconds in the row of the clock where it ends, where it begins in another.
+#[tactic(auto, using(crate::proofs::connect::CutChanges::no_rest, crate::proofs::connect::CutChanges::one_rest, crate::proofs::connect::Weights::once))]
+fn add_last(table: &mut [i64], cut: &Cut)
+    requires all_days { length table.old ≡ DAY_COUNT }
+    requires low { (place : ℕ) → neg_ℤ (pos (2 ^ 62)) ≤ℤ changes.change_at table.old place }
+    requires high { (place : ℕ) → changes.change_at table.old place ≤ℤ pos (2 ^ 62) }
+    ensures { (place : ℕ) → place < DAY_COUNT → changes.change_at table.new place ≡ changes.change_at table.old place +ℤ rest_change (changes.day_at place) cut.now.rest }
+{
+    match cut.rest {
+        None => {}
+        Some(rest) => add_changes(table, &rest.last, 1),
+    }
+}
+
 /// Adds one session that has whole each row from one up to another.
 fn count_rows(counts: &mut [i64], from: usize, to: usize)
     requires from_in { from < length counts.old }
@@ -97,12 +112,10 @@ fn add_session(table: &mut [i64], counts: &mut [i64], clock: &Clock, offset: i32
 {
     let cut = Cut::of(clock, offset, session);
     add_changes(table, &cut.first, 1);
+    add_last(table, &cut);
     match cut.rest {
         None => {}
-        Some(rest) => {
-            add_changes(table, &rest.last, 1);
-            count_rows(counts, rest.from, rest.to);
-        }
+        Some(rest) => count_rows(counts, rest.from, rest.to),
     }
 }
 

@@ -1,10 +1,12 @@
 //! The seconds of each user on each day.
 ghost use Rattle.std.specs.Prelude.{◌≡◌, ◌≤◌, ◌<◌, ◌+◌, ◌-◌, ◌^◌, ℕ, ℤ, pos, neg_ℤ, ◌+ℤ◌, ◌-ℤ◌, ◌*ℤ◌, ◌≤ℤ◌, All, List, OnOk, IfOk, length, bytes_eq, unsigned_abs, if◌then◌else◌};
+ghost use Rattle.std.specs.Ordering.{is_eq};
 ghost use Rattle.tally_clock.specs.Days.{seconds_on};
 ghost use Rattle.tally_sessions.specs.inside.Changes as user;
 ghost use Rattle.tally_sessions.specs.inside.Changes.{AreWithin, change_of_day_user, count_of, day_change, rows_ahead, told_of};
 ghost use Rattle.tally_sessions.specs.inside.Counts.{size_of, stand_for};
 ghost use Rattle.tally_sessions.specs.inside.Spans.{span_change};
+ghost use Rattle.tally_sessions.specs.inside.Sums.{day_user_cmp};
 ghost use Rattle.tally_sessions.specs.Days as days;
 ghost use Rattle.tally_sessions.specs.Days.{local};
 ghost use Rattle.tally_sessions.specs.Rows.{day_user_times};
@@ -23,6 +25,23 @@ use std::alloc::Global;
 use std::collections::BTreeMap;
 use tally_clock::Clock;
 use tally_records::Memory;
+
+/// Adds to the change of a user on a day.
+fn add_on_day(
+    changes: &mut BTreeMap<DayUser, i64>,
+    day: i32,
+    user: NameKey,
+    more: i64,
+) -> Result<(), Memory>
+    requires low { neg_ℤ (pos (2 ^ 61)) ≤ℤ day_change changes.old.entries (record { day = day; user = user }) }
+    requires high { day_change changes.old.entries (record { day = day; user = user }) ≤ℤ pos (2 ^ 61) }
+    requires more_low { neg_ℤ (pos (2 ^ 61)) ≤ℤ more }
+    requires more_high { more ≤ℤ pos (2 ^ 61) }
+    ensures { OnOk result ((k : Key) → day_change changes.new.entries k
+        ≡ day_change changes.old.entries k +ℤ (if is_eq (day_user_cmp (record { day = day; user = user }) k) then more else pos 0)) }
+{
+    add_change(changes, DayUser { day, user }, more)
+}
 
 /// Adds the changes of a span's seconds from day to day, so many times, to those of a user. They are
 /// on its first two days, its last and the next.
@@ -44,8 +63,7 @@ fn add_changes(
     let last = day_of(span.end_time);
     let mut day = first;
     while day <= last + 1 {
-        let at = DayUser { day, user };
-        add_change(changes, at, span.change_on(day, times))?;
+        add_on_day(changes, day, user, span.change_on(day, times))?;
         day = if day > first {
             last.max(day + 1)
         } else {

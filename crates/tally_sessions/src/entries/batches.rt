@@ -1,5 +1,5 @@
 //! Batches as they were stored, and the way from a place to the batch of its entry.
-ghost use Rattle.std.specs.Prelude.{◌≡◌, ◌≤◌, ◌<◌, ◌+◌, ◌++◌, length, replicate, take, vec_len, vec_capacity};
+ghost use Rattle.std.specs.Prelude.{◌≡◌, ◌≤◌, ◌<◌, ◌+◌, ◌++◌, ◌∷◌, [], length, replicate, take, vec_len, vec_capacity};
 ghost use Rattle.tally_sessions.specs.inside.Stored.{AreMarked, IsBatchOf, all_of};
 
 use std::alloc::Global;
@@ -41,6 +41,25 @@ pub(crate) fn push_times(marks: &mut Vec<usize>, mark: usize, count: usize)
     for _time in 0..count {
         marks.push_reserved(mark);
     }
+}
+
+/// Puts so many records of a host after the batches, in the room that there is for one batch more.
+pub(crate) fn push_batch(
+    batches: &mut Vec<StoredBatch>,
+    host: u32,
+    first: usize,
+    count: usize,
+    records: Arc<Logins, Global>,
+)
+    requires { vec_len batches.old + 1 ≤ vec_capacity batches.old }
+    ensures { batches.new.items ≡ batches.old.items ++ record { host = host; first = first; count = count; records = records } ∷ [] }
+{
+    batches.push_reserved(StoredBatch {
+        host,
+        first,
+        count,
+        records,
+    });
 }
 
 /// Keeps so many entries, the batch of the next of which has this number.

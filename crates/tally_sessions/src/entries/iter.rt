@@ -21,6 +21,7 @@ impl<'a> Iterator for EntryIter<'a> {
 
     ghost remaining = { item_count entries_left };
 
+    #[tactic(auto, using(crate::proofs::entries::Lending::all_left, crate::proofs::entries::Lending::none_left, crate::proofs::entries::Lending::one_left, crate::proofs::entries::Lending::less_left))]
     fn next(&mut self) -> Option<Entry> {
         if self.next >= self.entries.len() {
             return None;

@@ -6,7 +6,9 @@ ghost use Rattle.tally_sessions.specs.inside.Entries.{AreOf, IsRecordOf, entry_a
 ghost use Rattle.tally_sessions.specs.inside.Stored.{Holds, entries_of};
 ghost use Rattle.tally_sessions.specs.Hosts.{entries_of_host, posted_by};
 
-use crate::entries::batches::{ENTRIES_FOR_A_MARK, StoredBatch, batch_of, keep_before, push_times};
+use crate::entries::batches::{
+    ENTRIES_FOR_A_MARK, StoredBatch, batch_of, keep_before, push_batch, push_times,
+};
 use crate::entries::stored::StoredRecord;
 use crate::entry::Entry;
 use crate::sessions::ENTRY_LIMIT;
@@ -149,12 +151,7 @@ impl EntryList {
         self.marks.reserve(marks)?;
         self.batches.reserve(1)?;
         push_times(&mut self.marks, self.batches.len(), marks);
-        self.batches.push_reserved(StoredBatch {
-            host,
-            first: self.count,
-            count,
-            records,
-        });
+        push_batch(&mut self.batches, host, self.count, count, records);
         self.count = end;
         Ok(())
     }

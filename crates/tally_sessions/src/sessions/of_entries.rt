@@ -110,7 +110,7 @@ fn all_tracks_by<R: Threads + Sync>(
 
 impl Sessions {
     /// The sessions of stored entries.
-    fn with_tracks(hosts: u32, entries: EntryList, tracks: Vec<Track>) -> Sessions
+    pub(super) fn with_tracks(hosts: u32, entries: EntryList, tracks: Vec<Track>) -> Sessions
         requires few_hosts { hosts ≤ HOST_LIMIT }
         requires within { All (λ e. e.host < hosts) entries }
         requires few { length entries ≤ ENTRY_LIMIT }

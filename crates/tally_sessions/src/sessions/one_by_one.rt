@@ -41,6 +41,7 @@ impl Sessions {
     }
 
     /// Whether a choice leaves out no stay, so that each place has one that is shown.
+    #[tactic(auto, using(crate::proofs::sums::EveryStay::every_stay))]
     pub fn shows_all(&self, choice: &LoginChoice) -> bool
         ensures value { result ≡ is_every_login choice.now }
         ensures all { IsTrue result → (host : ℕ) (limit : Option ℕ) (until : Option ℤ)

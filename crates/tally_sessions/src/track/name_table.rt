@@ -31,7 +31,9 @@ impl Model for NameTable {
 }
 
 /// A number that few names share: from their first 16 bytes, a number of 12 bits.
-fn mark_of(name: &Key) -> usize {
+fn mark_of(name: &Key) -> usize
+    ensures { result < 2 ^ 12 }
+{
     let words = name.words();
     let mixed = (words[0] ^ words[1].rotate_left(32)).wrapping_mul(0x9E37_79B9_7F4A_7C15);
     (mixed >> 52) as usize

@@ -3,7 +3,7 @@ use Rattle.std.proofs.lemmas.Bool.{cases_lt}
 use Rattle.std.proofs.lemmas.Int.{ints, to_z-of_z}
 use Rattle.std.specs.Option.{IfNone, IfSome}
 use Rattle.tally_clock.specs.Days.{seconds_on}
-use Rattle.tally_sessions.proofs.connect.CutChanges.{one_change, several_change}
+use Rattle.tally_sessions.proofs.connect.CutChanges.{no_rest, one_change, one_rest, several_change}
 use Rattle.tally_sessions.proofs.connect.DayChanges.{past_end}
 use Rattle.tally_sessions.proofs.connect.Weights.{once}
 use Rattle.tally_sessions.proofs.days.SpanLemmas.{span_on-le}
@@ -37,19 +37,19 @@ within old new b e low high h place = by (cases_lt place 49717)
         (omega (arith, ints, is, few, few', low place), omega (arith, ints, is, few, few', high place))
     by (inr past) = let none = past_end new place h.all_days past in (omega (arith, ints, none), omega (arith, ints, none))
 
-one_told : (t t' s c d : ℤ) → t' ≡ t +ℤ c → d ≡ c → t' +ℤ s ≡ (t +ℤ s) +ℤ d
-one_told t t' s c d is same = omega (arith, ints)
+one_told : (t m t' s c d : ℤ) → m ≡ t +ℤ c → t' ≡ m +ℤ pos 0 → d ≡ c → t' +ℤ s ≡ (t +ℤ s) +ℤ d
+one_told t m t' s c d is last same = omega (arith, ints)
 
 several_told : (t m t' s s' c c' f l d : ℤ) → m ≡ t +ℤ c → t' ≡ m +ℤ c' → s' ≡ (s +ℤ f) -ℤ l → d +ℤ l ≡ (c +ℤ c') +ℤ f → t' +ℤ s' ≡ (t +ℤ s) +ℤ d
 several_told t m t' s s' c c' f l d first last stands same = omega (arith, ints)
 
-pub add_changes-requires-in-Some-clause-low : goal.add_changes-requires-in-Some-clause-low
-add_changes-requires-in-Some-clause-low c place =
+pub add_last-requires-clause-low : goal.add_last-requires-clause-low
+add_last-requires-clause-low c place =
     (within c.args.table.now c.add_changes.new.table _ _ c.requires.low c.requires.high
     (has_span c.args.table.now c.add_changes.new.table c.of-cut.result.first.begin c.of-cut.result.first.end_time c.requires.all_days c.add_changes.auto.table c.add_changes.ensures) place).0
 
-pub add_changes-requires-in-Some-clause-high : goal.add_changes-requires-in-Some-clause-high
-add_changes-requires-in-Some-clause-high c place =
+pub add_last-requires-clause-high : goal.add_last-requires-clause-high
+add_last-requires-clause-high c place =
     (within c.args.table.now c.add_changes.new.table _ _ c.requires.low c.requires.high
     (has_span c.args.table.now c.add_changes.new.table c.of-cut.result.first.begin c.of-cut.result.first.end_time c.requires.all_days c.add_changes.auto.table c.add_changes.ensures) place).1
 
@@ -62,8 +62,9 @@ returns-in-None-clause-value c place lt =
     let has = has_span c.args.table.now c.add_changes.new.table first.begin first.end_time c.requires.all_days c.add_changes.auto.table c.add_changes.ensures in
     let one = subst (λ o. IfNone o ((day : ℤ) → seconds_on (local c.args.clock.now (held c.args.offset)) day s.begin s.end_time ≡ span_on day first.begin first.end_time)) c.in-None.is c.of-cut.ensures.one in
     let same = subst (λ (z : ℤ). (day : ℤ) → seconds_on (local c.args.clock.now z) day s.begin s.end_time ≡ span_on day first.begin first.end_time) offset one in
-    one_told (change_at c.args.table.now place) (change_at c.add_changes.new.table place) (stand_for (change_at c.args.counts.now) (change_since clock c.args.clock.now.rows (day_at place)) (length c.args.clock.now.rows))
-    (span_change (day_at place) first.begin first.end_time) (change_on clock (day_at place) s.begin s.end_time) (has.added place lt) (one_change clock s.begin s.end_time first.begin first.end_time same (day_at place))
+    one_told (change_at c.args.table.now place) (change_at c.add_changes.new.table place) (change_at c.add_last.new.table place) (stand_for (change_at c.args.counts.now) (change_since clock c.args.clock.now.rows (day_at place)) (length c.args.clock.now.rows))
+    (span_change (day_at place) first.begin first.end_time) (change_on clock (day_at place) s.begin s.end_time) (has.added place lt)
+    (c.add_last.ensures place lt ∙ ap (λ (z : ℤ). change_at c.add_changes.new.table place +ℤ z) (no_rest (day_at place) c.of-cut.result.rest c.in-None.is)) (one_change clock s.begin s.end_time first.begin first.end_time same (day_at place))
 
 pub returns-in-Some-clause-value : goal.returns-in-Some-clause-value
 returns-in-Some-clause-value c place lt =
@@ -76,14 +77,14 @@ returns-in-Some-clause-value c place lt =
     let x = change_since clock rows (day_at place) in
     let offset = to_z-of_z w32 c.args.offset c.ranges.offset in
     let has = has_span c.args.table.now c.add_changes.new.table first.begin first.end_time c.requires.all_days c.add_changes.auto.table c.add_changes.ensures in
-    let has_last = has_span c.add_changes.new.table c.add_changes-in-Some.new.table last.begin last.end_time has.all_days c.add_changes-in-Some.auto.table c.add_changes-in-Some.ensures in
     let several = subst (λ o. IfSome o (λ r. (day : ℤ) → seconds_on (local c.args.clock.now (held c.args.offset)) day s.begin s.end_time + seconds_since (local c.args.clock.now (held c.args.offset)) rows day r.to
     ≡ span_on day first.begin first.end_time + span_on day r.last.begin r.last.end_time + seconds_since (local c.args.clock.now (held c.args.offset)) rows day r.from)) c.in-Some.is c.of-cut.ensures.several in
     let same = subst (λ (z : ℤ). (day : ℤ) → seconds_on (local c.args.clock.now z) day s.begin s.end_time + seconds_since (local c.args.clock.now z) rows day rest.to
     ≡ span_on day first.begin first.end_time + span_on day last.begin last.end_time + seconds_since (local c.args.clock.now z) rows day rest.from) offset several in
     let counted = subst (λ (n : ℕ). stand_for (change_at c.count_rows.new.counts) x n ≡ (stand_for (change_at c.args.counts.now) x n +ℤ x rest.from) -ℤ x rest.to) c.requires.all_rows (c.count_rows.ensures.value x) in
-    several_told (change_at c.args.table.now place) (change_at c.add_changes.new.table place) (change_at c.add_changes-in-Some.new.table place)
+    several_told (change_at c.args.table.now place) (change_at c.add_changes.new.table place) (change_at c.add_last.new.table place)
     (stand_for (change_at c.args.counts.now) x (length rows)) (stand_for (change_at c.count_rows.new.counts) x (length rows))
     (span_change (day_at place) first.begin first.end_time) (span_change (day_at place) last.begin last.end_time) (x rest.from) (x rest.to) (change_on clock (day_at place) s.begin s.end_time)
-    (has.added place lt) (has_last.added place lt) counted
+    (has.added place lt)
+    (c.add_last.ensures place lt ∙ ap (λ (z : ℤ). change_at c.add_changes.new.table place +ℤ z) (one_rest (day_at place) c.of-cut.result.rest rest c.in-Some.is)) counted
     (several_change clock rows s.begin s.end_time first.begin first.end_time last.begin last.end_time rest.from rest.to same (day_at place))

@@ -50,14 +50,14 @@ change_on-requires-clause-after_first c =
     let first = c.day_of-first.ensures.range in
     omega (arith, ints, first.low, c.loop-day.invariant.from)
 
-pub add_change-requires-clause-low : goal.add_change-requires-clause-low
-add_change-requires-clause-low c =
+pub add_on_day-requires-clause-low : goal.add_on_day-requires-clause-low
+add_on_day-requires-clause-low c =
     let s = c.args.span.now in
     let day = to_z w32 c.loop-day.day-bits in
     subst (λ z. neg_ℤ (pos (2 ^ 61)) ≤ℤ z) (sym ((c.loop-day.invariant.moved c.args.user).rest day (omega (arith, ints)))) (c.requires.low (record { day = day; user = c.args.user }))
 
-pub add_change-requires-clause-high : goal.add_change-requires-clause-high
-add_change-requires-clause-high c =
+pub add_on_day-requires-clause-high : goal.add_on_day-requires-clause-high
+add_on_day-requires-clause-high c =
     let s = c.args.span.now in
     let day = to_z w32 c.loop-day.day-bits in
     subst (λ z. z ≤ℤ pos (2 ^ 61)) (sym ((c.loop-day.invariant.moved c.args.user).rest day (omega (arith, ints)))) (c.requires.high (record { day = day; user = c.args.user }))
@@ -83,11 +83,11 @@ one_more times b e name user old now next day seconds h is added =
     (λ d. added d ∙ ap (λ m. by_day now user d +ℤ m) (one_day_of_user day d name user seconds)
     ∙ ap (λ m. by_day now user d +ℤ cond (is_eq (int_cmp day d)) (cond (bytes_eq name user) m (pos 0)) (pos 0)) is)
 
-pub add_change-requires-clause-more_low : goal.add_change-requires-clause-more_low
-add_change-requires-clause-more_low c = few_low c.change_on.result c.change_on.ensures.low c.change_on.ensures.high
+pub add_on_day-requires-clause-more_low : goal.add_on_day-requires-clause-more_low
+add_on_day-requires-clause-more_low c = few_low c.change_on.result c.change_on.ensures.low c.change_on.ensures.high
 
-pub add_change-requires-clause-more_high : goal.add_change-requires-clause-more_high
-add_change-requires-clause-more_high c = few_high c.change_on.result c.change_on.ensures.low c.change_on.ensures.high
+pub add_on_day-requires-clause-more_high : goal.add_on_day-requires-clause-more_high
+add_on_day-requires-clause-more_high c = few_high c.change_on.result c.change_on.ensures.low c.change_on.ensures.high
 
 nearer : (day next : ℤ) → (day +ℤ pos 1) ≤ℤ next → day ≤ℤ pos 24858 → unsigned_abs (int_max (pos 24859 -ℤ next) (pos 0)) < unsigned_abs (int_max (pos 24859 -ℤ day) (pos 0))
 nearer day next le few = grind (arith, ints, clamps)
@@ -117,10 +117,10 @@ loop-day-preserved-then-day-first c =
     let next : held c.max-day.result ≡ int_max (span_day s.end_time) (day +ℤ pos 1) = to_z-of_z w32 c.max-day.result (search rules) ∙ c.max-day.ensures.value ∙ (λ i. int_max (last_is i) (next_day i)) in record {
       from = omega (arith, ints, c.max-day.ensures, last.low, last.high, within, c.loop-day.invariant.from);
       moved = λ user.
-          walk_jump ◌+ℤ◌ (pos 0) no_more (amount times s.begin s.end_time c.args.user user) (by_day c.args.changes.now.entries user) (by_day c.add_change.new.changes.entries user) (day +ℤ pos 1) (held c.max-day.result) (omega (arith, ints, c.max-day.ensures, last.low, last.high, within))
-          (one_more times s.begin s.end_time c.args.user user c.args.changes.now.entries c.loop-day.changes.entries c.add_change.new.changes.entries day (kept c.change_on.result) (c.loop-day.invariant.moved user)
+          walk_jump ◌+ℤ◌ (pos 0) no_more (amount times s.begin s.end_time c.args.user user) (by_day c.args.changes.now.entries user) (by_day c.add_on_day.new.changes.entries user) (day +ℤ pos 1) (held c.max-day.result) (omega (arith, ints, c.max-day.ensures, last.low, last.high, within))
+          (one_more times s.begin s.end_time c.args.user user c.args.changes.now.entries c.loop-day.changes.entries c.add_on_day.new.changes.entries day (kept c.change_on.result) (c.loop-day.invariant.moved user)
           (few_kept c.change_on.result _ c.change_on.ensures.value c.change_on.ensures.low c.change_on.ensures.high)
-          (λ d. c.in_ok-add_change.ensures.value (record { day = d; user = user })))
+          (λ d. c.in_ok-add_on_day.ensures (record { day = d; user = user })))
           (λ d from to. none_if (bytes_eq c.args.user user) _ (times_none times _ (no_change_within d s.begin s.end_time (omega (arith, ints, first, c.if-day-first.true, from)) (up_to_last (span_day s.end_time) day d (subst (λ z. (d +ℤ pos 1) ≤ℤ z) next to) from))));
     }
 
@@ -141,10 +141,10 @@ loop-day-preserved c =
     let next : held (day +ℤ pos 1) ≡ day +ℤ pos 1 = omega (arith, ints, last.low, last.high, within) in record {
       from = omega (arith, ints, next, c.loop-day.invariant.from);
       moved = λ user.
-          subst (IsWalked ◌+ℤ◌ (amount times s.begin s.end_time c.args.user user) (by_day c.args.changes.now.entries user) (by_day c.add_change.new.changes.entries user)) (sym next)
-          (one_more times s.begin s.end_time c.args.user user c.args.changes.now.entries c.loop-day.changes.entries c.add_change.new.changes.entries day (kept c.change_on.result) (c.loop-day.invariant.moved user)
+          subst (IsWalked ◌+ℤ◌ (amount times s.begin s.end_time c.args.user user) (by_day c.args.changes.now.entries user) (by_day c.add_on_day.new.changes.entries user)) (sym next)
+          (one_more times s.begin s.end_time c.args.user user c.args.changes.now.entries c.loop-day.changes.entries c.add_on_day.new.changes.entries day (kept c.change_on.result) (c.loop-day.invariant.moved user)
           (few_kept c.change_on.result _ c.change_on.ensures.value c.change_on.ensures.low c.change_on.ensures.high)
-          (λ d. c.in_ok-add_change.ensures.value (record { day = d; user = user })));
+          (λ d. c.in_ok-add_on_day.ensures (record { day = d; user = user })));
     }
 
 pub returns : goal.returns

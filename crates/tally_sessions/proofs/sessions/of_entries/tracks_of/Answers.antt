@@ -27,7 +27,7 @@ loop-at-preserved-in_ok-go_over c =
     let of = subst (λ h. AreOf h es c.loop-at.at c.batch_end-end.result) (sym c.host-host.ensures) c.batch_end-end.ensures.same in record {
       within = c.batch_end-end.ensures.within;
       tracks = AreTracksFrom-advance c.args.first c.args.count es c.loop-at.at c.batch_end-end.result c.loop-at.tracks.items c.host-host.result c.in-Some.place c.go_over.new.self c.loop-at.invariant.tracks place.0 place.1 of
-          (let f = c.batch_end-end.ensures.further in omega arith) c.batch_end-end.ensures.within c.in_ok-go_over.ensures;
+          (let f = c.batch_end-end.ensures.further in omega arith) c.batch_end-end.ensures.within c.in_ok-go_over.ensures.after;
     }
 
 pub loop-at-preserved : goal.loop-at-preserved

@@ -1,10 +1,10 @@
-use Rattle.std.proofs.Common.{rules, to_z, of_z, Some, unwrap_or, ◌≡◌, inl, inr, ◌+◌, ◌≤◌, length, ◌∙◌, ◌++◌, ℤ, ◌+ℤ◌, map, sym, ap, subst, arith}
+use Rattle.std.proofs.Common.{ℕ, ◌⊎◌, rules, to_z, of_z, Some, unwrap_or, ◌≡◌, inl, inr, ◌+◌, ◌≤◌, length, ◌∙◌, ◌++◌, ℤ, ◌+ℤ◌, map, sym, ap, subst, arith}
 use Rattle.std.specs.Vec.{vec_len, vec_capacity}
 use Rattle.std.proofs.lemmas.List.{length-map}
 use Rattle.tally_sessions.specs.declared.track.ended.EndedSums.{EndedSums}
 use Rattle.std.proofs.lemmas.Int.{ints, to_z-of_z}
 use Rattle.std.specs.Int.{w32}
-use Rattle.std.specs.Prelude.{FitsSigned}
+use Rattle.std.specs.Prelude.{Bool, true, false, FitsSigned, if◌then◌else◌}
 use Rattle.tally_sessions.proofs.track.Lengths.{held}
 use Rattle.tally_records.specs.declared.login.Event.{Event}
 use Rattle.tally_records.specs.declared.login.LoginRecord.{LoginRecord}
@@ -20,7 +20,11 @@ use Rattle.tally_sessions.specs.declared.track.ending.TheConstants.{NO_USER}
 use Rattle.tally_sessions.proofs.track.TrackAdvance.{IsTrack-step, CanStart-swept}
 use Rattle.tally_sessions.proofs.track.TrackedAdvance.{IsWithin-all}
 use Rattle.tally_sessions.proofs.track.Track.advance.Goals as goal
-use Rattle.tally_sessions.proofs.track.Track.advance.Goals.{then-ends_every, else-ends_every}
+
+-- all stays have been swept, or as many as before
+sweeps : (b b' : Bool) (len all before old : ℕ) → b ≡ b' → len ≡ all → before ≡ old → ((if b then len else before) ≡ old) ⊎ (((if b then len else before) ≡ all) × (b' ≡ true))
+sweeps true b' len all before old same l e = inr (l, sym same)
+sweeps false b' len all before old same l e = inl e
 
 pub returns-clause-after : goal.returns-clause-after
 returns-clause-after c =
@@ -51,20 +55,22 @@ returns-clause-after c =
     let old_time_is = t.old_time ∙ ap (λ (z : ℤ). pending_at c.event-event.result z lined.old_time) time ∙ ap (λ (e : Event). pending_at e (entry_at es n).item.time lined.old_time) event in
     let ended_sums : HasSums es c.end_pending.new.sums c.end_pending.new.stays = c.end_pending.ensures.sums in
     let started = c.start.ensures.stays in
-    let started_is = started.1 ∙ ap (λ (r : LoginRecord). c.if-ends_every.self.stays.items ++ started_from r n c.if-ends_every.self.clock started.0) x in
+    let started_is = started.1 ∙ ap (λ (r : LoginRecord). c.count_swept.new.self.stays.items ++ started_from r n c.count_swept.new.self.clock started.0) x in
     let entered : event_of (entry_at es n).item ≡ Login → StandsAt c.start.new.self.sums.users started.0 (entry_at es n).item.user =
     λ login. subst (λ (r : LoginRecord). StandsAt c.start.new.self.sums.users started.0 r.user) x (started.2 (event ∙ login)) in
     let boot : event_of (entry_at es n).item ≡ Boot → started.0 ≡ NO_USER = λ is. started.3 (event ∙ is) in
-    elim c.if-ends_every.branch [
-      | then-ends_every w ↦
-          IsTrack-step es n c.args.self.now.lines lined c.tick.new.self c.if-ends_every.self c.start.new.self c.end_pending.new.stays c.end_pending.new.sums _ started.0 c.requires.of.within before leads clock_is t.moved old_time_is (t.first ∙ ap (λ (z : ℤ). Some (unwrap_or lined.first z)) time) (t.last ∙ time) t.lines t.stays
-          ended w.self-is (inr (w.len-self.ensures ∙ ap (λ v. v.len) t.stays ∙ lined.stays.ok.0, ap ends_every_stay (sym event) ∙ sym c.ends_every.ensures ∙ w.if-ends_every.true)) started_is c.start.ensures.rest
-          ended_sums c.start.ensures.sums c.start.ensures.kept entered boot c.start.ensures.few_users
-      | else-ends_every w ↦
-          IsTrack-step es n c.args.self.now.lines lined c.tick.new.self c.if-ends_every.self c.start.new.self c.end_pending.new.stays c.end_pending.new.sums _ started.0 c.requires.of.within before leads clock_is t.moved old_time_is (t.first ∙ ap (λ (z : ℤ). Some (unwrap_or lined.first z)) time) (t.last ∙ time) t.lines t.stays
-          ended w.self-is (inl t.swept) started_is c.start.ensures.rest
-          ended_sums c.start.ensures.sums c.start.ensures.kept entered boot c.start.ensures.few_users
-    ]
+    IsTrack-step es n c.args.self.now.lines lined c.tick.new.self c.count_swept.new.self c.start.new.self c.end_pending.new.stays c.end_pending.new.sums _ started.0 c.requires.of.within before leads clock_is t.moved old_time_is (t.first ∙ ap (λ (z : ℤ). Some (unwrap_or lined.first z)) time) (t.last ∙ time) t.lines t.stays
+    ended c.count_swept.ensures (sweeps (ends_every_stay c.event-event.result) _ _ _ _ _ (ap ends_every_stay event) (ap (λ v. v.len) t.stays ∙ lined.stays.ok.0) t.swept) started_is c.start.ensures.rest
+    ended_sums c.start.ensures.sums c.start.ensures.kept entered boot c.start.ensures.few_users
+
+pub returns-clause-swept : goal.returns-clause-swept
+returns-clause-swept c =
+    let l = c.latest_on_line-latest.ensures in
+    let t = c.tick.ensures in
+    let all = ap (λ v. v.len) t.stays ∙ ap (λ (a : Track). a.stays.len) l.rest in
+    let before = t.swept ∙ ap (λ (a : Track). a.swept) l.rest in
+    ap (λ (a : Track). a.swept) c.start.ensures.rest ∙ ap (λ (a : Track). a.swept) c.count_swept.ensures
+    ∙ (λ i. if ends_every_stay (c.event-event.ensures i) then all i else before i)
 
 pub end_pending-requires-clause-now : goal.end_pending-requires-clause-now
 end_pending-requires-clause-now c =
@@ -81,10 +87,7 @@ start-requires-clause-users c =
     let few = c.end_pending.ensures.sums.few in
     let ended = ap length c.end_pending.ensures.stays ∙ length-map c.deref_mut.result.now (after c.args.entries.now (held c.tick.new.self.clock) (entry_at c.args.entries.now c.args.stored.at).item) in
     let stays = ap length c.deref_mut.ensures.value ∙ ap (λ v. length v.items) (c.tick.ensures.stays ∙ ap (λ (a : Track). a.stays) l.rest) in
-    elim c.if-ends_every.branch [
-      | then-ends_every w ↦ omega (arith, few, ended, stays, c.requires.before.count, c.requires.of.within, c.requires.few, ap (λ (a : Track). length a.sums.users.entries) w.self-is)
-      | else-ends_every w ↦ omega (arith, few, ended, stays, c.requires.before.count, c.requires.of.within, c.requires.few, ap (λ (a : Track). length a.sums.users.entries) w.self-is)
-    ]
+    omega (arith, few, ended, stays, c.requires.before.count, c.requires.of.within, c.requires.few, ap (λ (a : Track). length a.sums.users.entries) c.count_swept.ensures)
 
 pub returns-clause-room_left : goal.returns-clause-room_left
 returns-clause-room_left c k room =
@@ -93,14 +96,7 @@ returns-clause-room_left c k room =
     let can : CanStart (k + 1) c.tick.new.self = record {
       stays = subst (λ v. vec_len v + (k + 1) ≤ vec_capacity v) (sym (t.stays ∙ ap (λ (a : Track). a.stays) l.rest)) room.starts.stays;
       users = subst (λ (s : EndedSums). k + 1 ≤ s.users.spare) (sym (t.sums ∙ ap (λ (a : Track). a.sums) l.rest)) room.starts.users;
-    } in
-    elim c.if-ends_every.branch [
-      | then-ends_every w ↦ record {
-        starts = c.start.ensures.room_left k (CanStart-swept (k + 1) c.tick.new.self c.if-ends_every.self c.end_pending.new.stays c.end_pending.new.sums _ can c.end_pending.ensures.spare w.self-is);
-        lines = omega (arith, room.lines, l.room_left, ap (λ (a : Track). a.lines.spare) c.start.ensures.rest, ap (λ (a : Track). a.lines.spare) w.self-is, ap (λ (n : Numbers). n.spare) t.lines);
-      }
-      | else-ends_every w ↦ record {
-        starts = c.start.ensures.room_left k (CanStart-swept (k + 1) c.tick.new.self c.if-ends_every.self c.end_pending.new.stays c.end_pending.new.sums _ can c.end_pending.ensures.spare w.self-is);
-        lines = omega (arith, room.lines, l.room_left, ap (λ (a : Track). a.lines.spare) c.start.ensures.rest, ap (λ (a : Track). a.lines.spare) w.self-is, ap (λ (n : Numbers). n.spare) t.lines);
-      }
-    ]
+    } in record {
+      starts = c.start.ensures.room_left k (CanStart-swept (k + 1) c.tick.new.self c.count_swept.new.self c.end_pending.new.stays c.end_pending.new.sums _ can c.end_pending.ensures.spare c.count_swept.ensures);
+      lines = omega (arith, room.lines, l.room_left, ap (λ (a : Track). a.lines.spare) c.start.ensures.rest, ap (λ (a : Track). a.lines.spare) c.count_swept.ensures, ap (λ (n : Numbers). n.spare) t.lines);
+    }

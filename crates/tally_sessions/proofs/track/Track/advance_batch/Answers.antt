@@ -1,7 +1,13 @@
-use Rattle.std.proofs.Common.{◌≡◌, ◌+◌, ◌-◌, ℕ, sym, subst, arith}
-use Rattle.tally_sessions.specs.inside.Entries.{entry_at}
-use Rattle.tally_sessions.specs.inside.Track.{HasRoom, IsTrack}
+use Rattle.std.proofs.Common.{◌≡◌, ◌+◌, ◌-◌, ◌≤◌, ℕ, sym, subst, arith}
+use Rattle.std.specs.Prelude.{Bool, true, false, if◌then◌else◌, vec_len}
+use Rattle.tally_records.specs.Event.{event_of}
+use Rattle.tally_sessions.specs.inside.Entries.{entry_at, record_in}
+use Rattle.tally_sessions.specs.inside.Track.{HasRoom, IsTrack, ends_every_stay}
 use Rattle.tally_sessions.proofs.track.Track.advance_batch.Goals as goal
+
+no_less : (b : Bool) (before all : ℕ) → before ≤ all → before ≤ (if b then all else before)
+no_less true before all le = le
+no_less false before all le = omega arith
 
 pub advance-requires-clause-before : goal.advance-requires-clause-before
 advance-requires-clause-before c =
@@ -27,6 +33,7 @@ loop-i-preserved c =
       tracks =
           subst (λ (h : ℕ). IsTrack h c.args.entries.now (c.loop-i.i + 1) c.advance.new.self) host
           (subst (λ (n : ℕ). IsTrack (entry_at c.args.entries.now n).host c.args.entries.now (n + 1) c.advance.new.self) c.record.ensures.at c.advance.ensures.after);
+      swept = omega (arith, c.loop-i.invariant.swept, c.advance.ensures.swept, no_less (ends_every_stay (event_of (record_in c.record.result))) c.loop-i.self.swept (vec_len c.loop-i.self.stays) (omega (arith, c.loop-i.invariant.tracks.swept, c.loop-i.self.stays.ok.0)));
       room = c.advance.ensures.room_left (c.args.to - (c.loop-i.i + 1)) (subst (λ k. HasRoom k c.loop-i.self) last c.loop-i.invariant.room);
       room_left = λ k h. c.advance.ensures.room_left ((c.args.to - (c.loop-i.i + 1)) + k) (subst (λ n. HasRoom n c.loop-i.self) (left k) (c.loop-i.invariant.room_left k h));
     }

@@ -13,7 +13,7 @@ invariant_of-self-2 c =
     let n = c.saturating_sub-marks.result in
     let number = c.len-2.result in
     let b : StoredBatch = record { host = c.args.host; first = a.count; count = c.args.count; records = c.args.records } in
-    let batches : c.push_reserved.new.self.items ≡ bs ++ b ∷ [] = c.push_reserved.ensures.items ∙ ap (λ (xs : List StoredBatch). xs ++ b ∷ []) c.in_ok-reserve-2.ensures.items in
+    let batches : c.push_batch.new.batches.items ≡ bs ++ b ∷ [] = c.push_batch.ensures ∙ ap (λ (xs : List StoredBatch). xs ++ b ∷ []) c.in_ok-reserve-2.ensures.items in
     let marks : c.push_times.new.marks.items ≡ ms ++ replicate n number = c.push_times.ensures ∙ ap (λ (xs : List ℕ). xs ++ replicate n number) c.in_ok-reserve.ensures.items in
     let last : number ≡ length bs = omega (arith, c.len-2.ensures, c.in_ok-reserve-2.ensures.len, a.batches.ok.0) in
     let reach : length (all_of bs) + b.count ≤ 16 * (length ms + n) =
