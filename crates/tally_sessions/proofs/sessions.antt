@@ -2,6 +2,7 @@
 pub mod EveryHost
 pub mod HostCounts
 pub mod HostSteps
+pub mod HostTracks
 pub mod NewTracks
 pub mod PartLemmas
 pub mod Posted

@@ -1,5 +1,5 @@
 //! Sessions cut where the offset of a clock changes.
-ghost use Rattle.std.specs.Prelude.{◌≡◌, ◌+◌, ◌<◌, ◌≤◌, ◌^◌, ℕ, ℤ, pos, neg_ℤ, ◌+ℤ◌, ◌*ℤ◌, ◌≤ℤ◌, IfNone, IfSome, length};
+ghost use Rattle.std.specs.Prelude.{◌≡◌, ◌+◌, ◌<◌, ◌≤◌, ◌^◌, ℕ, ℤ, pos, neg_ℤ, ◌+ℤ◌, ◌*ℤ◌, ◌≤ℤ◌, IfNone, IfSome, MatchOption, length};
 ghost use Rattle.tally_clock.specs.Days.{seconds_on};
 ghost use Rattle.tally_clock.specs.Rows.{count_at, offset_after};
 ghost use Rattle.tally_sessions.specs.Days.{IsDay, IsOffset, local};
@@ -85,6 +85,17 @@ pub(crate) fn row_span(clock: &Clock, offset: i32, row: usize) -> Span
     span_in(clock, offset, row + 1, begin, start_of(rows, row + 1))
 }
 
+/// The row in which a session ends, where it begins in an earlier one, by how many have begun at its start and at its end.
+fn later_row(begun: usize, begun_later: usize) -> Option<usize>
+    ensures { MatchOption result (begun_later ≤ begun) (λ row. (row + 1 ≡ begun_later) × (begun ≤ row)) }
+{
+    if begun < begun_later {
+        Some(begun_later - 1)
+    } else {
+        None
+    }
+}
+
 impl Cut {
     /// Cuts a session by a clock with a question's offset in minutes.
     pub(crate) fn of(clock: &Clock, offset: i32, session: &Session) -> Cut
@@ -104,21 +115,19 @@ impl Cut {
         let end_time = i64::from(session.end_time);
         let from = clock.count_at(session.begin);
         let to = clock.count_at(session.end_time);
-        if from < to {
-            let last = to - 1;
-            Cut {
+        match later_row(from, to) {
+            Some(last) => Cut {
                 first: span_in(clock, offset, from, begin, start_of(rows, from)),
                 rest: Some(Rest {
                     last: span_in(clock, offset, to, start_of(rows, last), end_time),
                     from,
                     to: last,
                 }),
-            }
-        } else {
-            Cut {
+            },
+            None => Cut {
                 first: span_in(clock, offset, from, begin, end_time),
                 rest: None,
-            }
+            },
         }
     }
 }
