@@ -90,6 +90,18 @@ impl StayLine<'_> {
         push_span(page, stay.length)
     }
 
+    /// Appends when its record says that a stay started.
+    fn push_start(
+        &self,
+        page: &mut Vec<u8>,
+        last: &mut PrintedDay,
+        stay: &Stay,
+    ) -> Result<(), AllocError>
+        ensures { OnOk result (page.new.items ≡ page.old.items ++ moment stay.now.start (clock_of self.now.local)) }
+    {
+        push_moment(page, last, stay.start, &self.local)
+    }
+
     fn push_open(&self, page: &mut Vec<u8>, stay: &Stay) -> Result<(), AllocError>
         ensures { OnOk result (page.new.items ≡ page.old.items ++ still_ending stay.now self.now.until) }
     {
@@ -133,7 +145,7 @@ impl StayLine<'_> {
         page.push(b' ')?;
         push_left_shown(page, &stay.remote, 16)?;
         page.push(b' ')?;
-        push_moment(page, &mut days.start, stay.start, &self.local)?;
+        self.push_start(page, &mut days.start, stay)?;
         self.push_ending(page, &mut days.end, stay)?;
         page.push(b'\n')?;
         Ok(())

@@ -1,7 +1,7 @@
 //! Local time.
-ghost use Rattle.std.specs.Prelude.{◌≡◌, ◌≤◌, ◌<◌, ◌-◌, ◌≤ℤ◌, ◌<ℤ◌, length};
+ghost use Rattle.std.specs.Prelude.{◌≡◌, ◌≤◌, ◌<◌, ◌-◌, pos, ◌+ℤ◌, ◌*ℤ◌, ◌≤ℤ◌, ◌<ℤ◌, length};
 ghost use Rattle.std.specs.Bool.{OnTrue};
-ghost use Rattle.tally_clock.specs.Rows.{count_at, row_at};
+ghost use Rattle.tally_clock.specs.Rows.{count_at, offset_after, row_at};
 ghost use Rattle.tally_sessions.specs.Days.{IsOffset};
 
 use tally_clock::{Clock, Row};
@@ -51,6 +51,16 @@ impl Local<'_> {
         self.clock.count_at(time)
     }
 
+    /// How far local time is ahead of UTC after so many rows of the clock, in seconds.
+    #[tactic(auto, using(crate::proofs::LocalLemmas::ahead_is))]
+    fn ahead_after(&self, count: usize) -> i32
+        requires { count ≤ length self.now.clock.now.rows }
+        ensures value { result ≡ (offset_after self.now.clock.now.first self.now.clock.now.rows count).seconds +ℤ pos 60 *ℤ self.now.offset }
+        ensures in_range { IsAhead result }
+    {
+        self.clock.offset_after(count).seconds + 60 * self.offset
+    }
+
     /// How far local time is ahead of UTC at a second, in seconds. `begun` is how many rows of the clock
     /// had begun at the second before, or any other guess.
     pub(crate) fn ahead_at(&self, begun: &mut usize, time: i32) -> i32
@@ -59,6 +69,6 @@ impl Local<'_> {
     {
         let count = self.count_near(*begun, time);
         *begun = count;
-        self.clock.offset_after(count).seconds + 60 * self.offset
+        self.ahead_after(count)
     }
 }

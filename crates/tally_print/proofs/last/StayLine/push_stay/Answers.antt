@@ -1,5 +1,3 @@
-use Rattle.std.proofs.Common.{FitsSigned, w32, rules}
-use Rattle.std.proofs.lemmas.Int.{to_z-of_z}
 use Rattle.std.proofs.lemmas.List.{append_assoc}
 use Rattle.tally_print.specs.LastText.{stay_line}
 use Rattle.tally_print.proofs.last.StayLine.push_stay.Goals as goal
@@ -7,6 +5,5 @@ use Rattle.tally_print.proofs.last.StayLine.push_stay.Goals as goal
 pub returns : goal.returns
 unfolding stay_line
 returns c =
-    let start : FitsSigned w32 c.args.stay.now.start = search rules in
-    rw (c.in_ok-push-4.ensures.items, c.in_ok-push_ending.ensures, c.in_ok-push_moment.ensures, c.in_ok-push-3.ensures.items, c.in_ok-push_left_shown.ensures, c.in_ok-push-2.ensures.items, c.in_ok-push_column-2.ensures, c.in_ok-push.ensures.items, c.in_ok-push_column.ensures)
-    (simp (to_z-of_z, append_assoc))
+    rw (c.in_ok-push-4.ensures.items, c.in_ok-push_ending.ensures, c.in_ok-push_start.ensures, c.in_ok-push-3.ensures.items, c.in_ok-push_left_shown.ensures, c.in_ok-push-2.ensures.items, c.in_ok-push_column-2.ensures, c.in_ok-push.ensures.items, c.in_ok-push_column.ensures)
+    (simp append_assoc)
