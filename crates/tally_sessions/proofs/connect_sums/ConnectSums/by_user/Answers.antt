@@ -16,8 +16,8 @@ returns c = record {
       let stays = stays_from 0 [] rs c.args.until in
       is
       ∙ c.in_ok-user_rows.ensures.rows
-      ∙ user_rows_are (sessions_among every_login stays) c.in_ok-user_sums.sums.entries c.in_ok-user_rows.ensures.ordered
+      ∙ user_rows_are (sessions_among every_login stays) c.in_ok-sums.sums.entries c.in_ok-user_rows.ensures.ordered
       (λ user.
       let own = user_among user stays (stays_from_have_lengths 0 [] rs c.args.until) in
-      omega (arith, own, c.in_ok-user_sums.ensures user rs h))) c.from_vec.ensures;
+      omega (arith, own, c.in_ok-sums.ensures user rs h))) c.from_vec.ensures;
 }
