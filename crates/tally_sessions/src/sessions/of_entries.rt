@@ -1,5 +1,6 @@
 //! Sessions of entries that are stored already, counted by one thread or by several.
 ghost use Rattle.std.specs.Prelude.{◌≡◌, ◌≤◌, ◌<◌, ◌+◌, ◌⊎◌, All, IfErr, IfOk, MatchOption, length};
+ghost use Rattle.tally_sessions.specs.inside.Entries.{entry_at};
 ghost use Rattle.tally_sessions.specs.inside.Kept.{AreTracks, AreTracksFrom};
 
 use crate::entries::list::EntryList;
@@ -26,6 +27,15 @@ fn place_among(host: u32, first: u32, count: u32) -> Option<usize>
     }
 }
 
+/// Where the host of the entry at a place stands among so many hosts from one on.
+fn place_of_host(entries: &EntryList, at: usize, first: u32, count: u32) -> Option<usize>
+    requires { at < length entries.now }
+    ensures { MatchOption result (((entry_at entries.now at).host < first) ⊎ (first + count ≤ (entry_at entries.now at).host))
+        (λ place. (first + place ≡ (entry_at entries.now at).host) × (place < count)) }
+{
+    place_among(entries.host(at), first, count)
+}
+
 /// The tracks of so many hosts from one on, after all entries.
 fn tracks_of(
     alloc: Global,
@@ -41,10 +51,9 @@ fn tracks_of(
     let mut tracks = new_tracks(alloc, keys, count)?;
     let mut at = 0;
     while at < entries.len() {
-        let host = entries.host(at);
         let end = entries.batch_end(at);
-        if let Some(place) = place_among(host, first, count) {
-            tracks[place].go_over(host, entries, at, end)?;
+        if let Some(place) = place_of_host(entries, at, first, count) {
+            tracks[place].go_over(first + place as u32, entries, at, end)?;
         }
         at = end;
     }
