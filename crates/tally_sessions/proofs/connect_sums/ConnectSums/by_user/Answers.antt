@@ -1,11 +1,8 @@
-use Rattle.std.proofs.Common.{◌∙◌, ℕ, List, [], ap, arith}
+use Rattle.std.proofs.Common.{◌∙◌, [], arith}
 use Rattle.std.proofs.lemmas.Result.{IfOk-weaker}
-use Rattle.std.specs.Cmp.Lexicographic.{slice_cmp}
-use Rattle.std.specs.Ordering.{nat_cmp}
 use Rattle.tally_records.specs.Choice.{every_login}
 use Rattle.tally_sessions.specs.Stays.{stays_from}
 use Rattle.tally_sessions.specs.Sums.{sessions_among}
-use Rattle.tally_sessions.specs.inside.Sums.{sum_at}
 use Rattle.tally_sessions.proofs.connect.UserRows.{user_rows_are}
 use Rattle.tally_sessions.proofs.sums.EverySession.{stays_from_have_lengths, user_among}
 use Rattle.tally_sessions.proofs.connect_sums.ConnectSums.by_user.Goals as goal
