@@ -1,6 +1,6 @@
-use Rattle.std.proofs.Common.{◌≡◌, ◌∙◌, ℕ, pos, ◌+ℤ◌, ◌*ℤ◌, ap, arith}
+use Rattle.std.proofs.Common.{◌∙◌, ℕ, pos, ◌+ℤ◌, ◌*ℤ◌, ap, arith}
 use Rattle.std.proofs.lemmas.Int.{ints, to_z-of_z}
-use Rattle.tally_clock.specs.Rows.{count_at, offset_after}
+use Rattle.tally_clock.specs.Rows.{offset_after}
 use Rattle.tally_print.proofs.local.Local.ahead_at.Goals as goal
 
 pub returns-clause-value : goal.returns-clause-value
