@@ -16,12 +16,10 @@ use Rattle.tally_usage.proofs.SumsLemmas.{count_is}
 use Rattle.tally_desk.specs.Blocks.{block_fault, block_size, blocks, feed_fault}
 use Rattle.tally_desk.specs.Takings.{TakesAtMost}
 use Rattle.tally_desk.specs.Batches.{records_in}
-use Rattle.tally_desk.specs.Counting.{AreSumsOfAtMost, IsCounted, IsCountPlace, IsStoppedCount, count_fault}
+use Rattle.tally_desk.specs.Counting.{AreSumsOfAtMost, IsCounted, count_fault}
 use Rattle.tally_desk.specs.Feeds.{IsFull}
-use Rattle.tally_desk.specs.inside.CountStops.{IsFirstFault, IsGivenFor, IsPlace, IsStoppedAfter}
+use Rattle.tally_desk.specs.inside.CountStops.{IsFirstFault, IsPlace}
 use Rattle.tally_desk.specs.inside.Turns.{IsBatch, IsInBlock, IsReadFault, TakesBlock, TurnStops}
-use Rattle.tally_desk.specs.declared.fault.CountFault.{CountFault}
-use Rattle.tally_desk.specs.declared.fault.CountFault.TheVariants as given
 use Rattle.tally_desk.specs.declared.fault.FeedFault.{FeedFault}
 use Rattle.tally_desk.specs.declared.fault.FeedFault.TheVariants.{Memory, Read, Torn, TooLong, Bad, LoginsFull, ProcsFull, CallsFull}
 use Rattle.tally_desk.proofs.JoinLemmas.{covers_all, covers_more, covers_none, Covers}
@@ -222,17 +220,6 @@ place_in most count CallsFull place = tt
 pub place_after : (most turn : ℕ) (fault : FeedFault) → turn ≡ most → (fault ≡ Read) ⊎ (fault ≡ TooLong (1024 * most)) → IsPlace most turn fault
 place_after most turn fault last (inl read) = subst (IsPlace most turn) (sym read) tt
 place_after most turn fault last (inr long) = subst (IsPlace most turn) (sym long) (last, refl)
-
-place_given : (most count : ℕ) (fault : FeedFault) (f : CountFault) → IsGivenFor fault f → IsPlace most count fault → IsCountPlace most count f
-place_given most count fault given.Memory is place = tt
-place_given most count fault given.Read is place = tt
-place_given most count fault (given.Torn records torn) is place = subst (IsPlace most count) is place
-place_given most count fault (given.TooLong limit) is place = subst (IsPlace most count) is place
-place_given most count fault (given.Bad at bad) is place = subst (IsPlace most count) is place
-
--- the fault that a caller is given lies where the blocks stopped
-pub given_place : (most : ℕ) (fault : FeedFault) (f : CountFault) → IsGivenFor fault f → IsStoppedAfter most fault → IsStoppedCount most f
-given_place most fault f is stopped = (stopped.0, stopped.1, place_given most stopped.0 fault f is stopped.2)
 
 -- how much a count takes
 module _ (most turn : ℕ) (a b c : Option (List ℕ)) (so_far : TakesAtMost (turn * block_size Proc) a b) where

@@ -1,6 +1,6 @@
 -- Passes that know no less.
-use Rattle.std.proofs.Common.{◌∙◌, refl, arith}
-use Rattle.tally_desk.specs.Passes.{Keeps, PassState}
+use Rattle.std.proofs.Common.{◌≤◌, ◌∙◌, ℕ, refl, arith}
+use Rattle.tally_desk.specs.Passes.{Keeps, PassState, told_pass}
 use Rattle.tally_desk.proofs.Histories.{follows_self, follows_trans}
 
 pub keeps_same : (p : PassState) → Keeps p p
@@ -19,4 +19,14 @@ keeps_trans p q r first next = record {
   seen = follows_trans p.seen q.seen r.seen first.seen next.seen;
   legal = λ legal. next.legal (first.legal legal);
   told = omega (arith, first.told, next.told);
+}
+
+-- a pass that then learned how many calls there are
+pub keeps_told : (p q : PassState) (calls : ℕ) → Keeps p q → q.told ≤ calls → Keeps p (told_pass calls q)
+keeps_told p q calls kept more = record {
+  desk = kept.desk;
+  number = kept.number;
+  seen = kept.seen;
+  legal = kept.legal;
+  told = omega (arith, kept.told, more);
 }

@@ -1,5 +1,5 @@
 -- How much a feed takes from its input.
-use Rattle.std.proofs.Common.{◌≡◌, ◌≤◌, ◌<◌, ◌+◌, ◌*◌, ◌++◌, [], ℕ, List, Option, subst, arith, length-append}
+use Rattle.std.proofs.Common.{◌≤◌, ◌<◌, ◌+◌, ◌*◌, ◌++◌, [], ℕ, List, Option, arith, length-append}
 use Rattle.std.proofs.KnownBytes.{Consumes-nil, Consumes-trans}
 use Rattle.tally_records.specs.declared.batch.Kind.{Kind}
 use Rattle.tally_records.specs.declared.batch.Kind.TheVariants.{Login, FailedLogin, Proc}
@@ -12,10 +12,6 @@ takes_none most a = ([], Consumes-nil a, omega arith)
 pub takes_more : (m n most : ℕ) (a b c : Option (List ℕ)) → TakesAtMost m a b → TakesAtMost n b c → m + n ≤ most → TakesAtMost most a c
 takes_more m n most a b c first second few =
     (first.0 ++ second.0, Consumes-trans a b c _ _ first.1 second.1, omega (arith, first.2, second.2, length-append first.0 second.0))
-
--- so many under another name
-pub takes_named : (size named : ℕ) (a b : Option (List ℕ)) → size ≡ named → TakesAtMost size a b → TakesAtMost named a b
-takes_named size named a b same taken = subst (λ (n : ℕ). TakesAtMost n a b) same taken
 
 few_blocks : (most : ℕ) (kind : Kind) (turn : ℕ) → turn < most → turn * block_size kind + block_size kind ≤ most * block_size kind + 1
 few_blocks most Login turn early = omega arith

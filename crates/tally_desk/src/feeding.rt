@@ -7,10 +7,11 @@ ghost use Rattle.tally_desk.specs.Takings.{TakesAtMost};
 ghost use Rattle.tally_desk.specs.Feeds.{Counts, IsFeedRefusal, IsStopped, IsWhole, Posts, Stops};
 ghost use Rattle.tally_desk.specs.declared.fault.FeedFault.TheVariants as fault;
 ghost use Rattle.tally_records.specs.Records.{Records};
-ghost use Rattle.tally_desk.specs.Passes.{Keeps};
+ghost use Rattle.tally_desk.specs.Passes.{IsCurrent, Keeps};
 
 mod block;
 pub(crate) mod counting;
+mod filling;
 pub(crate) mod input;
 pub(crate) mod login_counting;
 pub(crate) mod memory;
@@ -18,12 +19,13 @@ pub(crate) mod reader;
 
 use crate::desk::{Desk, Pass};
 use crate::fault::FeedFault;
-use crate::feeding::block::{block_size, new_block, next_batch};
+use crate::feeding::block::{block_size, is_last, next_batch};
+use crate::feeding::filling::new_block;
 use crate::feeding::input::Input;
 use crate::gate::Gate;
 use std::alloc::Global;
 use std::sync::Wait;
-use tally_records::{BATCH_LIMIT, Kind};
+use tally_records::Kind;
 
 /// What was fed.
 #[derive(Clone, Copy, Debug, PartialEq, Eq)]
@@ -87,6 +89,7 @@ fn feed_blocks<R: Wait, I: Input, G: Gate>(
     ensures end { OnOk result (IsAtEnd (I.to_come input.new)) }
     ensures nature { I.can_fail input.new ≡ I.can_fail input.old }
     ensures keeps { Keeps pass.old pass.new }
+    ensures current { (pass.new ≡ pass.old) ⊎ IsCurrent pass.new }
     ensures counted { IfOk result (λ fed. (batches : List Records)
         × Posts pass.old pass.new batches × Counts kind batches fed) }
     ensures whole { IfOk result (λ _. (bytes : List ℕ) → I.to_come input.old ≡ Some bytes
@@ -108,9 +111,8 @@ fn feed_blocks<R: Wait, I: Input, G: Gate>(
         };
         gate.before(pass.number(), turn);
         desk.post(rt, pass, &batch)?;
-        let records = batch.len();
-        if records < BATCH_LIMIT {
-            return Ok(fed_by(turn, records));
+        if is_last(&batch) {
+            return Ok(fed_by(turn, batch.len()));
         }
     }
     expect_end(input, most)?;
@@ -135,6 +137,7 @@ pub fn feed<R: Wait, I: Input, G: Gate>(
     ensures end { OnOk result (IsAtEnd (I.to_come input.new)) }
     ensures nature { I.can_fail input.new ≡ I.can_fail input.old }
     ensures keeps { Keeps pass.old pass.new }
+    ensures current { (pass.new ≡ pass.old) ⊎ IsCurrent pass.new }
     ensures counted { IfOk result (λ fed. (batches : List Records)
         × Posts pass.old pass.new batches × Counts kind batches fed) }
     ensures whole { IfOk result (λ _. (bytes : List ℕ) → I.to_come input.old ≡ Some bytes

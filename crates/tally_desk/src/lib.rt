@@ -2,8 +2,8 @@
 //!
 //! `desk` has the shared book and its callers' passes, and `lock` the ticket lock that gives it to
 //! one caller at a time: `turns` of its callers, who are `sleepers` until these are near, `rule` of
-//! its table, and each caller's `view`. `feeding` takes an input to the desk by blocks: `input` is what gives bytes, `memory` and `reader` are such inputs, and `block`
-//! reads one block of records. `counting` counts the process records of an input and `login_counting` its login records, and both do without a desk. `asking` brings questions, and `gate` comes before each call.
+//! its table, and each caller's `view`. `feeding` takes an input to the desk by blocks: `input` is what gives bytes, `memory` and `reader` are such inputs, `filling` fills a block with
+//! its bytes, and `block` reads one block of records. `counting` counts the process records of an input and `login_counting` its login records, and both do without a desk. `asking` brings questions, and `gate` comes before each call.
 #![tactic(auto)]
 
 mod asking;

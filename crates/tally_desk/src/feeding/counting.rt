@@ -15,12 +15,13 @@ ghost use Rattle.tally_desk.specs.declared.fault.CountFault.TheVariants as given
 ghost use Rattle.tally_desk.specs.declared.fault.FeedFault.TheVariants as fault;
 
 use crate::fault::{CountFault, FeedFault};
-use crate::feeding::block::{block_size, new_block, next_batch};
+use crate::feeding::block::{block_size, is_last, next_batch};
 use crate::feeding::expect_end;
+use crate::feeding::filling::new_block;
 use crate::feeding::input::Input;
 use std::alloc::Global;
 use std::hash::RandomState;
-use tally_records::{BATCH_LIMIT, Batch, Kind};
+use tally_records::{Batch, Kind};
 use tally_usage::{ProcChoice, Sums, SumsFault};
 
 /// Counts the chosen records of a batch too, for which there is room below the limit.
@@ -71,8 +72,7 @@ fn count_blocks<I: Input>(
             return Ok(());
         };
         count_batch(sums, &batch, choice)?;
-        let records = batch.len();
-        if records < BATCH_LIMIT {
+        if is_last(&batch) {
             return Ok(());
         }
     }
@@ -84,6 +84,7 @@ fn count_blocks<I: Input>(
 fn fault_of_count(fault: FeedFault) -> CountFault
     requires reading { IsReadFault fault }
     ensures value { IsGivenFor fault result }
+    ensures place { (most : ℕ) → IsStoppedAfter most fault → IsStoppedCount most result }
 {
     match fault {
         FeedFault::Memory => CountFault::Memory,
@@ -103,7 +104,6 @@ fn fault_of_count(fault: FeedFault) -> CountFault
 /// with room for `most` blocks: `Torn` where the input ends inside a record, `Bad` where a record has no meaning, and `TooLong` where a byte
 /// follows `most` full blocks. `Memory` and `Read` come where memory runs out or the input fails before. It takes memory
 /// for one block and its batch, about 100 KiB, and for the groups of the sums, whose tables are hashed by the keys.
-#[tactic(auto, using(crate::proofs::CountingLemmas::given_place))]
 pub fn count_input<I: Input>(
     alloc: Global,
     keys: RandomState,

@@ -1,5 +1,5 @@
 //! An input whose login records are counted block by block, and not kept.
-ghost use Rattle.std.specs.Prelude.{◌≡◌, ◌≢◌, ◌+◌, ◌-◌, ◌^◌, ◌<◌, ◌≤◌, ◌*◌, IfErr, IfOk, List, OnErr, OnOk, Some, [], true, ℕ};
+ghost use Rattle.std.specs.Prelude.{◌≡◌, ◌≢◌, ◌+◌, ◌-◌, ◌^◌, ◌<◌, ◌≤◌, ◌*◌, IfErr, IfOk, IfSome, List, OnErr, OnOk, Some, [], true, vec_capacity, vec_len, ℕ};
 ghost use Rattle.std.specs.Io.KnownBytes.{IsAtEnd};
 ghost use Rattle.tally_records.specs.Records.{IsLogins, logins_in, record_count};
 ghost use Rattle.tally_sessions.specs.ConnectSums.{CountsMore, IsCountOf};
@@ -7,15 +7,17 @@ ghost use Rattle.tally_desk.specs.Blocks.{block_size};
 ghost use Rattle.tally_desk.specs.LoginCounting.{IsCountOfAtMost, IsLoginCount, IsLoginStop, IsStoppedLoginCount};
 ghost use Rattle.tally_desk.specs.Takings.{TakesAtMost};
 ghost use Rattle.tally_desk.specs.inside.LoginStops.{stopped_with};
+ghost use Rattle.tally_desk.specs.inside.Turns.{IsBatch, IsInBlock, IsLast, IsReadFault, Takes, TurnStops};
 ghost use Rattle.tally_desk.specs.declared.fault.FeedFault.TheVariants as fault;
 
 use crate::fault::{FeedFault, Uncounted};
-use crate::feeding::block::{block_size, new_block, next_batch};
+use crate::feeding::block::{block_size, is_last, next_batch};
 use crate::feeding::expect_end;
+use crate::feeding::filling::new_block;
 use crate::feeding::input::Input;
 use std::alloc::Global;
 use std::hash::RandomState;
-use tally_records::{BATCH_LIMIT, Batch, Kind};
+use tally_records::{Batch, Kind};
 use tally_sessions::{ConnectSums, ENTRY_LIMIT};
 
 /// Counts the records of a batch too, or none of them. There is room for them below the limit.
@@ -29,6 +31,39 @@ fn count_batch(sums: &mut ConnectSums, batch: &Batch) -> Result<(), FeedFault>
 {
     sums.add(batch)?;
     Ok(())
+}
+
+/// The batch of the login records of the input's next block, or none at the end of the input.
+fn next_logins<I: Input>(
+    alloc: Global,
+    input: &mut I,
+    block: &mut Vec<u8>,
+    turn: u32,
+    most: u32,
+) -> Result<Option<Batch>, FeedFault>
+    requires countable { I.failures input.old < 2 ^ 64 - 1 }
+    requires room { block_size Kind.Login ≤ vec_capacity block.old }
+    requires ready { vec_len block.old ≤ block_size Kind.Login }
+    requires early { turn < most }
+    ensures room { block_size Kind.Login ≤ vec_capacity block.new }
+    ensures ready { vec_len block.new ≤ block_size Kind.Login }
+    ensures few { TakesAtMost (block_size Kind.Login) (I.to_come input.old) (I.to_come input.new) }
+    ensures end { IfOk result (λ next. IsLast next → IsAtEnd (I.to_come input.new)) }
+    ensures failures { OnOk result (I.failures input.new ≡ I.failures input.old) }
+    ensures nature { I.can_fail input.new ≡ I.can_fail input.old }
+    ensures read { IfErr result (λ f. f ≡ fault.Read
+        → (I.failures input.new ≡ I.failures input.old + 1) × (I.can_fail input.old ≡ true)) }
+    ensures unfailed { IfErr result (λ f. f ≢ fault.Read
+        → I.failures input.new ≡ I.failures input.old) }
+    ensures reading { IfErr result IsReadFault }
+    ensures place { IfErr result (IsInBlock Kind.Login turn) }
+    ensures batch { IfOk result (λ next. IfSome next (IsBatch Kind.Login)) }
+    ensures takes { IfOk result (λ next. (rest : List ℕ) → I.to_come input.old ≡ Some rest
+        → Takes most Kind.Login turn rest (I.to_come input.new) next) }
+    ensures stops { IfErr result (λ f. (rest : List ℕ) → I.to_come input.old ≡ Some rest
+        → TurnStops most Kind.Login turn rest f) }
+{
+    next_batch(alloc, Kind::Login, input, block, turn, most)
 }
 
 /// Counts the records of the input's blocks of 1,024 in order, up to its end or to its first block that is refused. More than `most`
@@ -60,12 +95,11 @@ fn count_login_blocks<I: Input>(
 {
     let mut block = new_block(alloc, block_size(Kind::Login))?;
     for turn in 0..most {
-        let Some(batch) = next_batch(alloc, Kind::Login, input, &mut block, turn, most)? else {
+        let Some(batch) = next_logins(alloc, input, &mut block, turn, most)? else {
             return Ok(());
         };
         count_batch(sums, &batch)?;
-        let records = batch.len();
-        if records < BATCH_LIMIT {
+        if is_last(&batch) {
             return Ok(());
         }
     }

@@ -1,5 +1,5 @@
 //! Bytes in memory as an input.
-ghost use Rattle.std.specs.Prelude.{◌≡◌, Some, false};
+ghost use Rattle.std.specs.Prelude.{◌≡◌, ◌≤◌, Some, drop, false, length};
 
 use crate::feeding::input::{Input, InputFault};
 use std::marker::Model;
@@ -28,6 +28,15 @@ impl Bytes {
     {
         Bytes { bytes, at: 0 }
     }
+
+    /// Moves on by so many bytes.
+    #[tactic(auto, using(crate::proofs::Fills::moved_on))]
+    fn move_on(&mut self, count: usize)
+        requires within { count ≤ length self.old }
+        ensures { self.new ≡ drop count self.old }
+    {
+        self.at += count;
+    }
 }
 
 impl Input for Bytes {
@@ -42,7 +51,7 @@ impl Input for Bytes {
         let left = self.bytes.len() - at;
         let count = left.min(buf.len());
         buf[..count].copy_from_slice(&self.bytes[at..at + count]);
-        self.at = at + count;
+        self.move_on(count);
         Ok(count)
     }
 }

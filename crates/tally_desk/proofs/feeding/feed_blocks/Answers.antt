@@ -1,4 +1,4 @@
-use Rattle.std.proofs.Common.{◌∙◌, ◌<◌, ◌*◌, ap, arith, refl, sym, subst, vec_capacity, vec_len}
+use Rattle.std.proofs.Common.{◌∙◌, ◌<◌, ◌*◌, ap, arith, inl, inr, refl, sym, subst, vec_capacity, vec_len}
 use Rattle.std.proofs.lemmas.Result.{err_from_is_err_and}
 use Rattle.std.specs.Io.KnownBytes.{IsAtEnd}
 use Rattle.tally_records.specs.Records.{record_count}
@@ -22,6 +22,7 @@ loop-turn-init g c = record {
   room = holds_named c.block_size.result (block_size c.args.kind) (vec_capacity c.in_ok-block.block) c.block_size.ensures c.in_ok-block.ensures.room;
   ready = within_named c.block_size.result (block_size c.args.kind) (vec_len c.in_ok-block.block) c.block_size.ensures c.in_ok-block.ensures.ready;
   keeps = keeps_same c.args.pass.now;
+  current = inl refl;
   posts = full_none c.args.kind c.args.pass.now;
   told = λ bytes told. begins c.args.most c.args.kind bytes _ c.args.pass.now told;
 }
@@ -53,6 +54,7 @@ returns-in_err-block g c =
       end = tt;
       nature = refl;
       keeps = keeps_same pass;
+      current = inl refl;
       counted = tt;
       whole = tt;
       stops = λ bytes told. told_stops c.args.most c.args.kind bytes _ pass pass 0 pass.seen fault.Memory (begins c.args.most c.args.kind bytes _ pass told) tt;
@@ -74,6 +76,7 @@ returns-in_err-batch g c =
       end = tt;
       nature = failed.nature ∙ before.nature;
       keeps = before.keeps;
+      current = before.current;
       counted = tt;
       whole = tt;
       stops = λ bytes told.
@@ -96,6 +99,7 @@ returns-in_default g c =
       end = ends_at_none _ _ taken.end c.in_default.is;
       nature = taken.nature ∙ before.nature;
       keeps = before.keeps;
+      current = before.current;
       counted = counts_full c.args.kind _ c.loop-turn.turn c.fed_by.result before.posts (plus_none _ _ fed.batches) (plus_none _ _ fed.records);
       whole = λ bytes told.
           let so_far = before.told bytes told in
@@ -122,6 +126,7 @@ returns-in_err-post g c =
       end = tt;
       nature = taken.nature ∙ before.nature;
       keeps = keeps_trans c.args.pass.now c.loop-turn.pass now before.keeps post.keeps;
+      current = inr post.current;
       counted = tt;
       whole = tt;
       stops = λ bytes told.
@@ -135,24 +140,25 @@ returns-in_err-post g c =
       read = post_is_no_read _;
     })
 
-pub returns-then-records-lt-BATCH_LIMIT : goal.returns-then-records-lt-BATCH_LIMIT
-returns-then-records-lt-BATCH_LIMIT g c =
+pub returns-then-is_last : goal.returns-then-is_last
+returns-then-is_last g c =
     let before = c.loop-turn.invariant in
     let taken = c.in_ok-batch.ensures in
     let post = c.in_ok-post.ensures in
-    let fed = c.fed_by-then-records-lt-BATCH_LIMIT.ensures in
+    let fed = c.fed_by-then-is_last.ensures in
     let batch = some_batch c.args.kind _ c.in-Some.batch c.in-Some.is taken.batch in
-    let some : 0 < c.len-records.result = omega (arith, batch.some, c.len-records.ensures.count) in
-    let short : record_count c.in-Some.batch < 1024 = omega (arith, c.len-records.ensures.count, c.if-records-lt-BATCH_LIMIT.true) in
+    let some : 0 < c.len.result = omega (arith, batch.some, c.len.ensures.count) in
+    let short : record_count c.in-Some.batch < 1024 = c.if-is_last.ensures in
     record {
       few = takes_few c.args.kind c.loop-turn.turn _ _ _ before.taken c.args.most taken.few c.loop-turn-test.true;
       end = ends_at_short _ _ taken.end c.in-Some.batch c.in-Some.is short;
       nature = taken.nature ∙ before.nature;
       keeps = keeps_trans c.args.pass.now c.loop-turn.pass c.post.new.pass before.keeps post.keeps;
+      current = inr post.current;
       counted = counts_last c.args.kind c.args.pass.now c.loop-turn.pass c.post.new.pass c.loop-turn.turn before.posts c.in-Some.batch batch post.did
-          c.fed_by-then-records-lt-BATCH_LIMIT.result
-          (omega (arith, fed.records, c.len-records.ensures.count))
-          (one_more_batch c.len-records.result c.loop-turn.turn _ some fed.batches);
+          c.fed_by-then-is_last.result
+          (omega (arith, fed.records, c.len.ensures.count))
+          (one_more_batch c.len.result c.loop-turn.turn _ some fed.batches);
       whole = λ bytes told.
           let so_far = before.told bytes told in
           let takes = takes_some c.args.most c.args.kind _ c.loop-turn.turn so_far.rest _ c.in-Some.batch c.in-Some.is (taken.takes so_far.rest so_far.to_come) in
@@ -169,7 +175,7 @@ pub loop-turn-preserved : goal.loop-turn-preserved
 loop-turn-preserved g c =
     let next = c.in_ok-batch.ensures in
     let batch = some_batch c.args.kind _ c.in-Some.batch c.in-Some.is next.batch in
-    let full : IsFull c.in-Some.batch = omega (arith, batch.few, c.len-records.ensures.count, c.if-records-lt-BATCH_LIMIT.false) in
+    let full : IsFull c.in-Some.batch = omega (arith, batch.few, c.if-is_last.ensures) in
     record {
       countable = next.failures ∙ c.loop-turn.invariant.countable;
       taken = takes_next c.args.kind c.loop-turn.turn _ _ _ c.loop-turn.invariant.taken next.few;
@@ -177,6 +183,7 @@ loop-turn-preserved g c =
       room = next.room;
       ready = next.ready;
       keeps = keeps_trans c.args.pass.now c.loop-turn.pass c.post.new.pass c.loop-turn.invariant.keeps c.in_ok-post.ensures.keeps;
+      current = inr c.in_ok-post.ensures.current;
       posts = full_more c.args.kind c.args.pass.now c.loop-turn.pass c.post.new.pass c.loop-turn.turn c.loop-turn.invariant.posts c.in-Some.batch batch c.in_ok-post.ensures.did full;
       told = λ bytes told.
           let so_far = c.loop-turn.invariant.told bytes told in
@@ -196,6 +203,7 @@ returns-in_err-expect_end g c =
       end = tt;
       nature = failed.nature ∙ before.nature;
       keeps = before.keeps;
+      current = before.current;
       counted = tt;
       whole = tt;
       stops = λ bytes told.
@@ -220,6 +228,7 @@ returns g c =
       end = ended.end;
       nature = ended.nature ∙ before.nature;
       keeps = before.keeps;
+      current = before.current;
       counted = counts_full c.args.kind _ c.loop-turn.turn _ before.posts (plus_none _ _ fed.batches ∙ sym last) (plus_none _ _ fed.records ∙ ap (λ n. n * 1024) (sym last));
       whole = λ bytes told.
           let so_far = before.told bytes told in

@@ -1,7 +1,7 @@
-use Rattle.std.proofs.Common.{◌≡◌, ◌*◌, ◌≤◌, ℕ, List, Some, vec_capacity, vec_len}
+use Rattle.std.proofs.Common.{◌≡◌, ◌⊎◌, ◌*◌, ◌≤◌, ℕ, List, Some, vec_capacity, vec_len}
 use Rattle.tally_desk.specs.Blocks.{block_size}
 use Rattle.tally_desk.specs.Feeds.{Posts}
-use Rattle.tally_desk.specs.Passes.{Keeps}
+use Rattle.tally_desk.specs.Passes.{IsCurrent, Keeps}
 use Rattle.tally_desk.specs.Takings.{TakesAtMost}
 use Rattle.tally_desk.proofs.Taken.{Told}
 use Rattle.tally_desk.proofs.FeedLemmas.{FullPosts}
@@ -15,6 +15,7 @@ invariant-loop-turn g l = record {
   room : block_size l.kind ≤ vec_capacity l.block;
   ready : vec_len l.block ≤ block_size l.kind;
   keeps : Keeps l.initial.pass l.pass;
+  current : (l.pass ≡ l.initial.pass) ⊎ IsCurrent l.pass;
   posts : FullPosts l.kind (Posts l.initial.pass l.pass) l.turn;
   told : (bytes : List ℕ) → g.I.Input.to_come l.initial.input ≡ Some bytes
       → Told l.most l.kind (g.I.Input.to_come l.input) (Posts l.initial.pass l.pass) l.turn bytes;

@@ -1,9 +1,7 @@
-use Rattle.std.proofs.Common.{◌<◌, ◌≤◌, ℕ, List, Option, arith, length, refl, subst, sym, take, vec_capacity, vec_len}
-use Rattle.std.specs.Io.KnownBytes.{Consumes, IsAtEnd}
+use Rattle.std.proofs.Common.{◌<◌, ◌≤◌, ℕ, List, Option, arith, length, refl, subst, sym, take}
+use Rattle.std.specs.Io.KnownBytes.{Consumes}
 use Rattle.std.proofs.lemmas.Result.{err_from_is_err_and}
 use Rattle.tally_desk.specs.Blocks.{block_size}
-use Rattle.tally_desk.proofs.ExitLemmas.{holds_named, within_named}
-use Rattle.tally_desk.proofs.TakeLemmas.{takes_named}
 use Rattle.tally_desk.proofs.TurnLemmas.{is_batch, never_read, read_fault, takes_block}
 use Rattle.tally_desk.proofs.feeding.block.next_batch.Goals as goal
 
@@ -13,7 +11,7 @@ returns-clause-batch g c =
     let read = c.in_ok-batch.ensures in
     let some : 0 < filled = omega (arith, c.if-filled-eq0.false) in
     let within : filled ≤ length c.deref.result.now = omega (arith, c.in_ok-filled.ensures.bound, c.deref.ensures.len) in
-    let few : filled ≤ block_size c.args.kind = omega (arith, c.in_ok-filled.ensures.bound, c.fill_block.ensures.ready, c.block_size.ensures) in
+    let few : filled ≤ block_size c.args.kind = omega (arith, c.in_ok-filled.ensures.bound, c.read_block.ensures.ready) in
     is_batch c.args.most c.args.kind c.args.turn c.deref.result.now filled within few c.in_ok-batch.batch some read.whole read.value read.count
 
 pub returns-in_err-batch-clause-reading : goal.returns-in_err-batch-clause-reading
@@ -27,47 +25,47 @@ returns-clause-takes g c rest h =
     let read = c.in_ok-batch.ensures in
     let some : 0 < filled = omega (arith, c.if-filled-eq0.false) in
     let within : filled ≤ length c.deref.result.now = omega (arith, c.in_ok-filled.ensures.bound, c.deref.ensures.len) in
-    let few : filled ≤ block_size c.args.kind = omega (arith, c.in_ok-filled.ensures.bound, c.fill_block.ensures.ready, c.block_size.ensures) in
-    let taken = subst (λ (block : List ℕ). Consumes (g.I.Input.to_come c.args.input.now) (g.I.Input.to_come c.fill_block.new.input) (take filled block)) (sym c.deref.ensures.value) c.in_ok-filled.ensures.bytes in
+    let few : filled ≤ block_size c.args.kind = omega (arith, c.in_ok-filled.ensures.bound, c.read_block.ensures.ready) in
+    let taken = subst (λ (block : List ℕ). Consumes (g.I.Input.to_come c.args.input.now) (g.I.Input.to_come c.read_block.new.input) (take filled block)) (sym c.deref.ensures.value) c.in_ok-filled.ensures.bytes in
     takes_block c.args.most c.args.kind c.args.turn c.deref.result.now filled within few rest _ c.in_ok-batch.batch some
-    (subst (λ (before : Option (List ℕ)). Consumes before (g.I.Input.to_come c.fill_block.new.input) (take filled c.deref.result.now)) h taken)
-    (subst (λ size. filled < size → IsAtEnd (g.I.Input.to_come c.fill_block.new.input)) c.block_size.ensures c.in_ok-filled.ensures.end) read.good read.value read.count
+    (subst (λ (before : Option (List ℕ)). Consumes before (g.I.Input.to_come c.read_block.new.input) (take filled c.deref.result.now)) h taken)
+    c.in_ok-filled.ensures.end read.good read.value read.count
 
 pub returns-in_err-filled-clause-room : goal.returns-in_err-filled-clause-room
-returns-in_err-filled-clause-room g c = holds_named c.block_size.result (block_size c.args.kind) (vec_capacity c.fill_block.new.block) c.block_size.ensures c.fill_block.ensures.room
+returns-in_err-filled-clause-room g c = c.read_block.ensures.room
 
 pub returns-in_err-filled-clause-ready : goal.returns-in_err-filled-clause-ready
-returns-in_err-filled-clause-ready g c = within_named c.block_size.result (block_size c.args.kind) (vec_len c.fill_block.new.block) c.block_size.ensures c.fill_block.ensures.ready
+returns-in_err-filled-clause-ready g c = c.read_block.ensures.ready
 
 pub returns-in_err-filled-clause-few : goal.returns-in_err-filled-clause-few
-returns-in_err-filled-clause-few g c = takes_named c.block_size.result (block_size c.args.kind) _ _ c.block_size.ensures c.fill_block.ensures.few
+returns-in_err-filled-clause-few g c = c.read_block.ensures.few
 
 pub returns-in_err-filled-clause-nature : goal.returns-in_err-filled-clause-nature
-returns-in_err-filled-clause-nature g c = c.fill_block.ensures.nature
+returns-in_err-filled-clause-nature g c = c.read_block.ensures.nature
 
 pub returns-in_err-batch-clause-room : goal.returns-in_err-batch-clause-room
-returns-in_err-batch-clause-room g c = holds_named c.block_size.result (block_size c.args.kind) (vec_capacity c.fill_block.new.block) c.block_size.ensures c.fill_block.ensures.room
+returns-in_err-batch-clause-room g c = c.read_block.ensures.room
 
 pub returns-in_err-batch-clause-ready : goal.returns-in_err-batch-clause-ready
-returns-in_err-batch-clause-ready g c = within_named c.block_size.result (block_size c.args.kind) (vec_len c.fill_block.new.block) c.block_size.ensures c.fill_block.ensures.ready
+returns-in_err-batch-clause-ready g c = c.read_block.ensures.ready
 
 pub returns-in_err-batch-clause-few : goal.returns-in_err-batch-clause-few
-returns-in_err-batch-clause-few g c = takes_named c.block_size.result (block_size c.args.kind) _ _ c.block_size.ensures c.fill_block.ensures.few
+returns-in_err-batch-clause-few g c = c.read_block.ensures.few
 
 pub returns-in_err-batch-clause-nature : goal.returns-in_err-batch-clause-nature
-returns-in_err-batch-clause-nature g c = c.fill_block.ensures.nature
+returns-in_err-batch-clause-nature g c = c.read_block.ensures.nature
 
 pub returns-clause-room : goal.returns-clause-room
-returns-clause-room g c = holds_named c.block_size.result (block_size c.args.kind) (vec_capacity c.fill_block.new.block) c.block_size.ensures c.fill_block.ensures.room
+returns-clause-room g c = c.read_block.ensures.room
 
 pub returns-clause-ready : goal.returns-clause-ready
-returns-clause-ready g c = within_named c.block_size.result (block_size c.args.kind) (vec_len c.fill_block.new.block) c.block_size.ensures c.fill_block.ensures.ready
+returns-clause-ready g c = c.read_block.ensures.ready
 
 pub returns-clause-few : goal.returns-clause-few
-returns-clause-few g c = takes_named c.block_size.result (block_size c.args.kind) _ _ c.block_size.ensures c.fill_block.ensures.few
+returns-clause-few g c = c.read_block.ensures.few
 
 pub returns-clause-nature : goal.returns-clause-nature
-returns-clause-nature g c = c.fill_block.ensures.nature
+returns-clause-nature g c = c.read_block.ensures.nature
 
 pub returns-in_err-filled-clause-end : goal.returns-in_err-filled-clause-end
 returns-in_err-filled-clause-end g c =

@@ -124,12 +124,12 @@ returns-in_err-count_batch g c =
       read = memory_is_no_read;
     })
 
-pub returns-then-records-lt-BATCH_LIMIT : goal.returns-then-records-lt-BATCH_LIMIT
-returns-then-records-lt-BATCH_LIMIT g c =
+pub returns-then-is_last : goal.returns-then-is_last
+returns-then-is_last g c =
     let before = c.loop-turn.invariant in
     let taken = c.in_ok-batch.ensures in
     let more = c.in_ok-count_batch.ensures.counted in
-    let short : record_count c.in-Some.batch < 1024 = omega (arith, c.len-records.ensures.count, c.if-records-lt-BATCH_LIMIT.true) in
+    let short : record_count c.in-Some.batch < 1024 = c.if-is_last.ensures in
     record {
       few = count_few c.args.most c.loop-turn.turn _ _ _ before.taken taken.few c.loop-turn-test.true;
       end = ends_at_short _ _ taken.end c.in-Some.batch c.in-Some.is short;
@@ -153,7 +153,7 @@ loop-turn-preserved g c =
     let before = c.loop-turn.invariant in
     let more = c.in_ok-count_batch.ensures.counted in
     let batch = some_batch Proc _ c.in-Some.batch c.in-Some.is next.batch in
-    let full : IsFull c.in-Some.batch = omega (arith, batch.few, c.len-records.ensures.count, c.if-records-lt-BATCH_LIMIT.false) in
+    let full : IsFull c.in-Some.batch = omega (arith, batch.few, c.if-is_last.ensures) in
     record {
       countable = next.failures ∙ before.countable;
       taken = takes_next Proc c.loop-turn.turn _ _ _ before.taken next.few;

@@ -28,17 +28,17 @@ loop-turn-init g c = record {
   told = λ bytes told. told_none c.args.most Login bytes _ (CountsIn c.args.sums.now) c.requires.empty told;
 }
 
-pub next_batch-requires-clause-countable : goal.next_batch-requires-clause-countable
-next_batch-requires-clause-countable g c = still_below _ _ _ c.loop-turn.invariant.countable c.requires.countable
+pub next_logins-requires-clause-countable : goal.next_logins-requires-clause-countable
+next_logins-requires-clause-countable g c = still_below _ _ _ c.loop-turn.invariant.countable c.requires.countable
 
-pub next_batch-requires-clause-room : goal.next_batch-requires-clause-room
-next_batch-requires-clause-room g c = c.loop-turn.invariant.room
+pub next_logins-requires-clause-room : goal.next_logins-requires-clause-room
+next_logins-requires-clause-room g c = c.loop-turn.invariant.room
 
-pub next_batch-requires-clause-ready : goal.next_batch-requires-clause-ready
-next_batch-requires-clause-ready g c = c.loop-turn.invariant.ready
+pub next_logins-requires-clause-ready : goal.next_logins-requires-clause-ready
+next_logins-requires-clause-ready g c = c.loop-turn.invariant.ready
 
-pub next_batch-requires-clause-early : goal.next_batch-requires-clause-early
-next_batch-requires-clause-early g c = c.loop-turn-test.true
+pub next_logins-requires-clause-early : goal.next_logins-requires-clause-early
+next_logins-requires-clause-early g c = c.loop-turn-test.true
 
 pub count_batch-requires : goal.count_batch-requires
 count_batch-requires g c =
@@ -133,14 +133,14 @@ returns-in_err-count_batch g c =
       read = memory_is_no_read;
     })
 
-pub returns-then-records-lt-BATCH_LIMIT : goal.returns-then-records-lt-BATCH_LIMIT
-returns-then-records-lt-BATCH_LIMIT g c =
+pub returns-then-is_last : goal.returns-then-is_last
+returns-then-is_last g c =
     let before = c.loop-turn.invariant in
     let taken = c.in_ok-batch.ensures in
     let now = c.count_batch.new.sums in
     let more = c.in_ok-count_batch.ensures.added in
     let batch = some_batch Login _ c.in-Some.batch c.in-Some.is taken.batch in
-    let short : record_count c.in-Some.batch < 1024 = omega (arith, c.len-records.ensures.count, c.if-records-lt-BATCH_LIMIT.true) in
+    let short : record_count c.in-Some.batch < 1024 = c.if-is_last.ensures in
     record {
       few = takes_few Login c.loop-turn.turn _ _ _ before.taken c.args.most taken.few c.loop-turn-test.true;
       end = ends_at_short _ _ taken.end c.in-Some.batch c.in-Some.is short;
@@ -166,7 +166,7 @@ loop-turn-preserved g c =
     let now = c.count_batch.new.sums in
     let more = c.in_ok-count_batch.ensures.added in
     let batch = some_batch Login _ c.in-Some.batch c.in-Some.is next.batch in
-    let full : IsFull c.in-Some.batch = omega (arith, batch.few, c.len-records.ensures.count, c.if-records-lt-BATCH_LIMIT.false) in
+    let full : IsFull c.in-Some.batch = omega (arith, batch.few, c.if-is_last.ensures) in
     record {
       countable = next.failures ∙ before.countable;
       taken = takes_next Login c.loop-turn.turn _ _ _ before.taken next.few;

@@ -1,6 +1,6 @@
 use Rattle.std.proofs.Common.{arith}
 use Rattle.tally_desk.proofs.Fills.{grown_front}
-use Rattle.tally_desk.proofs.feeding.block.make_ready.Goals as goal
+use Rattle.tally_desk.proofs.feeding.filling.make_ready.Goals as goal
 
 pub returns-clause-kept : goal.returns-clause-kept
 returns-clause-kept c =

@@ -3,7 +3,7 @@ use Rattle.std.proofs.lemmas.Result.{err_from_is_err_and}
 use Rattle.std.specs.Io.KnownBytes.{Consumes}
 use Rattle.tally_desk.proofs.Fills.{filled_on, written_back}
 use Rattle.tally_desk.proofs.TakeLemmas.{takes_more}
-use Rattle.tally_desk.proofs.feeding.block.fill_block.Goals as goal
+use Rattle.tally_desk.proofs.feeding.filling.fill_block.Goals as goal
 
 pub returns-clause-bytes : goal.returns-clause-bytes
 returns-clause-bytes g c =

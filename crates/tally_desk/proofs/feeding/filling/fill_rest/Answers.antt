@@ -1,5 +1,5 @@
 use Rattle.std.proofs.lemmas.Result.{err_from_is_err_and}
-use Rattle.tally_desk.proofs.feeding.block.fill_rest.Goals as goal
+use Rattle.tally_desk.proofs.feeding.filling.fill_rest.Goals as goal
 
 pub returns-in_err-more-clause-first : goal.returns-in_err-more-clause-first
 returns-in_err-more-clause-first g c =

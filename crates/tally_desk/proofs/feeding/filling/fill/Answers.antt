@@ -5,7 +5,7 @@ use Rattle.std.proofs.lemmas.Slice.{take-put_mid_below}
 use Rattle.std.specs.Io.KnownBytes.{Consumes}
 use Rattle.tally_desk.proofs.Fills.{slice_range-put_mid, take_split}
 use borrow.Rule.Slice.PartMut.{put_mid}
-use Rattle.tally_desk.proofs.feeding.block.fill.Goals as goal
+use Rattle.tally_desk.proofs.feeding.filling.fill.Goals as goal
 
 pub loop-filled-preserved : goal.loop-filled-preserved
 loop-filled-preserved g c =
