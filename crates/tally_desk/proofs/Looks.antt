@@ -1,5 +1,5 @@
 -- What a look shows.
-use Rattle.std.proofs.Common.{◌≡◌, ◌≢◌, ◌∙◌, ℕ, Bool, true, false, ◌∷◌, refl, subst}
+use Rattle.std.proofs.Common.{◌≡◌, ◌≢◌, ◌∙◌, ℕ, Bool, true, false, ◌∷◌, ap, refl, subst, sym}
 use Rattle.std.specs.Prelude.{◌==◌, MatchBool}
 use Rattle.std.proofs.lemmas.Bool.{eq-eqb, eqb-true}
 use Rattle.tally_book.specs.Books.{IsLegal}
@@ -32,9 +32,15 @@ module _ (P Q : Type 0) (a b : ℕ) where
       go true e h = absurd (apart (eqb-true a b e))
       go false e h = h
 
-  pub is_unequal : (a ≢ b) → Q → MatchBool (a == b) P Q
-  is_unequal apart q = go (a == b) refl
+-- whether a ticket is served, by the turns before it
+module _ (P Q R : Type 0) (before : ℕ) (served : Bool) (is : (before == 0) ≡ served) where
+  pub looked_before : (Q → R) → MatchBool served P Q → MatchBool (before == 0) P R
+  looked_before still h = subst (λ t. MatchBool t P R) (sym is) (go served h)
     where
-      go : (t : Bool) → (a == b) ≡ t → MatchBool t P Q
-      go true e = absurd (apart (eqb-true a b e))
-      go false e = q
+      go : (t : Bool) → MatchBool t P Q → MatchBool t P R
+      go true h = h
+      go false h = still h
+
+-- the next caller waits
+pub next_waits : (P Q : Type 0) (before : ℕ) (served : Bool) → before ≡ 1 → (before == 0) ≡ served → MatchBool served P Q → Q
+next_waits P Q before served one is h = subst (λ t. MatchBool t P Q) (sym is ∙ ap (λ n. n == 0) one) h

@@ -11,10 +11,10 @@ ghost use Rattle.tally_book.specs.Rooms.{IsRoom};
 ghost use Rattle.tally_book.specs.declared.room.TheConstants.{MILLION};
 ghost use Rattle.tally_clock.specs.Rows.{utc};
 ghost use Rattle.tally_records.specs.Records.{logins_in, procs_in};
-ghost use Rattle.tally_desk.specs.declared.lock.view.Known.{Known};
 ghost use Rattle.tally_desk.specs.inside.Knowledge.{IsSound};
+ghost use Rattle.tally_desk.specs.Callers.{newcomer};
 ghost use Rattle.tally_desk.specs.Openings.{IsOpenFault};
-ghost use Rattle.tally_desk.specs.Passes.{HasDone, IsAnswered, IsCurrent, Keeps, Stands, Stores, deeds, first_passes, known_of, pass_of, told_pass};
+ghost use Rattle.tally_desk.specs.Passes.{HasDone, IsAnswered, IsCurrent, Keeps, Stands, Stores, deeds, first_pass, first_passes, known_of, told_pass};
 ghost use Rattle.tally_desk.specs.inside.Seats.{idle, standing};
 ghost use Rattle.tally_desk.specs.inside.Views.{newcomers};
 
@@ -55,11 +55,13 @@ impl Model for Pass {
 }
 
 impl Pass {
-    /// The pass of a seat, for a book of so much room.
-    fn new(number: u32, room: Room, seat: Seat) -> Pass
-        requires { (k : Known) × (seat.me ≡ idle k) × (number ≡ k.number) × IsSound k × (room ≡ k.seen.room) }
-        ensures { (k : Known) → seat.me ≡ idle k → result ≡ pass_of seat.table_id k }
+    /// The first pass of the caller with this number, whose seat it is.
+    fn first(opening: &Opening, number: u32, seat: Seat) -> Pass
+        requires seat { seat.me ≡ idle (newcomer opening.now.clock opening.now.room opening.now.callers number) }
+        requires sound { IsSound (newcomer opening.now.clock opening.now.room opening.now.callers number) }
+        ensures { result ≡ first_pass seat.table_id opening.now.clock opening.now.room opening.now.callers number }
     {
+        let room = opening.room;
         Pass { number, room, seat }
     }
 
@@ -120,7 +122,7 @@ fn deal_all(lock: &TicketLock, mut seat: Seat, opening: &Opening, passes: &mut V
     ensures { passes.new.items ≡ first_passes lock.now.table.shared.table_id opening.now.clock opening.now.room opening.now.callers }
 {
     for number in 0..opening.callers {
-        passes.push_reserved(Pass::new(number, opening.room, lock.deal(&mut seat)));
+        passes.push_reserved(Pass::first(opening, number, lock.deal(&mut seat)));
     }
 }
 

@@ -1,7 +1,7 @@
 //! A ticket lock over a book, by the steps of a table.
 ghost use Rattle.std.specs.Prelude.{◌≡◌, ◌<◌, ◌≤◌, [], ◌∷◌, ℕ, length, List, IfOk, MatchResult, OnOk, sum_by};
 ghost use Rattle.tally_book.specs.Answers.{HasDays, IsAskable};
-ghost use Rattle.tally_book.specs.Books.{IsLegal, IsReceipt, IsServed, asked, counts_of, posted};
+ghost use Rattle.tally_book.specs.Books.{IsLegal, IsReceipt, IsServed, asked, counts_of, empty_with_room, posted};
 ghost use Rattle.tally_book.specs.Contents.{Contents};
 ghost use Rattle.tally_book.specs.Refusals.{IsAskRefusal, IsPostRefusal};
 ghost use Rattle.tally_book.specs.Rooms.{IsRoom};
@@ -39,6 +39,17 @@ const SERVING: usize = 2;
 // The slot of the book.
 const BOOK: usize = 0;
 
+/// The book that a table opens with.
+fn first_book(alloc: Global, keys: RandomState, opening: &Opening) -> Result<Book, Memory>
+    requires some { 1 ≤ opening.now.callers }
+    requires few { opening.now.callers ≤ HOST_LIMIT }
+    ensures empty { IfOk result (λ book. book ≡ empty_with_room opening.now.clock opening.now.room opening.now.callers) }
+    ensures legal { IfOk result IsLegal }
+{
+    let clock = opening.clock.try_copy(alloc)?;
+    Book::with_room(alloc, keys, clock, opening.room, opening.callers)
+}
+
 /// A book that one caller at a time has, in the order of their tickets.
 #[derive(Drop)]
 pub struct TicketLock {
@@ -61,8 +72,7 @@ impl TicketLock {
     {
         let sleepers = Sleepers::new(alloc, opening.callers)?;
         let mut slots = Vec::with_capacity(alloc, 1)?;
-        let clock = opening.clock.try_copy(alloc)?;
-        slots.push_reserved(Book::with_room(alloc, keys, clock, opening.room, opening.callers)?);
+        slots.push_reserved(first_book(alloc, keys, opening)?);
         match Table::new(alloc, &[0, 0, 0], slots, opening) {
             Ok((table, seat)) => Ok((TicketLock { table, sleepers }, seat)),
             Err(Refused { slots: _ }) => Err(Memory),
@@ -158,7 +168,7 @@ impl TicketLock {
         batch: &Batch,
     ) -> Result<Receipt, PostFault>
         requires table { seat.old.table_id ≡ self.now.table.shared.table_id }
-        requires caller { (k : Known) × (seat.old.me ≡ idle k) × (number ≡ k.number) × (number < k.seen.callers) }
+        requires caller { (k : Known) × (seat.old.me ≡ idle k) × (number ≡ k.number) × (k.number < k.seen.callers) }
         ensures table { seat.new.table_id ≡ seat.old.table_id }
         ensures posted { (k : Known) → seat.old.me ≡ idle k
             → (book : Contents) × Fits book k × IsLegal book × MatchResult result
@@ -181,7 +191,7 @@ impl TicketLock {
         question: &Question,
     ) -> Result<Served, AskFault>
         requires table { seat.old.table_id ≡ self.now.table.shared.table_id }
-        requires caller { (k : Known) × (seat.old.me ≡ idle k) × (number ≡ k.number) × (number < k.seen.callers) }
+        requires caller { (k : Known) × (seat.old.me ≡ idle k) × (number ≡ k.number) × (k.number < k.seen.callers) }
         requires askable { IsAskable question.now }
         ensures table { seat.new.table_id ≡ seat.old.table_id }
         ensures asked { (k : Known) → seat.old.me ≡ idle k

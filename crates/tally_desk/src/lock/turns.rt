@@ -1,17 +1,24 @@
 //! The turns of callers: a ticket, the wait for its turn, and the turn's end.
-ghost use Rattle.std.specs.Prelude.{◌≡◌, ◌==◌, ◌%◌, ◌^◌, ℕ, MatchBool};
+ghost use Rattle.std.specs.Prelude.{◌≡◌, ◌==◌, ◌+◌, ◌*◌, ◌%◌, ◌^◌, ◌<◌, ◌≤◌, ℕ, MatchBool};
+ghost use Rattle.std.specs.Duration.{as_nanos};
+ghost use mathlib.Core.Option.{none};
+ghost use Rattle.atomic_table.specs.Table.{Allows, step};
 ghost use Rattle.tally_book.specs.Books.{IsLegal};
 ghost use Rattle.tally_book.specs.Contents.{Contents};
 ghost use Rattle.tally_desk.specs.declared.lock.view.Known.{Known};
+ghost use Rattle.tally_desk.specs.inside.Rule.{Orderly};
 ghost use Rattle.tally_desk.specs.inside.Seats.{IsMade, IsNext, idle, turn, waiting};
 ghost use Rattle.tally_desk.specs.Callers.{Fits};
 ghost use Rattle.tally_desk.specs.inside.Views.{knowing};
 
 use crate::lock::rule::{Count, Draw, Leave, Look};
+use crate::lock::view::View;
 use crate::lock::{CALLS, SERVING, Seat, TICKET, TicketLock};
+use atomic_table::Play;
 use std::hint;
 use std::sync::Wait;
 use std::time::Duration;
+use tally_book::Book;
 
 // How often the next caller looks for its turn before it sleeps.
 const LOOKS: u32 = 200;
@@ -20,11 +27,33 @@ const LOOKS: u32 = 200;
 const NAP: u64 = 500;
 
 /// How long a caller sleeps at most that has so many turns before its own.
-fn nap_before(turns: u64) -> Duration {
+fn nap_before(turns: u64) -> Duration
+    ensures most { as_nanos result ≤ turns * NAP * 1_000 }
+    ensures exact { turns * NAP < 2 ^ 64 → as_nanos result ≡ turns * NAP * 1_000 }
+{
     Duration::from_micros(turns.saturating_mul(NAP))
 }
 
+/// How many turns are before that of a ticket, where this one is served. The words of both go on with 0 after the greatest.
+fn turns_from(served: u64, ticket: u64) -> u64
+    ensures { (result == 0) ≡ (served == ticket) }
+{
+    ticket.wrapping_sub(served)
+}
+
 impl TicketLock {
+    /// Counts a word on by one, as a step of this kind.
+    fn count_on<M: Play<Book, View>>(&self, seat: &mut Seat, word: usize) -> u64
+        requires table { seat.old.table_id ≡ self.now.table.shared.table_id }
+        requires word { word < self.now.table.shared.table_id.words }
+        requires allowed { Allows (Orderly self.now.table.shared.key.callers) self.now.table.shared.table_id.slots seat.old.id seat.old.me word
+            (λ n. (n + 1) % 2 ^ 64) (M.then (step self.now.table.shared.table_id.slots word 1 0 none) seat.old.me) }
+        ensures table { seat.new.table_id ≡ seat.old.table_id }
+        ensures then { M.then (step self.now.table.shared.table_id.slots word 1 0 none) seat.old.me result seat.new.me }
+    {
+        self.table.shared.fetch_add::<M>(seat, word, 1)
+    }
+
     /// Draws a ticket.
     fn draw(&self, seat: &mut Seat) -> u64
         requires table { seat.old.table_id ≡ self.now.table.shared.table_id }
@@ -32,7 +61,7 @@ impl TicketLock {
         ensures table { seat.new.table_id ≡ seat.old.table_id }
         ensures waits { (k : Known) → seat.old.me ≡ idle k → (ticket : ℕ) × (result ≡ ticket % 2 ^ 64) × (seat.new.me ≡ waiting k ticket) }
     {
-        self.table.shared.fetch_add::<Draw>(seat, TICKET, 1)
+        self.count_on::<Draw>(seat, TICKET)
     }
 
     /// Looks which ticket has its turn, and takes the book where it is this one.
@@ -54,12 +83,8 @@ impl TicketLock {
         ensures turn { (k : Known) (drawn : ℕ) → ticket ≡ drawn % 2 ^ 64 → seat.old.me ≡ waiting k drawn → MatchBool (result == 0) ((book : Contents) × (seat.new.me ≡ turn k drawn book book) × IsLegal book × Fits book k) (seat.new.me ≡ seat.old.me) }
     {
         for _ in 0..LOOKS {
-            let served = self.look(seat, ticket);
-            if served == ticket {
-                return 0;
-            }
-            let before = ticket.wrapping_sub(served);
-            if before > 1 {
+            let before = turns_from(self.look(seat, ticket), ticket);
+            if before != 1 {
                 return before;
             }
             hint::spin_loop();
@@ -92,7 +117,7 @@ impl TicketLock {
         ensures table { seat.new.table_id ≡ seat.old.table_id }
         ensures counted { (k : Known) (ticket : ℕ) (before after : Contents) → seat.old.me ≡ turn k ticket before after → seat.new.me ≡ turn (knowing after k) ticket after after }
     {
-        self.table.shared.fetch_add::<Count>(seat, CALLS, 1);
+        self.count_on::<Count>(seat, CALLS);
     }
 
     /// Ends the turn, with the book as the seat's view has it. It wakes the next caller, and the one
@@ -103,7 +128,7 @@ impl TicketLock {
         ensures table { seat.new.table_id ≡ seat.old.table_id }
         ensures idle { (k : Known) (ticket : ℕ) (book : Contents) → seat.old.me ≡ turn k ticket book book → seat.new.me ≡ idle (knowing book k) }
     {
-        let served = self.table.shared.fetch_add::<Leave>(seat, SERVING, 1);
+        let served = self.count_on::<Leave>(seat, SERVING);
         self.sleepers.wake(served.wrapping_add(1));
         self.sleepers.wake(served.wrapping_add(2));
     }

@@ -1,4 +1,4 @@
-use Rattle.std.proofs.Common.{refl, ℕ, ◌≡◌, ◌+◌, ◌-◌, ◌<◌, [], ◌∷◌, ◌++◌, map, List, sym, ap, ◌∙◌, arith, append_assoc}
+use Rattle.std.proofs.Common.{ℕ, ◌≡◌, ◌+◌, ◌-◌, ◌<◌, [], ◌∷◌, ◌++◌, map, List, sym, ap, ◌∙◌, arith, append_assoc}
 use Rattle.std.specs.List.{range_with_len}
 use Rattle.tally_desk.specs.declared.lock.view.Known.{Known}
 use Rattle.tally_desk.specs.Callers.{newcomer}
@@ -15,14 +15,17 @@ deal-requires-clause-some c =
     let some : 0 < left.0 = omega (arith, left.1) in
     (newcomer c.args.opening.now.clock c.args.opening.now.room c.args.opening.now.callers n, newcomers c.args.opening.now.clock c.args.opening.now.room c.args.opening.now.callers (n + 1) (left.0 - 1), left.2 ∙ ap (λ ns. standing (map (newcomer c.args.opening.now.clock c.args.opening.now.room c.args.opening.now.callers) ns)) (first_left n left.0 some))
 
-pub new-requires : goal.new-requires
-new-requires c =
+pub first-requires : goal.first-requires
+first-requires c =
     let n = c.loop-number.number in
     let left = c.loop-number.invariant.left in
     let some : 0 < left.0 = omega (arith, left.1) in
     let first : Known = newcomer c.args.opening.now.clock c.args.opening.now.room c.args.opening.now.callers n in
     let dealt = c.deal.ensures.dealt first (newcomers c.args.opening.now.clock c.args.opening.now.room c.args.opening.now.callers (n + 1) (left.0 - 1)) (left.2 ∙ ap (λ ns. standing (map (newcomer c.args.opening.now.clock c.args.opening.now.room c.args.opening.now.callers) ns)) (first_left n left.0 some)) in
-    (first, dealt.1, refl, newcomer_sound c.args.opening.now.clock c.args.opening.now.room c.args.opening.now.callers n c.requires.right c.requires.few c.loop-number-test.true, refl)
+    record {
+      seat = dealt.1;
+      sound = newcomer_sound c.args.opening.now.clock c.args.opening.now.room c.args.opening.now.callers n c.requires.right c.requires.few c.loop-number-test.true;
+    }
 
 pub loop-number-preserved : goal.loop-number-preserved
 loop-number-preserved c =
@@ -35,7 +38,7 @@ loop-number-preserved c =
     let more = first_left n left.0 some in
     let dealt = c.deal.ensures.dealt first (newcomers c.args.opening.now.clock c.args.opening.now.room c.args.opening.now.callers (n + 1) (left.0 - 1)) (left.2 ∙ ap (λ ns. standing (map (newcomer c.args.opening.now.clock c.args.opening.now.room c.args.opening.now.callers) ns)) more) in
     let same : c.deal.result.table_id ≡ id = c.deal.ensures.table.1 ∙ c.loop-number.invariant.table in
-    let pass : c.new.result ≡ pass_of id first = c.new.ensures first dealt.1 ∙ ap (λ x. pass_of x first) same in
+    let pass : c.first.result ≡ pass_of id first = c.first.ensures ∙ ap (λ x. pass_of x first) same in
     let before : List PassState = c.loop-number.passes.items in
     let now = c.push_reserved.ensures.items ∙ ap (λ (p : PassState). before ++ p ∷ []) pass in
     record {

@@ -1,4 +1,4 @@
-use Rattle.std.proofs.Common.{◌∙◌, ◌<◌, sym, subst, ap}
+use Rattle.std.proofs.Common.{◌∙◌, sym, ap}
 use Rattle.atomic_table.specs.Seated.{TableId}
 use Rattle.tally_desk.specs.Passes.{seen_as}
 use Rattle.tally_desk.proofs.Passes.{PostTells, both, ok_first, ok_second, posted_pass}
@@ -13,10 +13,6 @@ tells g c =
     let b = c.post.ensures.posted o.0 o.1 in
     let t = posted_pass id o.0 o.3 b.0 b.1 c.args.batch.now _ _ b.2 b.3 in
     both (PostTells c.args.batch.now c.post.result) _ _ _ _ (sym c.pass.view_is ∙ ap (seen_as id) o.1) (λ i. seen_as (c.post.ensures.table i) (t.1 i)) t.4
-
-pub post-requires-clause-caller : goal.post-requires-clause-caller
-post-requires-clause-caller g c =
-    let o = c.pass.invariant in (o.0, o.1, o.2, subst (λ n. n < o.0.seen.callers) (sym o.2) o.3.near)
 
 pub invariant_of-pass : goal.invariant_of-pass
 invariant_of-pass g c =

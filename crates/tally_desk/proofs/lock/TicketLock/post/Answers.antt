@@ -9,7 +9,7 @@ use Rattle.tally_desk.proofs.lock.TicketLock.post.Goals as goal
 pub post_out-made-requires-clause-turn : goal.post_out-made-requires-clause-turn
 post_out-made-requires-clause-turn g c =
     let k = c.requires.caller.0 in
-    let t = c.enter.ensures.turn k c.requires.caller.1 in (k, t.0, t.1, t.2, omega (arith, t.4.seen.callers, c.requires.caller.3))
+    let t = c.enter.ensures.turn k c.requires.caller.1 in (k, t.0, t.1, t.2, omega (arith, t.4.seen.callers, c.requires.caller.2, c.requires.caller.3))
 
 pub end-requires-clause-made : goal.end-requires-clause-made
 end-requires-clause-made g c =
