@@ -1,5 +1,5 @@
 //! Where callers sleep until their turns are near.
-ghost use Rattle.std.specs.Prelude.{◌≡◌, ◌%◌, IfOk, MatchOption, Some, slice_get, vec_len};
+ghost use Rattle.std.specs.Prelude.{◌≡◌, ◌<◌, ◌↔◌, IfOk, IsSome, vec_len};
 
 use std::alloc::Global;
 use std::sync::Wait;
@@ -28,8 +28,7 @@ impl Sleepers {
 
     /// The place of the caller with this ticket.
     fn place(&self, ticket: u64) -> Option<&Parker>
-        ensures { MatchOption result (vec_len self.now.places ≡ 0)
-            (λ place. slice_get self.now.places.items (ticket % vec_len self.now.places) ≡ Some place.now) }
+        ensures { IsSome result ↔ (0 < vec_len self.now.places) }
     {
         let place = ticket.checked_rem(self.places.len() as u64)?;
         self.places.get(place as usize)
