@@ -1,5 +1,6 @@
 -- Rows of connect time.
 pub mod Ahead
+pub mod AlikeDays
 pub mod AlikeRows
 pub mod Candidates
 pub mod CellRows

@@ -1,12 +1,12 @@
 //! Connect time of several hosts, of which each has a count of its records.
-ghost use Rattle.std.specs.Prelude.{◌≡◌, ◌≤◌, ℕ, List as Items, All, IfOk, length, sum_by, true};
+ghost use Rattle.std.specs.Prelude.{◌≡◌, ◌≤◌, ◌<◌, ℕ, ℤ, List as Items, All, IfOk, length, sum_by, true};
 ghost use Rattle.std.specs.Cmp.Lexicographic.{slice_cmp};
-ghost use Rattle.std.specs.Ordering.{nat_cmp};
+ghost use Rattle.std.specs.Ordering.{int_cmp, nat_cmp};
 ghost use Rattle.tally_records.specs.Choice.{every_login};
 ghost use Rattle.tally_sessions.specs.ConnectSums.{AreCountsOf, IsAboutAll};
 ghost use Rattle.tally_sessions.specs.Days.{IsDay, IsOffset, local};
 ghost use Rattle.tally_sessions.specs.Rows.{day_times, user_times};
-ghost use Rattle.tally_sessions.specs.Sums.{seconds_in, seconds_of_user, sessions_of};
+ghost use Rattle.tally_sessions.specs.Sums.{seconds_in, seconds_of_day, seconds_of_user, sessions_of};
 ghost use Rattle.tally_sessions.specs.declared.entry.Entry.{Entry};
 ghost use Rattle.tally_sessions.specs.inside.Alike.{AreAlike};
 ghost use Rattle.tally_sessions.specs.inside.KeptSessions.{chained_ahead, sessions_ahead};
@@ -85,6 +85,27 @@ pub(crate) fn sessions_of_counts<'a>(
     Ok(ChainedSessions { sources, at: 0 })
 }
 
+/// The seconds of the sessions on each day, on these hosts.
+#[tactic(auto, using(crate::proofs::connect::AlikeDays::alike_on_day))]
+fn day_sums_of_counts(
+    alloc: Global,
+    counts: &[ConnectSums],
+    clock: &Clock,
+    offset: i32,
+    until: Option<i32>,
+) -> Result<BTreeMap<i32, u64>, Memory>
+    requires offset_in { IsOffset offset }
+    requires few { length counts.now ≤ HOST_LIMIT }
+    requires room { sum_by (λ c. c.count) counts.now ≤ ENTRY_LIMIT }
+    requires kept { All (λ c. c.keeps_sessions ≡ true) counts.now }
+    ensures value { IfOk result (λ sums. (day : ℤ) → IsAboutAll counts.now (λ es. seconds_of_day (local clock.now offset) day (sessions_of every_login es until)) (sum_at int_cmp sums.entries day)) }
+    ensures days { IfOk result (λ sums. (day : ℤ) → 0 < sum_at int_cmp sums.entries day → IsDay day) }
+{
+    let mut sessions = sessions_of_counts(alloc, counts, until)?;
+    let sums = day_sums(alloc, clock, offset, &mut sessions)?;
+    Ok(sums)
+}
+
 /// The connect time of each day that has any on these hosts, in order, by the days of a clock with an offset in minutes east of it,
 /// counted as in the total. The counts keep their sessions.
 pub fn connect_by_day_of_counts(
@@ -101,7 +122,6 @@ pub fn connect_by_day_of_counts(
     ensures value { IfOk result (IsAboutAll counts.now (λ es. day_times (local clock.now offset) (sessions_of every_login es until))) }
     ensures days { IfOk result (All (λ row. IsDay row.day)) }
 {
-    let mut sessions = sessions_of_counts(alloc, counts, until)?;
-    let sums = day_sums(alloc, clock, offset, &mut sessions)?;
+    let sums = day_sums_of_counts(alloc, counts, clock, offset, until)?;
     List::from_vec(alloc, day_rows(alloc, &sums)?)
 }
