@@ -1,5 +1,5 @@
 //! The sessions of a host that have ended: their seconds, and where reports by day are wanted the sessions too.
-ghost use Rattle.std.specs.Prelude.{◌≡◌, ◌<◌, ◌+◌, ◌^◌, [], ℕ, List as Items, Option, OnOk, length};
+ghost use Rattle.std.specs.Prelude.{◌≡◌, ◌≤◌, ◌<◌, ◌+◌, ◌^◌, ◌++◌, ◌∷◌, [], ℕ, List as Items, Option, OnOk, length, vec_capacity, vec_len};
 ghost use Rattle.tally_sessions.specs.inside.Ended.{Asked, HasGrown, HasRoom, HaveUsers, gives, measured};
 ghost use Rattle.tally_sessions.specs.inside.Track.{sum_of};
 
@@ -25,6 +25,19 @@ pub(crate) struct Ended {
     /// Whether they are kept themselves.
     pub(crate) keeps_sessions: bool,
     pub(crate) sessions: Vec<EndedSession>,
+}
+
+/// Keeps a session of the user at a place, in the room that there is for it.
+fn keep(sessions: &mut Vec<EndedSession>, user: u32, begin: i32, end_time: i32)
+    requires { vec_len sessions.old + 1 ≤ vec_capacity sessions.old }
+    ensures items { sessions.new.items ≡ sessions.old.items ++ record { user = user; begin = begin; end_time = end_time } ∷ [] }
+    ensures capacity { vec_capacity sessions.new ≡ vec_capacity sessions.old }
+{
+    sessions.push_reserved(EndedSession {
+        user,
+        begin,
+        end_time,
+    });
 }
 
 impl Ended {
@@ -70,11 +83,7 @@ impl Ended {
         let place = self.sums.enter(user);
         self.sums.add(place, seconds);
         if self.keeps_sessions {
-            self.sessions.push_reserved(EndedSession {
-                user: place,
-                begin,
-                end_time,
-            });
+            keep(&mut self.sessions, place, begin, end_time);
         }
     }
 }

@@ -42,11 +42,7 @@ impl<'a> KeptSessions<'a> {
             let slot = &self.running.slots[self.slot];
             self.slot += 1;
             if slot.is_open {
-                return Some(Session {
-                    user: slot.user.name(),
-                    begin: slot.begin(self.running.clock),
-                    end_time: self.time,
-                });
+                return Some(slot.session(self.running.clock, self.time));
             }
         }
         None

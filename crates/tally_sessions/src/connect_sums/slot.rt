@@ -6,6 +6,7 @@ ghost use Rattle.tally_sessions.specs.inside.Slots.{length_of, one, weight_at};
 ghost use Rattle.tally_sessions.specs.inside.Track.{IsWithin};
 
 use crate::sessions::ENTRY_LIMIT;
+use crate::sums::Session;
 use crate::track::rules::{begin_of, seconds_between};
 use tally_records::Key;
 
@@ -43,7 +44,22 @@ impl Slot {
         seconds_between(self.begin(clock), time) as u32
     }
 
-    /// The same where the session is open and one of all users, or of this one, or else 0.
+    /// The session up to a time, likewise.
+    pub(crate) fn session(&self, clock: i64, time: i32) -> Session
+        requires low { neg_ℤ (pos (2 ^ 62)) ≤ℤ (clock -ℤ self.now.clock_at) }
+        requires high { (clock -ℤ self.now.clock_at) ≤ℤ pos (2 ^ 62) }
+        ensures user { result.user ≡ self.now.user }
+        ensures begin { result.begin ≡ clamped (self.now.start +ℤ (clock -ℤ self.now.clock_at)) }
+        ensures end_time { result.end_time ≡ time }
+    {
+        Session {
+            user: self.user.name(),
+            begin: self.begin(clock),
+            end_time: time,
+        }
+    }
+
+    /// The seconds up to a time where the session is open and one of all users, or of this one, or else 0.
     pub(crate) fn seconds_of(&self, who: &Option<Key>, clock: i64, time: i32) -> u64
         requires now { IsWithin ENTRY_LIMIT clock }
         requires then { self.now.is_open ≡ true → IsWithin ENTRY_LIMIT self.now.clock_at }

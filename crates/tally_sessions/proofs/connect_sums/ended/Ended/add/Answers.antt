@@ -36,11 +36,11 @@ returns-then-self-clause-sums c (Weight weight) =
     let own : session_of users (record { user = c.enter-place.result; begin = to_z w32 (of_z w32 c.args.begin); end_time = to_z w32 (of_z w32 c.args.end_time) }) ≡ x =
     λ i. record { user = user i; begin = to_z-of_z w32 c.args.begin c.ranges.begin i; end_time = to_z-of_z w32 c.args.end_time c.ranges.end_time i } in
     let all =
-    ap (map (session_of users)) c.push_reserved.ensures.items
+    ap (map (session_of users)) c.keep.ensures.items
     ∙ map-append (session_of users) old.sessions.items (record { user = c.enter-place.result; begin = to_z w32 (of_z w32 c.args.begin); end_time = to_z w32 (of_z w32 c.args.end_time) } ∷ [])
     ∙ (λ i. same_sessions old.sums.users.entries users kept old.sessions.items c.requires.have i ++ own i ∷ []) in
     let sum = ap (sum_by weight) all ∙ sum_by_push weight (sessions_in old) x in
-    (λ i. cond (c.if-self.true i) (sum_by weight (map (session_of users) c.push_reserved.new.self.items)) 0)
+    (λ i. cond (c.if-self.true i) (sum_by weight (map (session_of users) c.keep.new.sessions.items)) 0)
     ∙ sum
     ∙ (λ i. cond (sym c.if-self.true i) (sum_by weight (sessions_in old)) 0 + cond (sym c.if-self.true i) (weight x) 0)
 
@@ -68,10 +68,10 @@ returns-then-self-clause-grown c =
       sums = λ who. omega (arith, c.add.ensures.sums c.args.user c.enter-place.ensures.entered who, c.enter-place.ensures.sums who, below (covers who c.args.user) c.seconds_between-seconds.result c.seconds_between-seconds.ensures.fits);
       users = omega (arith, c.enter-place.ensures.few, len);
       spare = omega (arith, c.enter-place.ensures.room, c.add.ensures.room);
-      sessions = omega (arith, ap length c.push_reserved.ensures.items, length-append old.sessions.items (x ∷ []));
-      capacity = c.push_reserved.ensures.capacity;
+      sessions = omega (arith, ap length c.keep.ensures.items, length-append old.sessions.items (x ∷ []));
+      capacity = c.keep.ensures.capacity;
       keeps = refl;
-      have = subst (All P) (sym c.push_reserved.ensures.items)
+      have = subst (All P) (sym c.keep.ensures.items)
           (All-append P old.sessions.items (x ∷ []) (have_still old.sums.users.entries users kept old.sessions.items c.requires.have)
           (All-cons P x [] (omega (arith, slice_get_within (keys_of users) c.enter-place.result c.args.user stands, length-keys_of users)) (All-nil P)));
     }

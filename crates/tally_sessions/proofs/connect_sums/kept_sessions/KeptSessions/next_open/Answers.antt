@@ -14,10 +14,10 @@ returns-then-slot-clause-next c =
     let r = at.running.now in
     let s = c.index-slot.result.now in
     let within : at.slot < length r.slots.items = omega (arith, c.loop-self-test.true, c.len.ensures, r.slots.ok.0) in
-    let begin_fits : FitsSigned w32 c.begin.result = search rules in
     let time_fits : FitsSigned w32 at.time = search rules in
     let clock_fits : FitsSigned w64 r.clock = search rules in
-    let begin = to_z-of_z w32 c.begin.result begin_fits ∙ c.begin.ensures ∙ (λ i. clamped (s.start +ℤ (to_z-of_z w64 r.clock clock_fits i -ℤ s.clock_at))) in
+    let session = c.session.ensures in
+    let begin = session.begin ∙ (λ i. clamped (s.start +ℤ (to_z-of_z w64 r.clock clock_fits i -ℤ s.clock_at))) in
     sym c.loop-self.invariant.ahead
     ∙ ap (map (session_at r.clock at.time)) (open-next r.slots.items at.slot s within c.index-slot.ensures c.if-slot.true)
-    ∙ (λ i. record { user = sym c.name.ensures i; begin = sym begin i; end_time = sym (to_z-of_z w32 at.time time_fits) i } ∷ map (session_at r.clock at.time) (opens_in (drop (at.slot + 1) r.slots.items)))
+    ∙ (λ i. record { user = sym session.user i; begin = sym begin i; end_time = sym (session.end_time ∙ to_z-of_z w32 at.time time_fits) i } ∷ map (session_at r.clock at.time) (opens_in (drop (at.slot + 1) r.slots.items)))
