@@ -82,7 +82,7 @@ pub(crate) fn sessions_of_counts<'a>(
     for count in counts {
         sources.push_reserved(count.sessions(until));
     }
-    Ok(ChainedSessions { sources, at: 0 })
+    Ok(ChainedSessions::of(sources))
 }
 
 /// The seconds of the sessions on each day, on these hosts.

@@ -86,6 +86,15 @@ pub(crate) struct ChainedSessions<S> {
     pub(crate) at: usize,
 }
 
+impl<S> ChainedSessions<S> {
+    /// These sources, of which none is passed.
+    pub(crate) fn of(sources: Vec<S>) -> ChainedSessions<S>
+        ensures { result ≡ record { sources = sources; at = 0 } }
+    {
+        ChainedSessions { sources, at: 0 }
+    }
+}
+
 impl<S: SessionSource> SessionSource for ChainedSessions<S> {
     ghost ahead = { chained_ahead S.ahead };
 

@@ -8,7 +8,7 @@ use Rattle.std.specs.Prelude.{sum_by}
 use Rattle.tally_sessions.specs.ConnectSums.{Counted}
 use Rattle.tally_sessions.specs.Hosts.{of_host}
 use Rattle.tally_sessions.specs.declared.sums.Session.{Session}
-use Rattle.tally_sessions.specs.inside.KeptSessions.{sessions_ahead}
+use Rattle.tally_sessions.specs.inside.KeptSessions.{chained_ahead, sessions_ahead}
 use Rattle.tally_sessions.proofs.connect_sums.CountedHosts.{count_of_host, sum_below, sum_below-more, sum_of_counts}
 use Rattle.tally_sessions.proofs.connect_sums.hosts.sessions_of_counts.Goals as goal
 
@@ -52,6 +52,7 @@ pub returns-clause-value : goal.returns-clause-value
 returns-clause-value c es h weight =
     let cs = c.args.counts.now in
     let all : c.loop-count.count-index ≡ length cs = omega arith in
-    c.loop-count.invariant.value es h weight
+    ap (λ chain. sum_by weight (chained_ahead sessions_ahead chain)) c.of.ensures
+    ∙ c.loop-count.invariant.value es h weight
     ∙ ap (λ (hosts : ℕ). sum_below (sum_by weight) es c.args.until hosts) all
     ∙ sum_of_counts (sum_by weight) refl (sum_by-append weight) cs es c.args.until h c.requires.few
