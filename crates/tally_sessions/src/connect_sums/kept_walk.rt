@@ -69,12 +69,7 @@ impl Running {
         ensures value { sessions_ahead result ≡ sessions_now (counted_in self.now) until }
         ensures few { length (sessions_ahead result) ≤ self.now.count }
     {
-        KeptSessions {
-            running: self,
-            time: until.unwrap_or(self.last),
-            ended: 0,
-            slot: 0,
-        }
+        KeptSessions::of(self, until.unwrap_or(self.last))
     }
 }
 
