@@ -2,6 +2,7 @@
 pub mod CountLemmas
 pub mod CountedHosts
 pub mod EndedLemmas
+pub mod EndedSeconds
 pub mod KeptLemmas
 pub mod SessionLemmas
 pub mod SlotLemmas

@@ -1,7 +1,10 @@
 //! The sessions of a host that have ended: their seconds, and where reports by day are wanted the sessions too.
-ghost use Rattle.std.specs.Prelude.{◌≡◌, ◌≤◌, ◌<◌, ◌+◌, ◌^◌, ◌++◌, ◌∷◌, [], ℕ, List as Items, Option, OnOk, length, vec_capacity, vec_len};
+ghost use Rattle.std.specs.Prelude.{◌≡◌, ◌≤◌, ◌<◌, ◌+◌, ◌^◌, ◌++◌, ◌∷◌, [], ℕ, List as Items, Option, OnOk, if◌then◌else◌, length, vec_capacity, vec_len};
+ghost use Rattle.std.specs.Map.{keys_of};
+ghost use Rattle.tally_clock.specs.Days.{seconds_between};
 ghost use Rattle.tally_sessions.specs.inside.Ended.{Asked, HasGrown, HasRoom, HaveUsers, gives, measured};
-ghost use Rattle.tally_sessions.specs.inside.Track.{sum_of};
+ghost use Rattle.tally_sessions.specs.inside.Numbers.{StandsAt};
+ghost use Rattle.tally_sessions.specs.inside.Track.{covers, sum_of};
 
 use crate::track::ended::EndedSums;
 use crate::track::rules::seconds_between;
@@ -25,6 +28,20 @@ pub(crate) struct Ended {
     /// Whether they are kept themselves.
     pub(crate) keeps_sessions: bool,
     pub(crate) sessions: Vec<EndedSession>,
+}
+
+/// Adds the seconds of a session of the user at a place.
+#[tactic(auto, using(crate::proofs::connect_sums::EndedSeconds::seconds_added, crate::proofs::connect_sums::EndedSeconds::few_seconds))]
+fn add_seconds(sums: &mut EndedSums, user: u32, begin: i32, end_time: i32)
+    requires entered { user < length sums.old.users.entries }
+    requires fits { (who : Option (Items ℕ)) → sum_of sums.old who < 2 ^ 63 }
+    ensures sums { (name : Items ℕ) → StandsAt sums.old.users user name → (who : Option (Items ℕ))
+        → sum_of sums.new who ≡ sum_of sums.old who + (if covers who name then seconds_between begin end_time else 0) }
+    ensures few { seconds_between begin end_time < 2 ^ 32 }
+    ensures kept { keys_of sums.new.users.entries ≡ keys_of sums.old.users.entries }
+    ensures room { sums.new.users.spare ≡ sums.old.users.spare }
+{
+    sums.add(user, seconds_between(begin, end_time) as u32);
 }
 
 /// Keeps a session of the user at a place, in the room that there is for it.
@@ -79,9 +96,8 @@ impl Ended {
         ensures sums { (asked : Asked) → measured self.new asked ≡ measured self.old asked + gives self.old.keeps_sessions asked (record { user = user; begin = begin; end_time = end_time }) }
         ensures grown { HasGrown 1 self.old self.new }
     {
-        let seconds = seconds_between(begin, end_time) as u32;
         let place = self.sums.enter(user);
-        self.sums.add(place, seconds);
+        add_seconds(&mut self.sums, place, begin, end_time);
         if self.keeps_sessions {
             keep(&mut self.sessions, place, begin, end_time);
         }

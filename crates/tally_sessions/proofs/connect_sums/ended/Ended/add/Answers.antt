@@ -22,13 +22,12 @@ below false n h = omega arith
 
 pub returns-then-self-clause-sums : goal.returns-then-self-clause-sums
 returns-then-self-clause-sums c (Seconds who) =
-    let value = c.seconds_between-seconds.ensures.value ∙ (λ i. seconds_between (to_z-of_z w32 c.args.begin c.ranges.begin i) (to_z-of_z w32 c.args.end_time c.ranges.end_time i)) in
-    c.add.ensures.sums c.args.user c.enter-place.ensures.entered who
-    ∙ (λ i. c.enter-place.ensures.sums who i + cond (covers who c.args.user) (value i) 0)
+    c.add_seconds.ensures.sums c.args.user c.enter-place.ensures.entered who
+    ∙ (λ i. c.enter-place.ensures.sums who i + cond (covers who c.args.user) (seconds_between (to_z-of_z w32 c.args.begin c.ranges.begin i) (to_z-of_z w32 c.args.end_time c.ranges.end_time i)) 0)
 returns-then-self-clause-sums c (Weight weight) =
     let old = c.args.self.now in
-    let users = c.add.new.self.users.entries in
-    let keys = c.add.ensures.kept in
+    let users = c.add_seconds.new.sums.users.entries in
+    let keys = c.add_seconds.ensures.kept in
     let kept = λ (place : ℕ) (name : List ℕ) (at : slice_get (keys_of old.sums.users.entries) place ≡ Some name). ap (λ ks. slice_get ks place) keys ∙ c.enter-place.ensures.kept place name at in
     let stands : slice_get (keys_of users) c.enter-place.result ≡ Some c.args.user = ap (λ ks. slice_get ks c.enter-place.result) keys ∙ c.enter-place.ensures.entered in
     let user = get_or_from_slice_get (keys_of users) c.enter-place.result c.args.user [] stands in
@@ -46,28 +45,27 @@ returns-then-self-clause-sums c (Weight weight) =
 
 pub returns-else-self-clause-sums : goal.returns-else-self-clause-sums
 returns-else-self-clause-sums c (Seconds who) =
-    let value = c.seconds_between-seconds.ensures.value ∙ (λ i. seconds_between (to_z-of_z w32 c.args.begin c.ranges.begin i) (to_z-of_z w32 c.args.end_time c.ranges.end_time i)) in
-    c.add.ensures.sums c.args.user c.enter-place.ensures.entered who
-    ∙ (λ i. c.enter-place.ensures.sums who i + cond (covers who c.args.user) (value i) 0)
+    c.add_seconds.ensures.sums c.args.user c.enter-place.ensures.entered who
+    ∙ (λ i. c.enter-place.ensures.sums who i + cond (covers who c.args.user) (seconds_between (to_z-of_z w32 c.args.begin c.ranges.begin i) (to_z-of_z w32 c.args.end_time c.ranges.end_time i)) 0)
 returns-else-self-clause-sums c (Weight weight) =
     let old = c.args.self.now in
     let x : Session = record { user = c.args.user; begin = c.args.begin; end_time = c.args.end_time } in
-    (λ i. cond (c.if-self.false i) (sum_by weight (map (session_of c.add.new.self.users.entries) old.sessions.items)) 0)
+    (λ i. cond (c.if-self.false i) (sum_by weight (map (session_of c.add_seconds.new.sums.users.entries) old.sessions.items)) 0)
     ∙ (λ i. cond (sym c.if-self.false i) (sum_by weight (sessions_in old)) 0 + cond (sym c.if-self.false i) (weight x) 0)
 
 pub returns-then-self-clause-grown : goal.returns-then-self-clause-grown
 returns-then-self-clause-grown c =
     let old = c.args.self.now in
-    let users = c.add.new.self.users.entries in
-    let keys = c.add.ensures.kept in
+    let users = c.add_seconds.new.sums.users.entries in
+    let keys = c.add_seconds.ensures.kept in
     let kept = λ (place : ℕ) (name : List ℕ) (at : slice_get (keys_of old.sums.users.entries) place ≡ Some name). ap (λ ks. slice_get ks place) keys ∙ c.enter-place.ensures.kept place name at in
     let stands : slice_get (keys_of users) c.enter-place.result ≡ Some c.args.user = ap (λ ks. slice_get ks c.enter-place.result) keys ∙ c.enter-place.ensures.entered in
     let len : length users ≡ length c.enter-place.new.self.users.entries = sym (length-keys_of users) ∙ ap length keys ∙ length-keys_of c.enter-place.new.self.users.entries in
     let x : EndedSession = record { user = c.enter-place.result; begin = to_z w32 (of_z w32 c.args.begin); end_time = to_z w32 (of_z w32 c.args.end_time) } in
     let P : EndedSession → Type 0 = λ s. s.user < length users in record {
-      sums = λ who. omega (arith, c.add.ensures.sums c.args.user c.enter-place.ensures.entered who, c.enter-place.ensures.sums who, below (covers who c.args.user) c.seconds_between-seconds.result c.seconds_between-seconds.ensures.fits);
+      sums = λ who. omega (arith, c.add_seconds.ensures.sums c.args.user c.enter-place.ensures.entered who, c.enter-place.ensures.sums who, below (covers who c.args.user) _ c.add_seconds.ensures.few);
       users = omega (arith, c.enter-place.ensures.few, len);
-      spare = omega (arith, c.enter-place.ensures.room, c.add.ensures.room);
+      spare = omega (arith, c.enter-place.ensures.room, c.add_seconds.ensures.room);
       sessions = omega (arith, ap length c.keep.ensures.items, length-append old.sessions.items (x ∷ []));
       capacity = c.keep.ensures.capacity;
       keeps = refl;
@@ -79,13 +77,13 @@ returns-then-self-clause-grown c =
 pub returns-else-self-clause-grown : goal.returns-else-self-clause-grown
 returns-else-self-clause-grown c =
     let old = c.args.self.now in
-    let users = c.add.new.self.users.entries in
-    let keys = c.add.ensures.kept in
+    let users = c.add_seconds.new.sums.users.entries in
+    let keys = c.add_seconds.ensures.kept in
     let kept = λ (place : ℕ) (name : List ℕ) (at : slice_get (keys_of old.sums.users.entries) place ≡ Some name). ap (λ ks. slice_get ks place) keys ∙ c.enter-place.ensures.kept place name at in
     let len : length users ≡ length c.enter-place.new.self.users.entries = sym (length-keys_of users) ∙ ap length keys ∙ length-keys_of c.enter-place.new.self.users.entries in record {
-      sums = λ who. omega (arith, c.add.ensures.sums c.args.user c.enter-place.ensures.entered who, c.enter-place.ensures.sums who, below (covers who c.args.user) c.seconds_between-seconds.result c.seconds_between-seconds.ensures.fits);
+      sums = λ who. omega (arith, c.add_seconds.ensures.sums c.args.user c.enter-place.ensures.entered who, c.enter-place.ensures.sums who, below (covers who c.args.user) _ c.add_seconds.ensures.few);
       users = omega (arith, c.enter-place.ensures.few, len);
-      spare = omega (arith, c.enter-place.ensures.room, c.add.ensures.room);
+      spare = omega (arith, c.enter-place.ensures.room, c.add_seconds.ensures.room);
       sessions = omega arith;
       capacity = refl;
       keeps = refl;
