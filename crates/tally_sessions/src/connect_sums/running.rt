@@ -21,7 +21,6 @@ use crate::connect::name_key::NameKey;
 use crate::connect_sums::ended::Ended;
 use crate::connect_sums::slot::Slot;
 use crate::sessions::ENTRY_LIMIT;
-use crate::sums::add_for;
 use crate::track::name_table::NameTable;
 use crate::track::rules::{pending_after, shift_of};
 use std::alloc::Global;
@@ -192,9 +191,7 @@ impl Running {
         let time = until.unwrap_or(self.last);
         self.ended.sums.add_to(sums)?;
         for k in 0..self.slots.len() {
-            let slot = &self.slots[k];
-            let seconds = slot.seconds_of(&None, self.clock, time);
-            add_for(sums, &slot.user.name(), seconds)?;
+            self.slots[k].add_seconds_to(sums, self.clock, time)?;
         }
         Ok(())
     }

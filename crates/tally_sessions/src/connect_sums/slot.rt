@@ -1,14 +1,19 @@
 //! The latest session on a line.
-ghost use Rattle.std.specs.Prelude.{◌≡◌, ◌≤◌, ◌-◌, ◌*◌, ◌≤ℤ◌, ◌+ℤ◌, ◌-ℤ◌, ◌^◌, neg_ℤ, pos, true};
+ghost use Rattle.std.specs.Prelude.{◌≡◌, ◌≤◌, ◌<◌, ◌+◌, ◌-◌, ◌*◌, ◌≤ℤ◌, ◌+ℤ◌, ◌-ℤ◌, ◌^◌, ℕ, List as Items, None, OnOk, if◌then◌else◌, neg_ℤ, pos, true};
+ghost use Rattle.std.specs.Cmp.Lexicographic.{slice_cmp};
+ghost use Rattle.std.specs.Ordering.{is_eq, nat_cmp};
 ghost use Rattle.tally_sessions.specs.Opens.{seconds_at};
 ghost use Rattle.tally_sessions.specs.Stays.{clamped};
 ghost use Rattle.tally_sessions.specs.inside.Slots.{length_of, one, weight_at};
+ghost use Rattle.tally_sessions.specs.inside.Sums.{sum_at};
 ghost use Rattle.tally_sessions.specs.inside.Track.{IsWithin};
 
+use crate::connect::name_key::NameKey;
 use crate::sessions::ENTRY_LIMIT;
-use crate::sums::Session;
+use crate::sums::{Session, add_for};
 use crate::track::rules::{begin_of, seconds_between};
-use tally_records::Key;
+use std::collections::BTreeMap;
+use tally_records::{Key, Memory};
 
 /// The latest session on a line.
 #[derive(Clone, Copy)]
@@ -76,5 +81,24 @@ impl Slot {
         } else {
             0
         }
+    }
+
+    /// Adds the seconds of the session up to a time, where it is open, to the sum of its user.
+    pub(crate) fn add_seconds_to(
+        &self,
+        sums: &mut BTreeMap<NameKey, u64>,
+        clock: i64,
+        time: i32,
+    ) -> Result<(), Memory>
+        requires now { IsWithin ENTRY_LIMIT clock }
+        requires then { self.now.is_open ≡ true → IsWithin ENTRY_LIMIT self.now.clock_at }
+        requires room { sum_at (slice_cmp nat_cmp) sums.old.entries self.now.user + (2 ^ 32 - 1) * weight_at one self.now < 2 ^ 64 }
+        ensures value { OnOk result ((user : Items ℕ) → sum_at (slice_cmp nat_cmp) sums.new.entries user
+            ≡ sum_at (slice_cmp nat_cmp) sums.old.entries user + (if is_eq (slice_cmp nat_cmp self.now.user user) then weight_at (seconds_at None clock time) self.now else 0)) }
+        ensures small { weight_at (seconds_at None clock time) self.now ≤ (2 ^ 32 - 1) * weight_at one self.now }
+    {
+        let seconds = self.seconds_of(&None, clock, time);
+        add_for(sums, &self.user.name(), seconds)?;
+        Ok(())
     }
 }

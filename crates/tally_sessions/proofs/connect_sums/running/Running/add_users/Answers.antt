@@ -6,7 +6,6 @@ use Rattle.std.specs.Cmp.Lexicographic.{slice_cmp}
 use Rattle.std.specs.Int.{w32, w64}
 use Rattle.std.specs.Ordering.{is_eq, nat_cmp}
 use Rattle.std.specs.Prelude.{FitsSigned}
-use Rattle.tally_sessions.specs.declared.connect_sums.slot.Slot.{Slot}
 use Rattle.tally_sessions.specs.Opens.{seconds_at}
 use Rattle.tally_sessions.specs.inside.Slots.{no_slot, one, open_count, slot_at, weight_at, weight_in}
 use Rattle.tally_sessions.specs.inside.Sums.{sum_at}
@@ -19,47 +18,45 @@ at_most : (b : Bool) (n : ℕ) → cond b n 0 ≤ n
 at_most true n = omega arith
 at_most false n = omega arith
 
-pub add_for-requires : goal.add_for-requires
-add_for-requires c =
+pub add_seconds_to-requires-clause-room : goal.add_seconds_to-requires-clause-room
+add_seconds_to-requires-clause-room c =
     let slots = c.args.self.now.slots in
     let k = c.loop-k.k in
+    let slot = c.index.result.now in
     let within : k < length slots.items = omega (arith, c.loop-k-test.true, c.len-k-end.ensures, slots.ok.0) in
-    let here : slot_at slots.items k ≡ c.index-slot.result.now = get_or_default slots.items k no_slot c.index-slot.result.now within ∙ sym c.index-slot.ensures in
-    let name = c.name.result in
+    let here : slot_at slots.items k ≡ slot = get_or_default slots.items k no_slot slot within ∙ sym c.index.ensures in
     omega (
       arith,
-      c.loop-k.invariant.small name,
-      c.seconds_of-seconds.ensures.small,
+      c.loop-k.invariant.small slot.user,
       ap (weight_at one) here,
       sum_by_more (weight_at one) slots.items k no_slot within,
       sum_by-take-le (weight_at one) slots.items (k + 1),
-      c.requires.running.fits (Some name),
+      c.requires.running.fits (Some slot.user),
       c.requires.few,
-      c.requires.room name,
+      c.requires.room slot.user,
     )
 
 pub loop-k-preserved : goal.loop-k-preserved
 loop-k-preserved c =
     let slots = c.args.self.now.slots in
     let k = c.loop-k.k in
+    let slot = c.index.result.now in
     let within : k < length slots.items = omega (arith, c.loop-k-test.true, c.len-k-end.ensures, slots.ok.0) in
-    let here : slot_at slots.items k ≡ c.index-slot.result.now = get_or_default slots.items k no_slot c.index-slot.result.now within ∙ sym c.index-slot.ensures in
+    let here : slot_at slots.items k ≡ slot = get_or_default slots.items k no_slot slot within ∙ sym c.index.ensures in
     let clock_fits : FitsSigned w64 c.args.self.now.clock = search rules in
     let clock = to_z-of_z w64 c.args.self.now.clock clock_fits in
     let time : ℤ = to_z w32 (of_z w32 c.unwrap_or-time.result) in
-    let seconds = c.seconds_of-seconds.ensures.value ∙ (λ i. weight_at (seconds_at None (clock i) time) (sym here i)) in
-    let user = c.name.ensures ∙ ap (λ (s : Slot). s.user) (sym here) in
     record {
       value = λ who.
-          let added = c.in_ok-add_for.ensures who ∙ (λ i. sum_at (slice_cmp nat_cmp) c.loop-k.sums.entries who + cond (is_eq (slice_cmp nat_cmp (user i) who)) (seconds i) 0) in
+          let added = c.in_ok-add_seconds_to.ensures.value who ∙ (λ i. sum_at (slice_cmp nat_cmp) c.loop-k.sums.entries who + cond (is_eq (slice_cmp nat_cmp (sym here i).user who)) (weight_at (seconds_at None (clock i) time) (sym here i)) 0) in
           let own = own-seconds c.args.self.now.clock time (slot_at slots.items k) who in
           omega (arith, added, own, c.loop-k.invariant.value who, sum_by_more (weight_at (seconds_at (Some who) c.args.self.now.clock time)) slots.items k no_slot within);
       small = λ who.
           omega (
             arith,
-            c.in_ok-add_for.ensures who,
-            at_most (is_eq (slice_cmp nat_cmp c.name.result who)) c.seconds_of-seconds.result,
-            c.seconds_of-seconds.ensures.small,
+            c.in_ok-add_seconds_to.ensures.value who,
+            at_most (is_eq (slice_cmp nat_cmp slot.user who)) (weight_at (seconds_at None (to_z w64 (of_z w64 c.args.self.now.clock)) time) slot),
+            c.add_seconds_to.ensures.small,
             ap (weight_at one) here,
             c.loop-k.invariant.small who,
             sum_by_more (weight_at one) slots.items k no_slot within,
