@@ -1,6 +1,6 @@
 -- Passes that know no less.
-use Rattle.std.proofs.Common.{◌≤◌, ◌∙◌, ℕ, refl, arith}
-use Rattle.tally_desk.specs.Passes.{Keeps, PassState, told_pass}
+use Rattle.std.proofs.Common.{◌≡◌, ◌≤◌, ◌⊎◌, ◌∙◌, ℕ, inl, inr, refl, subst, sym, arith}
+use Rattle.tally_desk.specs.Passes.{IsCurrent, Keeps, PassState, told_pass}
 use Rattle.tally_desk.proofs.Histories.{follows_self, follows_trans}
 
 pub keeps_same : (p : PassState) → Keeps p p
@@ -30,3 +30,9 @@ keeps_told p q calls kept more = record {
   legal = kept.legal;
   told = omega (arith, kept.told, more);
 }
+
+-- a pass that is as it was, or current, after two steps that leave it so
+pub still_current : (p q r : PassState) → (q ≡ p) ⊎ IsCurrent q → (r ≡ q) ⊎ IsCurrent r → (r ≡ p) ⊎ IsCurrent r
+still_current p q r (inl same) (inl still) = inl (still ∙ same)
+still_current p q r (inr current) (inl still) = inr (subst IsCurrent (sym still) current)
+still_current p q r first (inr current) = inr current
