@@ -156,7 +156,7 @@ impl TicketLock {
         ensures table { seat.new.table_id ≡ seat.old.table_id }
         ensures told { (k : Known) → seat.old.me ≡ idle k → (k.told ≤ result) × (seat.new.me ≡ idle (told_of result k)) }
     {
-        self.table.shared.load::<Tell>(seat, CALLS)
+        self.read_word::<Tell>(seat, CALLS)
     }
 
     /// Posts in the seat's turn.

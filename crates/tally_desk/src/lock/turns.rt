@@ -54,6 +54,18 @@ impl TicketLock {
         self.table.shared.fetch_add::<M>(seat, word, 1)
     }
 
+    /// Reads a word, as a step of this kind.
+    pub fn read_word<M: Play<Book, View>>(&self, seat: &mut Seat, word: usize) -> u64
+        requires table { seat.old.table_id ≡ self.now.table.shared.table_id }
+        requires word { word < self.now.table.shared.table_id.words }
+        requires allowed { Allows (Orderly self.now.table.shared.key.callers) self.now.table.shared.table_id.slots seat.old.id seat.old.me word
+            (λ n. n) (M.then (step self.now.table.shared.table_id.slots word 0 0 none) seat.old.me) }
+        ensures table { seat.new.table_id ≡ seat.old.table_id }
+        ensures then { M.then (step self.now.table.shared.table_id.slots word 0 0 none) seat.old.me result seat.new.me }
+    {
+        self.table.shared.load::<M>(seat, word)
+    }
+
     /// Draws a ticket.
     fn draw(&self, seat: &mut Seat) -> u64
         requires table { seat.old.table_id ≡ self.now.table.shared.table_id }
@@ -71,7 +83,7 @@ impl TicketLock {
         ensures table { seat.new.table_id ≡ seat.old.table_id }
         ensures turn { (k : Known) (drawn : ℕ) → ticket ≡ drawn % 2 ^ 64 → seat.old.me ≡ waiting k drawn → MatchBool (result == ticket) ((book : Contents) × (seat.new.me ≡ turn k drawn book book) × IsLegal book × Fits book k) (seat.new.me ≡ seat.old.me) }
     {
-        self.table.shared.load::<Look>(seat, SERVING)
+        self.read_word::<Look>(seat, SERVING)
     }
 
     /// Looks how many turns are before that of the ticket, and for a short while looks on where it
