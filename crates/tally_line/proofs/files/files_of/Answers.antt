@@ -1,4 +1,4 @@
-use Rattle.std.proofs.Common.{[], rules}
+use Rattle.std.proofs.Common.{[]}
 use Rattle.std.proofs.lemmas.Result.{err_from_is_err_and}
 use Rattle.tally_line.proofs.FileLemmas.{names_more, word_fault}
 use Rattle.tally_line.proofs.files.files_of.Goals as goal

@@ -1,4 +1,4 @@
-use Rattle.std.proofs.Common.{◌≡◌, ◌∷◌, ◌+◌, ◌++◌, ◌<◌, ◌∙◌, ℕ, zero, suc, true, false, List, [], All, ap, arith, get_or, length, subst, sym}
+use Rattle.std.proofs.Common.{◌≡◌, ◌∷◌, ◌+◌, ◌++◌, ◌<◌, ◌∙◌, ℕ, zero, suc, true, List, [], All, ap, arith, get_or, length, subst, sym}
 use Rattle.std.proofs.lemmas.List.{get_or-map, length-map, take_all}
 use Rattle.tally_records.specs.PackedProc.{record_of, unpacked}
 use Rattle.tally_records.specs.ProcRecord.{IsBounded}
