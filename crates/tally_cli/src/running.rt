@@ -179,6 +179,7 @@ pub fn read_all<R: Threads + Wait + Sync, I: Input + Send, G: Gate + Sync>(
     ensures legal { IfOk result IsLegal }
     ensures callers { IfOk result (λ b. b.callers ≡ length sources.items + job.now.askers) }
     ensures clock { IfOk result (λ b. b.clock ≡ clock.now) }
+    ensures room { IfOk result (λ b. b.room ≡ room_of job.now) }
     ensures calls { IfOk result (λ b. length b.calls ≤ most_calls) }
     ensures refused { IsWrongNumber (length sources.items + job.now.askers)
         → result ≡ Err (callers_fault (length sources.items + job.now.askers)) }

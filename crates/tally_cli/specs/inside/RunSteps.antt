@@ -1,6 +1,6 @@
 -- What each step of a run knows.
-use Rattle.std.specs.Prelude.{◌≢◌, ℕ, Bool, List, Option, ⊤}
-use Rattle.std.specs.List.{All}
+use Rattle.std.specs.Prelude.{ℕ, Bool, false, true, List, Option, ⊤}
+use Rattle.std.specs.List.{All, list_any}
 use Rattle.tally_book.specs.Contents.{Contents}
 use Rattle.tally_desk.specs.Passes.{HasDone, PassState, Stands}
 use Rattle.tally_line.specs.declared.job.Report.{Report}
@@ -28,11 +28,16 @@ fault_from_cause caller (cause.Ask fault) = Asker caller fault
 abbrev pub run_fault : Failure → RunFault
 run_fault failure = fault_from_cause failure.caller failure.cause
 
--- a report of files of these kinds has stays
-abbrev pub HasStays : Report → List Kind → Type 0
-HasStays (report.Last limit choice within) kinds = ⊤
-HasStays report.All kinds = ¬ All (λ kind. kind ≢ Login) kinds
-HasStays r kinds = ⊥
+-- whether records are logins
+abbrev pub is_login : Kind → Bool
+is_login Login = true
+is_login kind = false
+
+-- whether a report of files of these kinds has stays
+abbrev pub has_stays : Report → List Kind → Bool
+has_stays (report.Last limit choice within) kinds = true
+has_stays report.All kinds = list_any is_login kinds
+has_stays r kinds = false
 
 -- no source is at fault, and no asker
 abbrev pub IsPrintFault : RunFault → Type 0

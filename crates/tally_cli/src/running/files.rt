@@ -1,5 +1,5 @@
 //! Files that are dealt to feeders by turns, and what the count of each came to.
-ghost use Rattle.std.specs.Prelude.{◌≡◌, ◌≢◌, ◌<◌, ◌≤◌, ℕ, IfOk, length, map};
+ghost use Rattle.std.specs.Prelude.{◌≡◌, ◌≢◌, ◌<◌, ◌≤◌, ◌/◌, ◌%◌, ℕ, IfOk, length, map};
 ghost use Rattle.std.specs.List.{All};
 ghost use Rattle.tally_cli.specs.Runs.{IsReadable};
 ghost use Rattle.tally_cli.specs.inside.Files.{AreDealt, IsPlaced, IsUncounted, count_in};
@@ -25,6 +25,22 @@ pub(crate) struct FileCount<I, S, F> {
     pub(crate) count: Count<S, F>,
 }
 
+/// The feeder of the file with a number.
+fn feeder_of(host: usize, feeders: usize) -> usize
+    requires { 0 < feeders }
+    ensures { result ≡ host % feeders }
+{
+    host % feeders
+}
+
+/// The place of the file with a number among those of its feeder.
+fn place_of(host: usize, feeders: usize) -> usize
+    requires { 0 < feeders }
+    ensures { result ≡ host / feeders }
+{
+    host / feeders
+}
+
 /// Deals the files to so many feeders by turns, in their order.
 pub(crate) fn deal<I: Input, S: Drop, F: Drop>(
     alloc: Global,
@@ -45,7 +61,7 @@ pub(crate) fn deal<I: Input, S: Drop, F: Drop>(
             source: sources.remove(0),
             count: Count::Untried,
         };
-        lists[host % feeders].push(file)?;
+        lists[feeder_of(host, feeders)].push(file)?;
     }
     Ok(lists)
 }
@@ -64,6 +80,7 @@ pub(crate) fn take_count<I: Drop, S: Drop, F: Drop>(
     ensures placed { (k : ℕ) → IsPlaced feeders (map (λ v. v.items) lists.old.items) k → IsPlaced feeders (map (λ v. v.items) lists.new.items) k }
     ensures all { length lists.new.items ≡ feeders }
 {
-    let file = &mut lists[host % feeders][host / feeders];
+    let files = &mut lists[feeder_of(host, feeders)];
+    let file = &mut files[place_of(host, feeders)];
     mem::replace(&mut file.count, Count::Untried)
 }

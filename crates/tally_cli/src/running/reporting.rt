@@ -1,12 +1,13 @@
 //! The job's report on the closed book, printed.
-ghost use Rattle.std.specs.Prelude.{◌≡◌, ◌<◌, ◌≤◌, ◌↔◌, [], IfErr, IfOk, IsTrue, OnOk, length, map};
-ghost use Rattle.std.specs.List.{All};
+ghost use Rattle.std.specs.Prelude.{◌≡◌, ◌<◌, ◌≤◌, [], IfErr, IfOk, OnOk, length, map};
+ghost use Rattle.std.specs.List.{All, list_any};
 ghost use Rattle.tally_book.specs.Answers.{HasDays, answer_of};
 ghost use Rattle.tally_cli.specs.Apart.{apart_of, apart_text};
 ghost use Rattle.tally_cli.specs.Output.{form_text, questions_of, report_text};
 ghost use Rattle.tally_cli.specs.Runs.{failed_writes};
 ghost use Rattle.tally_cli.specs.Reading.{most_calls};
-ghost use Rattle.tally_cli.specs.inside.RunSteps.{HasStays, IsPrintFault};
+ghost use Rattle.tally_cli.specs.inside.RunSteps as steps;
+ghost use Rattle.tally_cli.specs.inside.RunSteps.{IsPrintFault};
 ghost use Rattle.tally_line.specs.Jobs.{IsRunnable};
 ghost use Rattle.tally_line.specs.declared.job.Report.TheVariants as reports;
 ghost use Rattle.tally_print.specs.Output.{IsWritable, Prints, failed_calls};
@@ -43,13 +44,25 @@ fn count_for<R: Threads + Sync>(
     }
 }
 
+fn is_login(kind: &Kind) -> bool
+    ensures { result ≡ steps.is_login kind.now }
+{
+    *kind == Kind::Login
+}
+
+fn has_logins(kinds: &[Kind]) -> bool
+    ensures { result ≡ list_any steps.is_login kinds.now }
+{
+    kinds.iter().any(|kind| is_login(kind))
+}
+
 /// Whether a report of files of these kinds has stays.
 fn has_stays(report: &Report, kinds: &[Kind]) -> bool
-    ensures { IsTrue result ↔ HasStays report.now kinds.now }
+    ensures { result ≡ steps.has_stays report.now kinds.now }
 {
     match report {
         Report::Last { .. } => true,
-        Report::All => !kinds.iter().all(|kind| *kind != Kind::Login),
+        Report::All => has_logins(kinds),
         Report::Attempts { .. }
         | Report::AttemptSums { .. }
         | Report::Connect { .. }

@@ -13,8 +13,11 @@ ghost use Rattle.tally_line.specs.Jobs.{IsRunnable};
 ghost use Rattle.tally_print.specs.Output.{IsWritable, Prints};
 ghost use Rattle.tally_sessions.specs.Days.{IsOffset};
 ghost use Rattle.tally_sessions.specs.declared.entry.Entry.{Entry};
-ghost use Rattle.tally_usage.specs.Sums.{AreSumsOf};
+ghost use Rattle.tally_usage.specs.Command.{command_rows};
+ghost use Rattle.tally_usage.specs.Sums.{AreSumsOf, IsAbout};
 ghost use Rattle.tally_usage.specs.Totals.{records_of};
+ghost use Rattle.tally_usage.specs.Usage.{usage_of};
+ghost use Rattle.tally_usage.specs.User.{user_rows};
 ghost use Rattle.tally_usage.specs.declared.entry.ProcEntry.{ProcEntry};
 
 use crate::fault::{RunFault, UsageFault};
@@ -34,7 +37,7 @@ use tally_line::{Form, Job, Report};
 use tally_print::{Output, print_file_header};
 use tally_records::{Kind, Memory};
 use tally_sessions::HOST_LIMIT;
-use tally_usage::{Sums, UserNames};
+use tally_usage::{Order, Sums, UserNames};
 
 /// Refuses a number of callers, a source or an asker each, as `run` does.
 fn refuse_callers(sources: usize, askers: u32) -> Result<(), UsageFault>
@@ -51,6 +54,34 @@ fn refuse_callers(sources: usize, askers: u32) -> Result<(), UsageFault>
     }
 }
 
+/// The rows by command of what was summed, and the total.
+fn commands_of(
+    alloc: Global,
+    sums: &Sums,
+    order: Order,
+    reverse: bool,
+    all: bool,
+) -> Result<Answer, Memory>
+    ensures value { IfOk result (IsAbout sums.now (λ rs. Answer.Commands (command_rows order all reverse rs) (usage_of rs))) }
+    ensures days { IfOk result HasDays }
+{
+    Ok(Answer::Commands {
+        rows: sums.by_command(alloc, order, all, reverse)?,
+        total: sums.total(),
+    })
+}
+
+/// The rows by user of what was summed, and the total.
+fn users_of(alloc: Global, sums: &Sums, order: Order, reverse: bool) -> Result<Answer, Memory>
+    ensures value { IfOk result (IsAbout sums.now (λ rs. Answer.Users (user_rows order reverse rs) (usage_of rs))) }
+    ensures days { IfOk result HasDays }
+{
+    Ok(Answer::Users {
+        rows: sums.by_user(alloc, order, reverse)?,
+        total: sums.total(),
+    })
+}
+
 /// The answer to the question of a report on processes.
 pub(crate) fn answer_of_sums(alloc: Global, report: &Report, sums: &Sums) -> Result<Answer, Memory>
     requires usage { IsUsage report.now }
@@ -62,14 +93,8 @@ pub(crate) fn answer_of_sums(alloc: Global, report: &Report, sums: &Sums) -> Res
             order,
             reverse,
             all,
-        } => Ok(Answer::Commands {
-            rows: sums.by_command(alloc, *order, *all, *reverse)?,
-            total: sums.total(),
-        }),
-        Report::Users { order, reverse } => Ok(Answer::Users {
-            rows: sums.by_user(alloc, *order, *reverse)?,
-            total: sums.total(),
-        }),
+        } => commands_of(alloc, sums, *order, *reverse, *all),
+        Report::Users { order, reverse } => users_of(alloc, sums, *order, *reverse),
         _ => unreachable!(),
     }
 }

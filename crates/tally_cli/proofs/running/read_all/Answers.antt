@@ -49,6 +49,15 @@ returns-in-None-clause-clock g c =
     let first = are_first _ _ _ opened.1 in
     same_clock ended (omega (arith, book.callers, opened.0, c.in_ok-callers.ensures.count, c.in_ok-callers.ensures.some)) ∙ ap (λ (p : PassState). p.seen.clock) (first.each 0 _ (omega (arith, first.count, opened.0, c.in_ok-callers.ensures.count, c.in_ok-callers.ensures.some)))
 
+pub returns-in-None-clause-room : goal.returns-in-None-clause-room
+returns-in-None-clause-room g c =
+    let opened = c.in_ok-desk.ensures.opened in
+    let book = c.in_ok-book.ensures in
+    let ended = ended_of c.in_ok-desk.desk.id c.args.clock.now _ _ c.in_ok-desk.passes.items opened.1 (book.callers ∙ opened.0) (omega (arith, c.in_ok-callers.ensures.count)) book.legal (c.entries_are_posts.ensures c.in_ok-book.book book.legal) book.worked in
+    let first = are_first _ _ _ opened.1 in
+    let near : 0 < length c.in_ok-desk.passes.items = omega (arith, first.count, opened.0, c.in_ok-callers.ensures.count, c.in_ok-callers.ensures.some) in
+    room_at ended 0 near ∙ ap (λ (p : PassState). p.seen.room) (first.each 0 _ near) ∙ c.room_for.ensures
+
 pub returns-in-None-clause-calls : goal.returns-in-None-clause-calls
 returns-in-None-clause-calls g c =
     let opened = c.in_ok-desk.ensures.opened in
@@ -73,6 +82,7 @@ returns-in-Some g c =
       legal = tt;
       callers = tt;
       clock = tt;
+      room = tt;
       calls = tt;
       refused = λ wrong. absurd (⊎_elim (λ none. omega (arith, none, c.in_ok-callers.ensures.some)) (λ many. omega (arith, many, c.in_ok-callers.ensures.few)) wrong);
       cause = λ inputs tell. subst (IsReadCause _ inputs) (sym value) (subst (λ room. IsReadCause room inputs (run_fault failure)) room (cause_is ended failure is inputs tell));

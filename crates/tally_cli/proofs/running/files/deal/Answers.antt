@@ -1,4 +1,4 @@
-use Rattle.std.proofs.Common.{◌≡◌, [], ◌+◌, ◌<◌, ◌≤◌, Some, length, map, get_or, sym, refl, ap, ◌∙◌, subst, arith, ◌%◌, ⊎_elim}
+use Rattle.std.proofs.Common.{◌≡◌, [], ◌∷◌, ◌++◌, ◌+◌, ◌<◌, ◌≤◌, Some, length, map, set, get_or, sym, refl, ap, ◌∙◌, subst, arith, ◌%◌, ⊎_elim}
 use Rattle.std.proofs.Math.Nat.{mod-lt}
 use Rattle.std.proofs.lemmas.Bool.{cases_lt}
 use Rattle.std.proofs.lemmas.List.{get_or-drop, get_or_default, length-map, length-set}
@@ -37,9 +37,12 @@ loop-host-preserved g c =
     let source : Source g.row.I.Denot = c.remove.result in
     let file : FileCount g.row.I.Denot g.row.S.Denot g.row.F.Denot = record { source = source; count = count.Untried } in
     let inside : host < length sources = omega (arith, c.loop-host-test.true, c.len-files.ensures, c.args.sources.ok.0) in
-    let near : host % n < length lists = omega (arith, mod-lt host {m = n} some, inv.width) in
+    let at = c.feeder_of.result in
+    let at_is : at ≡ host % n = c.feeder_of.ensures in
+    let near : at < length lists = omega (arith, mod-lt host {m = n} some, inv.width, at_is) in
     let width : length all ≡ n = length-map lists (λ v. v.items) ∙ inv.width in
-    let e = pushed (λ v. v.items) lists (host % n) c.index_mut.result.now c.push.new.self file near c.index_mut.ensures.value c.in_ok-push.ensures.items in
+    let e = pushed (λ v. v.items) lists at c.index_mut.result.now c.push.new.self file near c.index_mut.ensures.value c.in_ok-push.ensures.items
+    ∙ ap (λ w. set all w (get_or all w [] ++ file ∷ [])) at_is in
     let same_place : host + 0 ≡ host = omega arith in
     let source_is : (s : Source g.row.I.Denot) → source ≡ get_or sources host s =
     λ s. c.remove.ensures.value ∙ (ap (λ l. get_or l 0 source) inv.sources ∙ (get_or-drop host sources 0 source ∙ (ap (λ k. get_or sources k source) same_place ∙ get_or_default sources host source s inside))) in
@@ -48,10 +51,10 @@ loop-host-preserved g c =
       readable = subst (IsReadable failures) (sym (source_is source)) (All-get_or (IsReadable failures) sources host source inside c.requires.readable);
       untried = refl;
     } in
-    let own = subst (λ v. All (IsUncounted failures) v.items) (sym c.index_mut.ensures.value) (All-get_or (λ v. All (IsUncounted failures) v.items) lists (host % n) c.index_mut.result.now near inv.uncounted) in
+    let own = subst (λ v. All (IsUncounted failures) v.items) (sym c.index_mut.ensures.value) (All-get_or (λ v. All (IsUncounted failures) v.items) lists at c.index_mut.result.now near inv.uncounted) in
     record {
       sources = c.remove.ensures.items ∙ (ap (λ l. remove l 0) inv.sources ∙ removed sources host);
-      width = length-set lists (host % n) c.push.new.self ∙ inv.width;
+      width = length-set lists at c.push.new.self ∙ inv.width;
       long = subst (AreLong n (host + 1)) (sym e) (long_dealt n some all host file width inv.long);
       dealt = λ k s l. subst (λ xss. file_in n xss k ≡ Some (untried (get_or sources k s))) (sym e) (⊎_elim
           (λ (less : k < host). still_dealt n some all host file width inv.long k (untried (get_or sources k s)) (inv.dealt k s less))
@@ -59,6 +62,6 @@ loop-host-preserved g c =
           let same : k ≡ host = omega (arith, l, not_less) in
           subst (λ m. file_in n (dealt n some all host file width inv.long) m ≡ Some (untried (get_or sources m s))) (sym same) (next_dealt n some all host file width inv.long ∙ ap Some (file_is s)))
           (cases_lt k host));
-      uncounted = All-set (λ v. All (IsUncounted failures) v.items) lists (host % n) c.push.new.self
+      uncounted = All-set (λ v. All (IsUncounted failures) v.items) lists at c.push.new.self
           (subst (All (IsUncounted failures)) (sym c.in_ok-push.ensures.items) (All-push (IsUncounted failures) c.index_mut.result.now.items file own new)) inv.uncounted;
     }
