@@ -15,7 +15,7 @@ use std::process::ExitCode;
 use std::rt::Files;
 use tally_cli::{FileArg, FilesApart, FilesAsked, Job};
 use tally_clock::Clock;
-use tally_line::{Times, UsageAsked, settle, settle_choice};
+use tally_line::{Times, TimesFault, UsageAsked, settle, settle_choice};
 use tally_records::Memory;
 use tally_terminal::{ErrorsTo, Shown};
 use tally_usage::{ProcChoice, UserNames};
@@ -52,6 +52,16 @@ where
     }
 }
 
+/// The job with the seconds of the command line's moments, or what is wrong with them.
+fn settled(asked: Asked<'_>, clock: &Clock) -> Result<Job, TimesFault>
+    requires runnable { IsRunnable asked.job.now }
+    requires until { TakesUntil asked.job.now.report asked.times.now.until }
+    ensures value { Settles (local clock.now asked.entry.job.now.offset) asked.entry.now asked.entry.times.now asked.entry.job.now result }
+    ensures runnable { IfOk result IsRunnable }
+{
+    settle(asked.job, asked.times, clock, asked.now)
+}
+
 /// The job of the command line with the seconds of its moments.
 pub(crate) fn job_for<R: Eprint>(rt: &R, asked: Asked<'_>, clock: &Clock) -> Result<Job, ExitCode>
     requires runnable { IsRunnable asked.job.now }
@@ -61,7 +71,7 @@ pub(crate) fn job_for<R: Eprint>(rt: &R, asked: Asked<'_>, clock: &Clock) -> Res
     ensures status { IfErr result (λ status. exit_status status ≡ 2) }
     ensures refused { IfErr result (λ _. (found : TimesFault) × Settles (local clock.now asked.entry.job.now.offset) asked.entry.now asked.entry.times.now asked.entry.job.now (Err found)) }
 {
-    match settle(asked.job, asked.times, clock, asked.now) {
+    match settled(asked, clock) {
         Ok(job) => Ok(job),
         Err(found) => Err(times_fault(rt, found)),
     }
@@ -113,6 +123,15 @@ pub(crate) fn files_apart<'a>(asked: Asked<'a>) -> FilesApart<'a>
     }
 }
 
+/// The users and the period that the command line chooses processes by, or what is wrong with its moments.
+fn settled_choice(asked: Asked<'_>, clock: &Clock) -> Result<ProcChoice, TimesFault>
+    ensures { SettlesChoice (local clock.now asked.entry.job.now.offset) asked.entry.now asked.entry.times.now asked.entry.usage.now.uids result }
+{
+    let uids = asked.usage.uids;
+    let minutes = asked.job.offset;
+    settle_choice(uids, asked.times, clock, minutes, asked.now)
+}
+
 /// The processes that the command line chooses.
 pub(crate) fn choice_for<R: Eprint>(
     rt: &R,
@@ -123,9 +142,7 @@ pub(crate) fn choice_for<R: Eprint>(
     ensures status { IfErr result (λ status. exit_status status ≡ 2) }
     ensures refused { IfErr result (λ _. (found : TimesFault) × SettlesChoice (local clock.now asked.entry.job.now.offset) asked.entry.now asked.entry.times.now asked.entry.usage.now.uids (Err found)) }
 {
-    let uids = asked.usage.uids;
-    let minutes = asked.job.offset;
-    match settle_choice(uids, asked.times, clock, minutes, asked.now) {
+    match settled_choice(asked, clock) {
         Ok(choice) => Ok(choice),
         Err(found) => Err(times_fault(rt, found)),
     }

@@ -1,21 +1,28 @@
 //! Files that are looked at again, for a hint on a terminal.
-ghost use Rattle.std.specs.Prelude.{◌≡◌, IfSome, take};
+ghost use Rattle.std.specs.Prelude.{◌≡◌, IfOk, IfSome, take};
 ghost use Rattle.tally_kinds.specs.Kinds.{looks_of};
 
 use crate::limited::read_up_to;
 use crate::opened::STANDARD_INPUT;
 use std::alloc::Global;
 use std::fs;
-use std::io::{ErrorKind, Read};
+use std::io::{self, ErrorKind, Read};
 use std::rt::Files;
 use tally_kinds::{FRONT_SIZE, Looks, looks_like};
 use tally_terminal::About;
+
+/// As much of a file as shows what it looks like.
+fn front<F: Read + Drop>(alloc: Global, file: F) -> io::Result<Vec<u8>>
+    ensures { IfOk result (λ bytes. IfSome (F.remaining file) (λ all. bytes.items ≡ take FRONT_SIZE all)) }
+{
+    read_up_to(alloc, file, FRONT_SIZE as u64)
+}
 
 /// What the file that a reader has left looks like, where its first bytes can be read.
 fn look_at<F: Read + Drop>(alloc: Global, file: F, size: u64) -> Option<Looks>
     ensures { IfSome result (λ looks. IfSome (F.remaining file) (λ all. looks ≡ looks_of (take FRONT_SIZE all) size)) }
 {
-    match read_up_to(alloc, file, FRONT_SIZE as u64) {
+    match front(alloc, file) {
         Ok(front) => Some(looks_like(front.as_slice(), size)),
         Err(_) => None,
     }
