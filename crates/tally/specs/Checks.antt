@@ -1,7 +1,7 @@
 -- What a check prints.
 use Rattle.std.specs.Prelude.{◌≡◌, ℕ, ℤ, Bool, List, [], ◌∷◌, ◌++◌, None, Some, codes, nat_lt, if◌then◌else◌, string_bytes, ⊤}
-use Rattle.tally.specs.declared.checked.Records.{Records}
-use Rattle.tally.specs.declared.checked.Records.TheVariants.{Own, Made, NotMade}
+use Rattle.tally.specs.declared.checking.Records.{Records}
+use Rattle.tally.specs.declared.checking.Records.TheVariants.{Own, Made, NotMade}
 use Rattle.tally_check.specs.declared.findings.Findings.{Findings}
 use Rattle.tally_check_text.specs.CheckTable.{check_header, check_row}
 use Rattle.tally_check_text.specs.SectionText.{section_text}

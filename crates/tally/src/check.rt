@@ -1,27 +1,27 @@
 //! The check of files before a report of them is believed.
-ghost use Rattle.std.specs.Prelude.{◌≡◌, ◌≤◌, ◌++◌, IfErr, OnOk, if◌then◌else◌};
+ghost use Rattle.std.specs.Prelude.{◌≡◌, ◌≤◌, IfErr, if◌then◌else◌};
 ghost use Rattle.std.specs.Process.{exit_status};
-ghost use Rattle.tally.specs.Checks.{gap_text, head_text, with_found};
-ghost use Rattle.tally_sessions.specs.Days.{IsOffset, local};
+ghost use Rattle.tally_sessions.specs.Days.{IsOffset};
 
 use crate::asked::clock_for;
-use crate::checked::{NotChecked, check_path};
+use crate::checked::check_path;
+use crate::checking::NotChecked;
 use crate::faults::{FAULT, fault, file_fault, not_opened};
+use crate::found::{push_found, push_head};
 use crate::hints::{hint_unread, hinted_not_opened};
 use crate::opened::{ROOT, hold_closed_streams};
-use std::alloc::AllocError;
 use std::hash::RandomState;
 use std::io;
 use std::os::fd::AsRawFd;
 use std::process::ExitCode;
 use std::random::RandomSource;
 use std::rt::{Clock as MachineClock, Files};
-use tally_check::{CheckFault, Findings};
-use tally_check_text::{Origin, print_text, push_header, push_row, push_section};
+use tally_check::CheckFault;
+use tally_check_text::print_text;
 use tally_cli::RunFault;
 use tally_clock::Clock;
-use tally_line::{Check, Form};
-use tally_print::{FileColumns, Writing};
+use tally_line::Check;
+use tally_print::Writing;
 use tally_records::Memory;
 use tally_terminal::{ErrorsTo, Progress, Shown, Watched};
 
@@ -44,53 +44,6 @@ where
             status
         }
         NotChecked::Fault(found) => file_fault(rt, FAULT, shown, found),
-    }
-}
-
-/// The text before what is found of the first file.
-fn push_head(text: &mut Vec<u8>, asked: &Check) -> Result<(), AllocError>
-    ensures { OnOk result (text.new.items ≡ text.old.items ++ head_text asked.now.form asked.now.paths) }
-{
-    match asked.form {
-        Form::Csv => push_header(text, asked.paths),
-        Form::Text => Ok(()),
-    }
-}
-
-/// Appends an empty line, unless a file is the first.
-fn push_gap(text: &mut Vec<u8>, number: u32) -> Result<(), AllocError>
-    ensures { OnOk result (text.new.items ≡ text.old.items ++ gap_text number) }
-{
-    if number > 1 {
-        text.push(b'\n')?;
-    }
-    Ok(())
-}
-
-/// Appends what is found of the file of a path: its row, or its section, after an empty line where it is not the first.
-fn push_found(
-    text: &mut Vec<u8>,
-    asked: &Check,
-    clock: &Clock,
-    number: u32,
-    path: &str,
-    origin: Origin<'_>,
-    findings: &Findings,
-) -> Result<(), AllocError>
-    requires { IsOffset asked.now.offset }
-    ensures { OnOk result (text.new.items
-        ≡ with_found asked.now.form asked.now.paths (local clock.now asked.now.offset) number path.now origin.entry findings.now text.old.items) }
-{
-    match asked.form {
-        Form::Csv => {
-            let path = if asked.paths { Some(path) } else { None };
-            let file = FileColumns { number, path };
-            push_row(text, clock, file, origin, findings, asked.offset)
-        }
-        Form::Text => {
-            push_gap(text, number)?;
-            push_section(text, clock, path, origin, findings, asked.offset)
-        }
     }
 }
 

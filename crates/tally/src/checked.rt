@@ -1,68 +1,16 @@
 //! What is found of the file of a path: of its own bytes, or of the login records that are made of it where it is a database.
-ghost use Rattle.tally.specs.Checks.{IsOriginOf};
-
+use crate::checking::{Checked, NotChecked, Records};
 use crate::opened::open;
-use std::alloc::AllocError;
 use std::fs;
 use std::hash::RandomState;
 use std::io::Cursor;
 use std::rt::{Clock, Files};
 use tally_check::{CheckFault, Findings, check};
-use tally_check_text::Origin;
 use tally_terminal::{Followed, Progress};
 use tally_wtmpdb::{DatabaseFault, logins_in};
 
 /// The most login records of a database that are checked, as many as of a file.
 const RECORD_LIMIT: usize = 1_048_576;
-
-/// Where the records that were checked come from.
-#[derive(Drop)]
-pub(crate) enum Records {
-    /// The file itself.
-    Own,
-    /// The database that the file is.
-    Made,
-    /// The file is a database of which none were made, and is checked itself: this is why.
-    NotMade(String),
-}
-
-/// What is found of a file.
-#[derive(Drop)]
-pub(crate) struct Checked {
-    pub(crate) records: Records,
-    pub(crate) findings: Findings,
-}
-
-/// Why a file was not checked.
-pub(crate) enum NotChecked {
-    NotOpened,
-    Fault(CheckFault),
-}
-
-impl From<CheckFault> for NotChecked {
-    fn from(found: CheckFault) -> NotChecked {
-        NotChecked::Fault(found)
-    }
-}
-
-impl From<AllocError> for NotChecked {
-    fn from(_error: AllocError) -> NotChecked {
-        NotChecked::Fault(CheckFault::Memory)
-    }
-}
-
-impl Records {
-    /// The same, as it is printed.
-    pub(crate) fn origin(&self) -> Origin<'_>
-        ensures { IsOriginOf self.now result }
-    {
-        match self {
-            Records::Own => Origin::File,
-            Records::Made => Origin::Database,
-            Records::NotMade(why) => Origin::Refused(why.as_str()),
-        }
-    }
-}
 
 /// What is found of the bytes of the file of a path.
 fn findings_of<R>(

@@ -4,8 +4,10 @@
 mod asked;
 mod check;
 mod checked;
+mod checking;
 mod defaults;
 mod faults;
+mod found;
 mod hints;
 mod limited;
 mod looking;
