@@ -1,2 +1,3 @@
-mod FirstFiles
+mod CheckLemmas
 mod FrontLemmas
+mod PlaceLemmas

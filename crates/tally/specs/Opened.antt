@@ -1,5 +1,6 @@
 -- What is read of the files of the command line.
-use Rattle.std.specs.Prelude.{◌≡◌, ◌<◌, ◌⊎◌, ℕ, List, length, slice_index_or, string_bytes}
+use Rattle.std.specs.Prelude.{◌≡◌, ◌⊎◌, ℕ, List, length, slice_index_or, string_bytes}
+use Rattle.tally.specs.Places.{AllAt, StopsAt}
 use Rattle.tally.specs.declared.opening.OpenFault.{OpenFault}
 use Rattle.tally.specs.declared.opening.OpenFault.TheVariants.{Memory}
 use Rattle.tally_cli.specs.declared.running.source.Source.{Source}
@@ -27,21 +28,11 @@ IsSourceAt opens files at source = (file : FileArg) → IsSourceOf opens (slice_
 abbrev pub IsRefusedAt : (Kind → List ℕ → OpenFault → Type 0) → List FileArg → ℕ → OpenFault → Type 0
 IsRefusedAt refuses files at fault = (file : FileArg) → refuses (slice_index_or files at file).kind (string_bytes (slice_index_or files at file).path) fault
 
--- each source is of the file at its place
-abbrev pub AreOfFirst : {R F : Type 0} → (Kind → List ℕ → F → Type 0) → List FileArg → List (FileSource R F) → Type 0
-AreOfFirst opens files sources = (k : ℕ) (source : FileSource _ _) → k < length sources → IsSourceAt opens files k (slice_index_or sources k source)
-
 -- the sources are of these files, one of each, in their order
 pub record AreSourcesOf {R F : Type 0} (opens : Kind → List ℕ → F → Type 0) (files : List FileArg) (sources : List (FileSource R F)) : Type 0 where
   pub count : length sources ≡ length files
-  pub each : AreOfFirst opens files sources
-
--- a file was refused for this, and those before it were opened
-pub record IsRefusedAfter {R F : Type 0} (opens : Kind → List ℕ → F → Type 0) (refuses : Kind → List ℕ → OpenFault → Type 0) (files : List FileArg) (before : List (FileSource R F)) (fault : OpenFault) : Type 0 where
-  pub opened : AreOfFirst opens files before
-  pub within : length before < length files
-  pub refused : IsRefusedAt refuses files (length before) fault
+  pub each : AllAt (IsSourceAt opens files) sources
 
 -- memory was wanting, or this is why the first file that is refused was
 abbrev pub IsFirstRefused : (R : Type 0) → {F : Type 0} → (Kind → List ℕ → F → Type 0) → (Kind → List ℕ → OpenFault → Type 0) → List FileArg → OpenFault → Type 0
-IsFirstRefused R {F} opens refuses files fault = (fault ≡ Memory) ⊎ ((before : List (FileSource R F)) × IsRefusedAfter opens refuses files before fault)
+IsFirstRefused R {F} opens refuses files fault = (fault ≡ Memory) ⊎ ((before : List (FileSource R F)) × StopsAt (IsSourceAt opens files) (IsRefusedAt refuses files) (length files) before fault)

@@ -1,8 +1,11 @@
 //! What a command line asks to report: its clock, its moments and its names of users, worked out.
-ghost use Rattle.std.specs.Prelude.{◌≡◌, IfErr, IfOk, None, Ok, Err};
+ghost use Rattle.std.specs.Prelude.{◌≡◌, IfErr, IfOk, IfSome, IsSome, None, Ok, Err, string_bytes};
 ghost use Rattle.std.specs.Process.{exit_status};
 ghost use Rattle.tally.specs.Statuses.{IsRefusal};
+ghost use Rattle.tally.specs.Zones.{IsOfZoneText};
 ghost use Rattle.tally_clock.specs.Rows.{utc};
+ghost use Rattle.tally_clock.specs.Words.{zone_word};
+ghost use Rattle.tally_clock.specs.declared.word.ZoneWord.TheVariants.{Text};
 ghost use Rattle.tally_line.specs.Jobs.{IsRunnable, TakesUntil};
 ghost use Rattle.tally_line.specs.Settled.{Settles, SettlesChoice};
 ghost use Rattle.tally_line.specs.declared.settling.TimesFault.{TimesFault};
@@ -41,6 +44,7 @@ where
     R: Files + Eprint + AllocGlobal,
     R::File: Drop,
     ensures utc { zone.entry ≡ None → result ≡ Ok utc }
+    ensures text { IfSome zone.entry (λ word. zone_word (string_bytes word.now) ≡ Text → IsOfZoneText (string_bytes word.now) result) }
     ensures status { IfErr result IsRefusal }
 {
     let Some(word) = zone else {
@@ -102,6 +106,7 @@ where
     R::File: Drop,
     R::Reader: Drop,
     ensures none { path.entry ≡ None → result ≡ Ok None }
+    ensures some { IfSome path.entry (λ _. IfOk result IsSome) }
     ensures status { IfErr result (λ status. exit_status status ≡ 1) }
 {
     let Some(path) = path else {

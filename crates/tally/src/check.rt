@@ -1,13 +1,12 @@
 //! The check of files before a report of them is believed.
-ghost use Rattle.std.specs.Prelude.{◌≡◌, ◌≤◌, IfErr, if◌then◌else◌};
+ghost use Rattle.std.specs.Prelude.{◌≡◌, ◌≤◌, if◌then◌else◌};
 ghost use Rattle.std.specs.Process.{exit_status};
 ghost use Rattle.tally_sessions.specs.Days.{IsOffset};
 
 use crate::asked::clock_for;
-use crate::checked::check_path;
-use crate::checking::NotChecked;
+use crate::checked::Checker;
+use crate::checking::{NotChecked, check_all};
 use crate::faults::{FAULT, fault, file_fault, not_opened};
-use crate::found::{push_found, push_head};
 use crate::hints::{hint_unread, hinted_not_opened};
 use crate::opened::{ROOT, hold_closed_streams};
 use std::hash::RandomState;
@@ -19,7 +18,6 @@ use std::rt::{Clock as MachineClock, Files};
 use tally_check::CheckFault;
 use tally_check_text::print_text;
 use tally_cli::RunFault;
-use tally_clock::Clock;
 use tally_line::Check;
 use tally_print::Writing;
 use tally_records::Memory;
@@ -29,89 +27,21 @@ use tally_terminal::{ErrorsTo, Progress, Shown, Watched};
 const DOUBTFUL: u8 = 3;
 
 /// Prints why a file was not checked.
-fn not_checked<R: Files + Eprint>(rt: &R, to: ErrorsTo, path: &str, found: NotChecked) -> ExitCode
+fn not_checked<R: Files + Eprint>(rt: &R, to: ErrorsTo, found: NotChecked<'_>) -> ExitCode
 where
     R::File: Drop,
     ensures { exit_status result ≡ 1 }
 {
-    let shown = Shown::new(path, to);
     match found {
-        NotChecked::NotOpened => hinted_not_opened(rt, to, path),
-        NotChecked::Fault(CheckFault::Memory) => fault(rt, FAULT, Memory),
-        NotChecked::Fault(CheckFault::Read) => {
-            let status = file_fault(rt, FAULT, shown, CheckFault::Read);
+        NotChecked::Memory => fault(rt, FAULT, Memory),
+        NotChecked::NotOpened(path) => hinted_not_opened(rt, to, path),
+        NotChecked::Fault(path, CheckFault::Read) => {
+            let status = file_fault(rt, FAULT, Shown::new(path, to), CheckFault::Read);
             hint_unread(rt, to, path);
             status
         }
-        NotChecked::Fault(found) => file_fault(rt, FAULT, shown, found),
+        NotChecked::Fault(path, found) => file_fault(rt, FAULT, Shown::new(path, to), found),
     }
-}
-
-/// Checks the file of a path and appends what is found of it, and says whether it is doubtful.
-fn check_file<R>(
-    rt: &R,
-    to: ErrorsTo,
-    progress: &Progress<'_, R>,
-    keys: RandomState,
-    asked: &Check,
-    clock: &Clock,
-    number: u32,
-    path: &str,
-    text: &mut Vec<u8>,
-) -> Result<bool, ExitCode>
-where
-    R: Files + Input + Eprint + MachineClock + AllocGlobal,
-    R::File: Drop,
-    R::Reader: Drop,
-    requires { IsOffset asked.now.offset }
-    ensures { IfErr result (λ status. exit_status status ≡ 1) }
-{
-    let checked = match check_path(rt, progress, keys, path) {
-        Ok(checked) => checked,
-        Err(found) => {
-            progress.erase();
-            return Err(not_checked(rt, to, path, found));
-        }
-    };
-    let (origin, findings) = (checked.records.origin(), &checked.findings);
-    match push_found(text, asked, clock, number, path, origin, findings) {
-        Ok(()) => Ok(findings.is_doubtful()),
-        Err(_) => {
-            progress.erase();
-            Err(fault(rt, FAULT, Memory))
-        }
-    }
-}
-
-/// Checks all files and appends what is found of them, and says whether one is doubtful.
-fn check_all<R>(
-    rt: &R,
-    to: ErrorsTo,
-    progress: &Progress<'_, R>,
-    keys: RandomState,
-    asked: &Check,
-    clock: &Clock,
-    text: &mut Vec<u8>,
-) -> Result<bool, ExitCode>
-where
-    R: Files + Input + Eprint + MachineClock + AllocGlobal,
-    R::File: Drop,
-    R::Reader: Drop,
-    requires { IsOffset asked.now.offset }
-    ensures { IfErr result (λ status. exit_status status ≡ 1) }
-{
-    if push_head(text, asked).is_err() {
-        return Err(fault(rt, FAULT, Memory));
-    }
-    let mut is_doubtful = false;
-    let mut number = 0u32;
-    for path in &asked.files {
-        number = number.wrapping_add(1);
-        let path = path.as_str();
-        let found = check_file(rt, to, progress, keys, asked, clock, number, path, text)?;
-        is_doubtful = is_doubtful || found;
-    }
-    Ok(is_doubtful)
 }
 
 /// The status of a check whose findings were printed.
@@ -159,9 +89,17 @@ where
     };
     let progress = Progress::new(rt, to);
     let mut text = Vec::new(rt.alloc());
-    match check_all(rt, to, &progress, keys, asked, &clock, &mut text) {
+    let checker = Checker {
+        rt,
+        progress: &progress,
+        keys,
+    };
+    match check_all(&mut text, &checker, asked, &clock) {
         Ok(is_doubtful) => print_found(rt, progress, text.as_slice(), is_doubtful),
-        Err(status) => status,
+        Err(found) => {
+            progress.erase();
+            not_checked(rt, to, found)
+        }
     }
 }
 

@@ -1,5 +1,5 @@
 //! The names of users, as a file of passwd(5) has them.
-ghost use Rattle.std.specs.Prelude.{◌≡◌, ◌<◌, IfOk, IfSome, length};
+ghost use Rattle.std.specs.Prelude.{◌≡◌, ◌<◌, ◌≤◌, IfErr, IfOk, IfSome, length};
 ghost use Rattle.tally.specs.Users.{HasNamesOf, users_front};
 ghost use Rattle.tally.specs.declared.users.UsersFault.TheVariants as users_fault;
 
@@ -68,6 +68,7 @@ fn front<F: Read + Drop>(alloc: Global, file: F) -> io::Result<Vec<u8>>
 fn names_in(alloc: Global, bytes: &[u8]) -> Result<UserNames, UsersFault>
     ensures value { IfOk result (HasNamesOf bytes.now) }
     ensures large { USERS_LIMIT < length bytes.now → result ≡ Err UsersFault.NoUsers }
+    ensures small { length bytes.now ≤ USERS_LIMIT → IfErr result (λ found. found ≡ UsersFault.Memory) }
 {
     if bytes.len() > USERS_LIMIT {
         return Err(UsersFault::NoUsers);
