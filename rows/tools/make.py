@@ -200,6 +200,8 @@ row('endless-zeros-ac', 'ac,big', 'An input that never ends is refused after 1,0
 row('empty-file-sa', 'sa', 'An empty file has the line of the totals alone.', ['sa', 'f'], SA_NOTHING, files={'f': b''})
 row('commands-by-cpu', 'sa', 'A command that was called once goes to ***other; a fork mark makes a group of its own.',
     ['sa', 'f'], lines(SA_TOTAL, SA_OTHER, SA_FORKED), files={'f': MAKE})
+row('output-takes-nothing-sa', 'sa,full-device', 'A write that fails is a fault.', ['sa', 'f'], '',
+    'tally: write failed\n', 1, {'f': MAKE}, stdout_to='/dev/full')
 row('all-commands', 'sa,sa -a', 'Every command has its row.', ['sa', '-a', 'f'],
     lines(SA_TOTAL, SA_PLAIN, SA_FORKED), files={'f': MAKE})
 row('commands-by-calls', 'sa,sa -n', 'Ordered by the number of calls.', ['sa', '-n', 'f'],

@@ -112,12 +112,14 @@ def no_hint_on_what_is_read_once(place):
 
 
 def hint_on_a_file_of_another_user(place):
-    """A file that only its user may read, and a folder."""
+    """A file that only its user may read, and a folder. A named pipe is not opened again, which could wait."""
     os.chmod(place.path('f'), 0)
     os.mkdir(place.path('closed'), 0)
+    os.mkfifo(place.path('pipe'), 0)
     hinted(place, ('last', 'f'), 'f may not be read by this user', 1, preexec_fn=other_user)
     hinted(place, ('sa', 'closed/f'), 'closed/f may not be read by this user', 1, preexec_fn=other_user)
     hinted(place, ('last', 'closed'), 'closed is a folder', 1, preexec_fn=other_user)
+    hinted(place, ('last', 'pipe'), '', 1, preexec_fn=other_user)
 
 
 FAILED = lines('ann      :0                            1970-01-12 13:48:20',
