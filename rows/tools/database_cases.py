@@ -73,18 +73,21 @@ def largest_database(place):
 
 
 def most_records_of_a_database(place):
-    """As many login records as a report reads are made of a database; with a session more, of which there are two, they are too many."""
+    """As many login records as a report or a check reads are made of a database; with a session more, of which there are two, they are too many."""
     base = sqlite3.connect(place.path('wtmp.db'))
     base.execute(TABLE)
     base.executemany(INSERT, ((3, 'ann', second * MICROS, second * MICROS + 1, 'tty1', None, None) for second in range(MOST // 2)))
     base.commit()
     done = place.run('ac', 'wtmp.db')
     same((done.returncode, done.stdout, done.stderr), (0, b'total                        0.00\n', b''))
+    same(place.run('check', 'wtmp.db').stdout.splitlines()[0], b'wtmp.db: login records of a database')
     base.execute(INSERT, (3, 'ann', MOST * MICROS, MOST * MICROS + 1, 'tty1', None, None))
     base.commit()
     base.close()
     done = place.run('ac', 'wtmp.db')
     same((done.returncode, done.stdout, done.stderr), (1, b'', b'tally: wtmp.db: 1048578 login records are too many\n'))
+    done = place.run('check', 'wtmp.db')
+    same((done.returncode, done.stdout.splitlines()[-1]), (3, b'doubtful        no records that are read: 1048578 login records are too many'))
 
 
 CASES = (database_by_a_link, database_as_standard_input, database_is_left_as_it_was, database_of_another_user)

@@ -171,7 +171,7 @@ def followed_on_a_terminal(place):
 
 
 def followed_check_on_a_terminal(place):
-    """A check, whose files may be of any kind, says how many bytes it has read."""
+    """A check, whose files may be of any kind, says how many bytes it has read. Nothing is left of that before a fault line."""
     for raw in (ONE_HOUR, MAKE, KINDS['gzip']):
         writer = pipe_of(place, 'slow', raw[:64], raw[64:])
         done, said = place.on_terminal('check', 'slow')
@@ -180,6 +180,12 @@ def followed_check_on_a_terminal(place):
         wanted, is_doubtful = slow_check.section('slow', raw, fixed(0))
         same((done.returncode, done.stdout), (3 if is_doubtful else 0, wanted.encode()))
         assert re.fullmatch(rb'(%sslow: %d bytes)+%s' % (ERASE, len(raw), ERASE), said), said
+    writer = pipe_of(place, 'slow', ONE_HOUR[:64], ONE_HOUR[64:])
+    done, said = place.on_terminal('check', 'slow', 'gone')
+    writer.join()
+    same((done.returncode, done.stdout), (1, b''))
+    fault = b'tally: gone: cannot be opened\nhint: gone is not there\n'
+    assert re.fullmatch(rb'(%sslow: %d bytes)+%s%s' % (ERASE, len(ONE_HOUR), ERASE, fault), said), said
 
 
 def followed_up_to_the_report(place):

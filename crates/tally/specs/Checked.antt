@@ -8,6 +8,7 @@ use Rattle.tally.specs.declared.checking.Checked.{Checked}
 use Rattle.tally.specs.declared.checking.NotChecked.{NotChecked}
 use Rattle.tally.specs.declared.checking.NotChecked.TheVariants.{Memory, NotOpened, Fault}
 use Rattle.tally_check.specs.Findings.{is_doubtful}
+use Rattle.tally_check.specs.declared.fault.CheckFault.{CheckFault}
 use Rattle.tally_check.specs.declared.fault.CheckFault.TheVariants as check
 use Rattle.tally_check_text.specs.declared.origin.Origin.{Origin}
 use Rattle.tally_line.specs.declared.line.Check.{Check}
@@ -72,3 +73,9 @@ abbrev pub IsOfPath : List ℕ → NotChecked → Type 0
 IsOfPath path Memory = Unit {0}
 IsOfPath path (NotOpened named) = named.now ≡ path
 IsOfPath path (Fault named fault) = (named.now ≡ path) × ¬ (fault ≡ check.Memory)
+
+-- what a check of the file of this path said is told by a fault
+abbrev pub TellsFault : List ℕ → CheckFault → NotChecked → Type 0
+TellsFault path said Memory = said ≡ check.Memory
+TellsFault path said (NotOpened named) = ⊥
+TellsFault path said (Fault named fault) = (named.now ≡ path) × (fault ≡ said)

@@ -1,6 +1,7 @@
 //! What is found of the file of a path: of its own bytes, or of the login records that are made of it where it is a database.
-ghost use Rattle.std.specs.Prelude.{◌≡◌, IfErr, ⊤};
-ghost use Rattle.tally.specs.Checked.{IsOfPath};
+ghost use Rattle.std.specs.Prelude.{◌≡◌, IfErr, IfOk, ⊤};
+ghost use Rattle.tally.specs.Checked.{IsOfPath, TellsFault};
+ghost use Rattle.tally_check.specs.Findings.{findings_of};
 
 use crate::checking::{Checked, Checks, NotChecked, Records};
 use crate::opened::open;
@@ -25,7 +26,8 @@ pub(crate) struct Checker<'p, 'r, R> {
 
 /// Why the file of a path was not checked.
 fn not_checked(path: &str, found: CheckFault) -> NotChecked<'_>
-    ensures { IsOfPath path.now result }
+    ensures path { IsOfPath path.now result }
+    ensures fault { TellsFault path.now found result }
 {
     match found {
         CheckFault::Memory => NotChecked::Memory,
@@ -55,7 +57,8 @@ where
 
     /// What is found of the login records that were made of the database of a path, whose own size is said.
     fn findings_made<'a>(&self, path: &'a str, records: Vec<u8>) -> Result<Findings, NotChecked<'a>>
-        ensures { IfErr result (IsOfPath path.now) }
+        ensures made { IfOk result (λ found. found.content ≡ (findings_of records.items).content) }
+        ensures refused { IfErr result (IsOfPath path.now) }
     {
         let Ok(file) = fs::metadata(self.rt, path) else {
             return Err(NotChecked::Fault(path, CheckFault::Read));
