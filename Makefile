@@ -18,17 +18,18 @@ build:
 look:
 	@.ci/look $(WORDS) $(FILES)
 
-# The gate: the first build, every wrong body, every proof and test from nothing, then every run of the program. What passed on
-# this machine is kept by checksums, and is done again where a change may have touched it.
+# The gate: every proof and test from nothing, the wrong bodies and the cost of each crate that .ci/tried does not have as it stands, then every run
+# of the program. What passed on this machine is kept by checksums, and is done again where a change may have touched it.
 test:
 	@.ci/gate "$(ROWS)"
 
-# The same, and every proof and wrong body again, those too that are recorded as refused.
+# The same of every crate, whatever is kept or recorded.
 test-anew:
 	@.ci/gate "$(ROWS)" --anew
 
-# Every wrong body, or those of some crates alone, and records them as refused: make test-edits CRATES="tally_book tally_desk"
+# What proofs cost, and every wrong body, or those of some crates alone, and records both in .ci/tried: make test-edits CRATES="tally_book tally_desk"
 test-edits: build
+	@.ci/cost
 	@.ci/edits --record $(CRATES)
 
 # The rows and the cases with inputs of 402 MB and more, and `sa` over 17 GB. `make test` or `make build` comes first.

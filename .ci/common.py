@@ -33,8 +33,13 @@ def below(name):
     return found
 
 
+def with_below(names):
+    """These crates and those that they stand on, from the bottom up."""
+    return list(dict.fromkeys(it for name in names for it in (*below(name), name)))
+
+
 # The crates that the program is made of, from the bottom up.
-OF_PROGRAM = [*below(PROGRAM), PROGRAM]
+OF_PROGRAM = with_below([PROGRAM])
 
 
 def room_beside():

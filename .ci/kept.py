@@ -22,8 +22,8 @@ OF_VALUES = 'Worked*.antt'
 NAMES_VALUES = re.compile(rb'^(pub )?mod Worked\w+\n?', re.M)
 CITES_VALUES = re.compile(rb'\bproofs\.Worked')
 TRIED = TOP / '.ci' / 'tried'
-HEAD = """# The crates of which every wrong body was refused, with the checksum of all that this rests on: the gate then tries those of must-fail/
-# alone. `.ci/edits --record` writes this file after it has tried them.
+HEAD = """# The crates whose proofs cost no more than .ci/costs allows, and of which every wrong body was refused, with the checksum of all that this rests
+# on: the gate does neither again. `make test-edits` writes this file after it has done both.
 """
 
 
@@ -108,9 +108,15 @@ def whole_sum(name, edits):
     return checksum([crate_sum(name).encode(), *(part.encode() for it in sorted(edits, key=lambda it: it.name) for part in (it.name, it.text))])
 
 
+@functools.lru_cache(maxsize=None)
 def recorded():
     """The checksum of each crate whose wrong bodies were all refused."""
     return dict(line.split() for line in lines('.ci/tried')) if TRIED.exists() else {}
+
+
+def is_recorded(name, edits):
+    """Whether .ci/tried has the crate, with all its wrong bodies, as it stands."""
+    return recorded().get(name) == whole_sum(name, edits)
 
 
 def record(sums):
