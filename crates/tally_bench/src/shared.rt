@@ -1,6 +1,6 @@
 //! A book that is asked while it is posted to, as a desk's callers do.
 ghost use Rattle.std.specs.Prelude.{◌≡◌, IfOk};
-ghost use Rattle.tally_book.specs.Answers.{IsAskable};
+ghost use Rattle.tally_answers.specs.Answers.{IsAskable};
 
 use crate::made::Made;
 use crate::runs::{BUSY, Bench};

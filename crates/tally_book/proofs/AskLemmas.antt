@@ -3,8 +3,8 @@ use Rattle.std.proofs.Common.{◌≡◌, ◌∙◌, ◌<◌, ◌≤◌, ℕ, len
 use Rattle.tally_book.specs.declared.book.Book.TheInside.{Inside}
 use Rattle.tally_book.specs.declared.fault.AskFault.{AskFault}
 use Rattle.tally_book.specs.declared.fault.AskFault.TheVariants as ask
-use Rattle.tally_book.specs.declared.question.Question.{Question}
-use Rattle.tally_book.specs.Answers.{NamesHostBelow}
+use Rattle.tally_answers.specs.declared.question.Question.{Question}
+use Rattle.tally_answers.specs.Answers.{NamesHostBelow}
 use Rattle.tally_book.specs.Books.{IsLegal}
 use Rattle.tally_book.specs.Contents.{Contents}
 use Rattle.tally_book.specs.Refusals.{IsAskRefusal}

@@ -6,7 +6,7 @@ use Rattle.std.specs.List.{All}
 use Rattle.tally_book.specs.declared.history.Call.{Call}
 use Rattle.tally_book.specs.declared.history.Call.TheVariants.{Posted, Asked}
 use Rattle.tally_book.specs.declared.history.Counts.{Counts}
-use Rattle.tally_book.specs.declared.question.Question.{Question}
+use Rattle.tally_answers.specs.declared.question.Question.{Question}
 use Rattle.tally_records.specs.Records.{Records, Logins, Procs, logins_in, procs_in, record_count}
 use Rattle.tally_records.specs.declared.login.LoginRecord.{LoginRecord}
 use Rattle.tally_records.specs.declared.process.ProcRecord.{ProcRecord}
@@ -15,7 +15,7 @@ use Rattle.tally_sessions.specs.Hosts.{posted_by}
 use Rattle.tally_usage.specs.declared.entry.ProcEntry.{ProcEntry}
 use Rattle.tally_usage.specs.Summary.{entries_of}
 use Rattle.tally_clock.specs.Rows.{ClockRows}
-use Rattle.tally_book.specs.Answers.{answer_of, NamesHostBelow}
+use Rattle.tally_answers.specs.Answers.{answer_of, NamesHostBelow}
 use Rattle.tally_book.specs.Books.{IsCall, Chains, IsLegal, before_of, after_of, between, counts_of, counts_with, nothing, posted, asked}
 use Rattle.tally_book.specs.Contents.{Contents}
 use Rattle.tally_book.specs.Refusals.{HasRoom}

@@ -7,8 +7,6 @@ pub mod Permuted
 pub mod SameAnswers
 pub mod RowDays
 pub mod RowSums
-pub mod WorkedAnswers
 pub mod WorkedBooks
 pub mod WorkedCalls
-pub mod WorkedHosts
 pub mod WorkedRefusals

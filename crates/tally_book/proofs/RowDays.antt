@@ -1,12 +1,12 @@
 -- The days of rows of connect times.
 use Rattle.std.proofs.Common.{◌≡◌, List, map, sym, subst}
 use Rattle.std.specs.List.{All}
-use Rattle.tally_book.specs.declared.question.ConnectRow.{ConnectRow}
+use Rattle.tally_answers.specs.declared.question.ConnectRow.{ConnectRow}
 use Rattle.tally_sessions.specs.declared.times.DayTime.{DayTime}
 use Rattle.tally_sessions.specs.declared.times.DayUserTime.{DayUserTime}
 use Rattle.tally_sessions.specs.declared.times.UserTime.{UserTime}
 use Rattle.tally_sessions.specs.Days.{IsDay}
-use Rattle.tally_book.specs.Answers.{HasDay, row_of_day, row_of_day_user, row_of_user}
+use Rattle.tally_answers.specs.Answers.{HasDay, row_of_day, row_of_day_user, row_of_user}
 use Rattle.tally_book.proofs.Own.{All-mapped}
 
 pub day_rows_have_days : (times : List DayTime) (rows : List ConnectRow) → rows ≡ map row_of_day times → All (λ (t : DayTime). IsDay t.day) times → All HasDay rows

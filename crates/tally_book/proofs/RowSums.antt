@@ -1,8 +1,8 @@
 -- The seconds of rows by user.
 use Rattle.std.proofs.Common.{◌≡◌, ◌∙◌, ℕ, ◌+◌, ◌<◌, ◌^◌, List, [], ◌∷◌, map, refl, sum_by, sym, ap, arith}
 use Rattle.std.proofs.lemmas.List.Sums.{sum_by-cons}
-use Rattle.tally_book.specs.Answers.{row_of_user}
-use Rattle.tally_book.specs.declared.question.ConnectRow.{ConnectRow}
+use Rattle.tally_answers.specs.Answers.{row_of_user}
+use Rattle.tally_answers.specs.declared.question.ConnectRow.{ConnectRow}
 use Rattle.tally_book.specs.inside.RowSums.{AddUpTo, seconds_of}
 use Rattle.tally_sessions.specs.declared.times.UserTime.{UserTime}
 

@@ -3,9 +3,9 @@ use Rattle.std.proofs.Common.{Bool, false, refl, ap, filter, Option, ℤ, ◌≡
 use Rattle.std.specs.Prelude.{slice_get, option_map}
 use Rattle.std.specs.List.{flat_map}
 use Rattle.std.specs.List.Sorted.{IsPermutation}
-use Rattle.tally_book.specs.declared.question.Question.{Question}
-use Rattle.tally_book.specs.declared.question.Question.TheVariants as questions
-use Rattle.tally_book.specs.declared.question.Answer.TheVariants as answers
+use Rattle.tally_answers.specs.declared.question.Question.{Question}
+use Rattle.tally_answers.specs.declared.question.Question.TheVariants as questions
+use Rattle.tally_answers.specs.declared.question.Answer.TheVariants as answers
 use Rattle.tally_attempts.specs.Attempts.{attempt, is_chosen}
 use Rattle.tally_attempts.specs.Laws as attempts
 use Rattle.tally_attempts.specs.Sums.{chosen_attempts}
@@ -23,7 +23,7 @@ use Rattle.tally_sessions.specs.Hosts.{of_host}
 use Rattle.tally_usage.specs.declared.entry.ProcEntry.{ProcEntry}
 use Rattle.tally_usage.specs.Laws.{RecordOrderIsFree}
 use Rattle.tally_usage.specs.Totals.{records_of}
-use Rattle.tally_book.specs.Answers.{answer_of, connect_rows, row_of_day, row_of_day_user, row_of_user}
+use Rattle.tally_answers.specs.Answers.{answer_of, connect_rows, row_of_day, row_of_day_user, row_of_user}
 use Rattle.tally_book.specs.Deeds.{SameOfEachHost}
 use Rattle.tally_book.proofs.ChosenOwn.{owned_passing, passing}
 use Rattle.tally_book.proofs.Parts.{owned}

@@ -1,16 +1,16 @@
 -- Worked books: what calls store and answer, and what each caller did, computed by the definitions.
 use Rattle.std.proofs.Common.{◌≡◌, List, [], ◌∷◌, ◌++◌, true, false, map, None, ℕ, pos, refl}
 use Rattle.std.specs.Prelude.{codes}
-use Rattle.tally_book.specs.Answers.{answer_of}
+use Rattle.tally_answers.specs.Answers.{answer_of}
 use Rattle.tally_book.specs.Books.{Chains, IsReceipt, IsServed, after_of, asked, before_of, between, caller_of, calls_of, counts_of, counts_with, empty, empty_with_room, nothing, posted}
 use Rattle.tally_book.specs.Contents.{Contents}
 use Rattle.tally_book.specs.Deeds.{Ask, Post, deeds_of, login_records, logins_added, procs_added, procs_of_host}
 use Rattle.tally_book.specs.declared.history.Call.{Call}
 use Rattle.tally_book.specs.declared.history.Call.TheVariants.{Posted, Asked}
 use Rattle.tally_book.specs.declared.history.Counts.{Counts}
-use Rattle.tally_book.specs.declared.question.Answer.TheVariants as answers
-use Rattle.tally_book.specs.declared.question.Question.{Question}
-use Rattle.tally_book.specs.declared.question.Question.TheVariants as questions
+use Rattle.tally_answers.specs.declared.question.Answer.TheVariants as answers
+use Rattle.tally_answers.specs.declared.question.Question.{Question}
+use Rattle.tally_answers.specs.declared.question.Question.TheVariants as questions
 use Rattle.tally_clock.specs.Rows.{utc}
 use Rattle.tally_records.specs.Choice.{every_login}
 use Rattle.tally_records.specs.Event.{event_of}

@@ -1,14 +1,14 @@
 -- Worked calls of legal books, and calls that no legal book has.
 use Rattle.std.proofs.Common.{◌≡◌, ◌<◌, All, List, [], ◌∷◌, ap, false, None, ℕ, zero, suc, pos, refl, inr, ⊎_elim, length, replicate, arith}
-use Rattle.tally_book.specs.Answers.{answer_of}
+use Rattle.tally_answers.specs.Answers.{answer_of}
 use Rattle.tally_book.specs.Books.{IsCall, IsLegal, IsPost, IsReport, between, empty, empty_with_room}
 use Rattle.tally_book.specs.Contents.{Contents}
 use Rattle.tally_book.specs.declared.history.Call.TheVariants.{Posted, Asked}
 use Rattle.tally_book.specs.declared.history.Counts.{Counts}
-use Rattle.tally_book.specs.declared.question.Answer.{Answer}
-use Rattle.tally_book.specs.declared.question.Answer.TheVariants as answers
-use Rattle.tally_book.specs.declared.question.Question.{Question}
-use Rattle.tally_book.specs.declared.question.Question.TheVariants as questions
+use Rattle.tally_answers.specs.declared.question.Answer.{Answer}
+use Rattle.tally_answers.specs.declared.question.Answer.TheVariants as answers
+use Rattle.tally_answers.specs.declared.question.Question.{Question}
+use Rattle.tally_answers.specs.declared.question.Question.TheVariants as questions
 use Rattle.tally_clock.specs.Rows.{utc}
 use Rattle.tally_records.specs.Choice.{every_login}
 use Rattle.tally_records.specs.Event.{event_of}

@@ -1,17 +1,17 @@
 -- Worked refusals, rooms and hosts of questions, computed by the definitions.
 use Rattle.std.proofs.Common.{◌≡◌, ◌<◌, ◌≤◌, [], ◌∷◌, map, true, None, Some, ℕ, ℤ, pos, neg_ℤ, refl, replicate, arith}
 use Rattle.std.proofs.lemmas.Int.{ints}
-use Rattle.tally_book.specs.Answers.{HasDays, IsAskable, NamesHost, NamesHostBelow}
+use Rattle.tally_answers.specs.Answers.{HasDays, IsAskable, NamesHost, NamesHostBelow}
 use Rattle.tally_book.specs.Refusals.{HasRoom, IsAskRefusal, IsPostRefusal}
 use Rattle.tally_book.specs.Rooms.{IsRoom, batches_in}
 use Rattle.tally_book.specs.declared.book.TheConstants.{CALL_LIMIT}
 use Rattle.tally_book.specs.declared.fault.AskFault.TheVariants as ask
 use Rattle.tally_book.specs.declared.fault.PostFault.TheVariants as post
 use Rattle.tally_book.specs.declared.history.Counts.{Counts}
-use Rattle.tally_book.specs.declared.question.Answer.{Answer}
-use Rattle.tally_book.specs.declared.question.Answer.TheVariants as answers
-use Rattle.tally_book.specs.declared.question.Question.{Question}
-use Rattle.tally_book.specs.declared.question.Question.TheVariants as questions
+use Rattle.tally_answers.specs.declared.question.Answer.{Answer}
+use Rattle.tally_answers.specs.declared.question.Answer.TheVariants as answers
+use Rattle.tally_answers.specs.declared.question.Question.{Question}
+use Rattle.tally_answers.specs.declared.question.Question.TheVariants as questions
 use Rattle.tally_book.specs.declared.room.TheConstants.{MOST_MILLIONS}
 use Rattle.tally_records.specs.Choice.{every_login}
 use Rattle.tally_records.specs.Records.{Logins, Procs, Records}

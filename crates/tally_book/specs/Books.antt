@@ -6,8 +6,8 @@ use Rattle.tally_book.specs.declared.history.Call.TheVariants.{Posted, Asked}
 use Rattle.tally_book.specs.declared.history.Counts.{Counts}
 use Rattle.tally_book.specs.declared.history.Receipt.{Receipt}
 use Rattle.tally_book.specs.declared.history.Served.{Served}
-use Rattle.tally_book.specs.declared.question.Question.{Question}
-use Rattle.tally_book.specs.declared.question.Answer.{Answer}
+use Rattle.tally_answers.specs.declared.question.Question.{Question}
+use Rattle.tally_answers.specs.declared.question.Answer.{Answer}
 use Rattle.tally_book.specs.declared.book.TheConstants.{CALL_LIMIT}
 use Rattle.tally_book.specs.declared.room.TheConstants.{MILLION}
 use Rattle.tally_clock.specs.Rows.{ClockRows}
@@ -18,7 +18,7 @@ use Rattle.tally_sessions.specs.declared.entry.Entry.{Entry}
 use Rattle.tally_sessions.specs.Hosts.{posted_by}
 use Rattle.tally_usage.specs.declared.entry.ProcEntry.{ProcEntry}
 use Rattle.tally_usage.specs.Summary.{entries_of}
-use Rattle.tally_book.specs.Answers.{answer_of, NamesHostBelow}
+use Rattle.tally_answers.specs.Answers.{answer_of, NamesHostBelow}
 use Rattle.tally_book.specs.Contents.{Contents}
 use Rattle.tally_book.specs.Rooms.{IsRoom}
 

@@ -5,10 +5,10 @@ use Rattle.tally_book.specs.declared.fault.PostFault.TheVariants as post
 use Rattle.tally_book.specs.declared.fault.AskFault.{AskFault}
 use Rattle.tally_book.specs.declared.fault.AskFault.TheVariants as ask
 use Rattle.tally_book.specs.declared.history.Counts.{Counts}
-use Rattle.tally_book.specs.declared.question.Question.{Question}
+use Rattle.tally_answers.specs.declared.question.Question.{Question}
 use Rattle.tally_book.specs.declared.book.TheConstants.{CALL_LIMIT}
 use Rattle.tally_records.specs.Records.{Records, logins_in, procs_in}
-use Rattle.tally_book.specs.Answers.{NamesHost, NamesHostBelow}
+use Rattle.tally_answers.specs.Answers.{NamesHost, NamesHostBelow}
 
 -- both lists have room for the batch below so many records
 pub record HasRoom (room : ℕ) (stored : Counts) (batch : Records) : Type 0 where

@@ -2,7 +2,7 @@
 ghost use Rattle.std.specs.Prelude.{◌≡◌, ◌≢◌, ◌<◌, ◌^◌, IfOk, IfErr, OnOk, false, true};
 ghost use Rattle.tally_attempts.specs.Attempts.{latest_attempts};
 ghost use Rattle.tally_attempts.specs.Sums.{attempt_sums};
-ghost use Rattle.tally_book.specs.Answers.{answer_of, connect_rows, HasDays, IsAskable, NamesHostBelow};
+ghost use Rattle.tally_answers.specs.Answers.{answer_of, connect_rows, HasDays, IsAskable, NamesHostBelow};
 ghost use Rattle.tally_book.specs.inside.Ready.{IsReady};
 ghost use Rattle.tally_book.specs.inside.Refusals.{IsNoSuchHost};
 ghost use Rattle.tally_book.specs.inside.RowSums.{AddUpTo, seconds_of};
@@ -17,8 +17,8 @@ ghost use Rattle.tally_usage.specs.User.{user_rows};
 use crate::connect::connect_rows;
 use crate::fault::AskFault;
 use crate::logins::LoginStore;
-use crate::question::{Answer, ConnectRow, Question};
 use std::alloc::Global;
+use tally_answers::{Answer, ConnectRow, Question};
 use tally_attempts::{attempt_sums, first_time, latest_attempts};
 use tally_clock::Clock;
 use tally_records::{LoginChoice, Memory};
@@ -157,7 +157,7 @@ fn attempt_sums_answer(
 }
 
 /// The answer to a question, where there is memory for it.
-#[tactic(auto, unfolding(crate::specs::Answers::answer_of))]
+#[tactic(auto, unfolding(tally_answers::specs::Answers::answer_of))]
 fn answer_in(
     alloc: Global,
     clock: &Clock,

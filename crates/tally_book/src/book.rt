@@ -1,5 +1,5 @@
 ghost use Rattle.std.specs.Prelude.{◌≡◌, ◌<◌, ◌≤◌, [], length, IfOk, IfErr, OnErr, OnOk};
-ghost use Rattle.tally_book.specs.Answers.{HasDays, IsAskable, answer_of};
+ghost use Rattle.tally_answers.specs.Answers.{HasDays, IsAskable, answer_of};
 ghost use Rattle.tally_book.specs.Books.{IsLegal, IsReceipt, IsServed, counts_of, empty, empty_with_room, posted, asked};
 ghost use Rattle.tally_book.specs.Refusals.{IsPostRefusal, IsAskRefusal};
 ghost use Rattle.tally_clock.specs.Rows.{utc};
@@ -12,13 +12,13 @@ use crate::answering::{answer, check_host, connect_answer};
 use crate::fault::{AskFault, PostFault};
 use crate::history::{Call, Receipt, Served, record};
 use crate::logins::LoginStore;
-use crate::question::{Answer, Question};
 use crate::room::Room;
 use crate::storing::{check_room, counts, is_full, store};
 use std::alloc::Global;
 use std::hash::RandomState;
 use std::marker::Model;
 use std::thread::Threads;
+use tally_answers::{Answer, Question};
 use tally_clock::Clock;
 use tally_records::{Batch, LoginChoice, Memory};
 use tally_sessions::{Entries, EntryList, HOST_LIMIT, Sessions};
@@ -223,7 +223,7 @@ impl Book {
     }
 
     /// Connect times as a question has them, over the sessions of one caller alone. It is no call of the history.
-    #[tactic(auto, unfolding(crate::specs::Answers::answer_of))]
+    #[tactic(auto, unfolding(tally_answers::specs::Answers::answer_of))]
     pub fn connect_of_host(
         &self,
         alloc: Global,

@@ -1,12 +1,12 @@
 //! The rows of connect times.
 ghost use Rattle.std.specs.Prelude.{◌≡◌, ◌<◌, ◌^◌, All, IfOk, false, map, sum_by, true};
-ghost use Rattle.tally_book.specs.Answers.{HasDay, connect_rows, row_of_day, row_of_day_user, row_of_user};
+ghost use Rattle.tally_answers.specs.Answers.{HasDay, connect_rows, row_of_day, row_of_day_user, row_of_user};
 ghost use Rattle.tally_book.specs.inside.RowSums.{AddUpTo};
 ghost use Rattle.tally_sessions.specs.Days.{IsDay, IsOffset, local};
 ghost use Rattle.tally_sessions.specs.Sums.{seconds_in, sessions_of};
 
-use crate::question::ConnectRow;
 use std::alloc::{AllocError, Global};
+use tally_answers::ConnectRow;
 use tally_clock::Clock;
 use tally_records::{List, LoginChoice, Memory};
 use tally_sessions::{DayTime, DayUserTime, Sessions, UserTime, user_rows_add_up};

@@ -1,13 +1,13 @@
 //! The answer on connect time of login records that were counted and let go.
 ghost use Rattle.std.specs.Prelude.{◌≡◌, ◌≤◌, All, IfOk, IsTrue, length, sum_by, true};
-ghost use Rattle.tally_book.specs.Answers.{HasDay, HasDays, IsAnswerOfCounts, connect_rows};
+ghost use Rattle.tally_answers.specs.Answers.{HasDay, HasDays, IsAnswerOfCounts, connect_rows};
 ghost use Rattle.tally_records.specs.Choice.{every_login};
 ghost use Rattle.tally_sessions.specs.ConnectSums.{IsAboutAll};
 ghost use Rattle.tally_sessions.specs.Days.{IsOffset, local};
 
 use crate::connect::{day_rows, day_user_rows, user_rows};
-use crate::question::{Answer, ConnectRow};
 use std::alloc::Global;
+use tally_answers::{Answer, ConnectRow};
 use tally_clock::Clock;
 use tally_records::{List, Memory};
 use tally_sessions::{

@@ -2,8 +2,8 @@ ghost use Rattle.std.specs.Prelude.{◌≡◌, ◌++◌, ◌∷◌, [], ◌<◌,
 ghost use Rattle.tally_book.specs.declared.history.Call.TheVariants.{Asked};
 
 use crate::boxed::Boxed;
-use crate::question::{Answer, Question};
 use std::alloc::Global;
+use tally_answers::{Answer, Question};
 use tally_records::Memory;
 
 /// How many records are stored.

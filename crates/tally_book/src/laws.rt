@@ -1,10 +1,10 @@
 //! Laws of books, over the definitions alone.
 ghost use Rattle.std.specs.Prelude.{◌≡◌, List};
-ghost use Rattle.tally_book.specs.Answers.{answer_of};
+ghost use Rattle.tally_answers.specs.Answers.{answer_of};
 ghost use Rattle.tally_book.specs.Books.{IsLegal};
 ghost use Rattle.tally_book.specs.Contents.{Contents};
 ghost use Rattle.tally_book.specs.Deeds.{EntriesArePosts, SameOfEachHost};
-ghost use Rattle.tally_book.specs.declared.question.Question.{Question};
+ghost use Rattle.tally_answers.specs.declared.question.Question.{Question};
 ghost use Rattle.tally_clock.specs.Rows.{ClockRows};
 ghost use Rattle.tally_sessions.specs.declared.entry.Entry.{Entry};
 ghost use Rattle.tally_usage.specs.declared.entry.ProcEntry.{ProcEntry};

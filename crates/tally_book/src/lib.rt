@@ -11,7 +11,6 @@ mod fault;
 mod history;
 mod laws;
 mod logins;
-mod question;
 mod room;
 mod storing;
 
@@ -21,5 +20,5 @@ pub use counted::connect_of_counts;
 pub use fault::{AskFault, PostFault};
 pub use history::{Call, Counts, Receipt, Served};
 pub use laws::{entries_are_posts, host_order_is_enough};
-pub use question::{Answer, ConnectRow, Question};
 pub use room::{MILLION, MOST_MILLIONS, Room};
+pub use tally_answers::{Answer, ConnectRow, Question};

@@ -6,12 +6,12 @@ ghost use Rattle.tally_sessions.specs.Lent.{entries_in};
 ghost use Rattle.tally_book.specs.inside.LoginStores.{entries_of, hosts_of, is_counted};
 ghost use Rattle.tally_book.specs.inside.Ready.{IsReady};
 
-use crate::question::Question;
 use std::alloc::Global;
 use std::hash::RandomState;
 use std::marker::Model;
 use std::mem;
 use std::thread::Threads;
+use tally_answers::Question;
 use tally_records::{Batch, Memory};
 use tally_sessions::{ENTRY_LIMIT, Entries, EntryList, HOST_LIMIT, Sessions};
 

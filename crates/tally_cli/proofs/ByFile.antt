@@ -4,10 +4,10 @@ use Rattle.std.proofs.lemmas.List.{append_assoc}
 use Rattle.std.specs.Prelude.{None, false, if◌then◌else◌, true}
 use Rattle.std.specs.List.{flat_map, range_with_len}
 use Rattle.tally_clock.specs.Rows.{ClockRows}
-use Rattle.tally_book.specs.Answers.{answer_of}
-use Rattle.tally_book.specs.declared.question.Answer.{Answer}
-use Rattle.tally_book.specs.declared.question.Question.{Question}
-use Rattle.tally_book.specs.declared.question.Question.TheVariants as questions
+use Rattle.tally_answers.specs.Answers.{answer_of}
+use Rattle.tally_answers.specs.declared.question.Answer.{Answer}
+use Rattle.tally_answers.specs.declared.question.Question.{Question}
+use Rattle.tally_answers.specs.declared.question.Question.TheVariants as questions
 use Rattle.tally_line.specs.declared.job.Job.{Job}
 use Rattle.tally_line.specs.declared.job.Report.TheVariants as report
 use Rattle.tally_records.specs.declared.batch.Kind.{Kind}

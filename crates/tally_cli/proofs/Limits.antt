@@ -6,9 +6,9 @@ use mathlib.Core.List.{IsPrefix}
 use Rattle.std.specs.List.{All}
 use Rattle.tally_book.specs.declared.fault.AskFault.{AskFault}
 use Rattle.tally_book.specs.declared.fault.AskFault.TheVariants as ask
-use Rattle.tally_book.specs.declared.question.Question.{Question}
+use Rattle.tally_answers.specs.declared.question.Question.{Question}
 use Rattle.tally_book.specs.Refusals.{IsAskRefusal}
-use Rattle.tally_book.specs.Answers.{NamesHost}
+use Rattle.tally_answers.specs.Answers.{NamesHost}
 use Rattle.tally_book.specs.Books.{IsLegal, caller_of, calls_of}
 use Rattle.tally_book.specs.Contents.{Contents}
 use Rattle.tally_book.specs.Deeds.{EntriesArePosts, deed, deeds_of}

@@ -5,7 +5,7 @@ use Rattle.std.proofs.Math.ListN.{get_or-append}
 use Rattle.std.proofs.Math.Seq.{get_or-append_seam}
 use Rattle.std.proofs.lemmas.List.{get_or-map}
 use Rattle.std.specs.List.{All, enumerate_from, flat_map}
-use Rattle.tally_book.specs.Answers.{HasDays}
+use Rattle.tally_answers.specs.Answers.{HasDays}
 use Rattle.tally_clock.specs.Rows.{ClockRows}
 use Rattle.tally_line.specs.declared.job.Form.TheVariants.{Text, Csv}
 use Rattle.tally_line.specs.declared.job.Job.{Job}

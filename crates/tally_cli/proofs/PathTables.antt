@@ -4,7 +4,7 @@ use Rattle.std.proofs.lemmas.Grind.{flat_map-append}
 use Rattle.std.proofs.lemmas.List.FromFn.{get_or-enumerate_from, get_or-range_with_len}
 use Rattle.std.specs.Prelude.{Option}
 use Rattle.std.specs.List.{enumerate_from, flat_map, range_with_len}
-use Rattle.tally_book.specs.declared.question.Answer.{Answer}
+use Rattle.tally_answers.specs.declared.question.Answer.{Answer}
 use Rattle.tally_print.specs.AttemptSections.{attempt_answer, attempt_answers}
 use Rattle.tally_print.specs.PathTable.{path_header, path_rows, path_table_text}
 use Rattle.tally_print.specs.Section.{answer_in}

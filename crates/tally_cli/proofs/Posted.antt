@@ -1,7 +1,7 @@
 -- The records of a file, as its caller posted them.
 use Rattle.std.proofs.Common.{◌≡◌, ℕ, ◌<◌, ◌≤◌, Bool, List, [], ◌∷◌, ◌++◌, Option, Some, None, length, map, get_or, refl, ap, ◌∙◌}
 use Rattle.std.specs.List.{flat_map}
-use Rattle.tally_book.specs.declared.question.Question.{Question}
+use Rattle.tally_answers.specs.declared.question.Question.{Question}
 use Rattle.tally_book.specs.Deeds.{Ask as AskDeed, Deed, logins_added, procs_added, procs_of_host}
 use Rattle.tally_book.specs.Rooms.{batches_in}
 use Rattle.tally_desk.specs.Blocks.{feed_fault}

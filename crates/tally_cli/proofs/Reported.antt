@@ -5,10 +5,10 @@ use Rattle.std.specs.Prelude.{IfErr, None, OnOk, if◌then◌else◌, slice_inde
 use Rattle.std.specs.List.{All, flat_map, range_with_len}
 use Rattle.tally_clock.specs.Rows.{ClockRows}
 use Rattle.tally_book.specs.Contents.{Contents}
-use Rattle.tally_book.specs.Answers.{answer_of}
+use Rattle.tally_answers.specs.Answers.{answer_of}
 use Rattle.tally_book.specs.Deeds.{SameOfEachHost}
-use Rattle.tally_book.specs.declared.question.Answer.{Answer}
-use Rattle.tally_book.specs.declared.question.Question.{Question}
+use Rattle.tally_answers.specs.declared.question.Answer.{Answer}
+use Rattle.tally_answers.specs.declared.question.Question.{Question}
 use Rattle.tally_desk.specs.declared.fault.FeedFault.TheVariants as feed
 use Rattle.tally_print.specs.Output.{AppendsPrefix, OutputNow, Prints, failed_calls}
 use Rattle.tally_print.specs.declared.output.PrintFault.{PrintFault}

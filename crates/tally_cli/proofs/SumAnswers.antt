@@ -1,8 +1,8 @@
 -- The answer of sums is that of the entries whose records they are of.
 use Rattle.std.proofs.Common.{◌≡◌, ◌∙◌, Bool, [], ◌∷◌, map, ap, sym}
-use Rattle.tally_book.specs.Answers.{answer_of}
-use Rattle.tally_book.specs.declared.question.Answer.{Answer}
-use Rattle.tally_book.specs.declared.question.Answer.TheVariants as answers
+use Rattle.tally_answers.specs.Answers.{answer_of}
+use Rattle.tally_answers.specs.declared.question.Answer.{Answer}
+use Rattle.tally_answers.specs.declared.question.Answer.TheVariants as answers
 use Rattle.tally_line.specs.declared.job.Report.{Report}
 use Rattle.tally_line.specs.declared.job.Report.TheVariants as report
 use Rattle.tally_usage.specs.Command.{command_rows}

@@ -5,7 +5,7 @@ use Rattle.std.proofs.lemmas.Option.{slice_get_within}
 use Rattle.std.proofs.Math.ListN.{get_or-map}
 use Rattle.std.specs.Prelude.{slice_get}
 use Rattle.std.specs.List.{filter, flat_map, sum_by}
-use Rattle.tally_book.specs.declared.question.Question.{Question}
+use Rattle.tally_answers.specs.declared.question.Question.{Question}
 use Rattle.tally_book.specs.Contents.{Contents}
 use Rattle.tally_book.specs.Deeds.{Ask as AskDeed, Deed, deed, deeds_of}
 use Rattle.tally_book.specs.Rooms.{batches_in}

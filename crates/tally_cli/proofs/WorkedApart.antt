@@ -2,7 +2,7 @@
 use Rattle.std.proofs.Common.{◌≡◌, [], ◌∷◌, ◌++◌, ℕ, ℤ, List, None, Some, false, map, refl, sym, true}
 use Rattle.std.specs.Fmt.{digits}
 use Rattle.std.specs.Prelude.{codes, pos}
-use Rattle.tally_book.specs.declared.question.Answer.TheVariants as answers
+use Rattle.tally_answers.specs.declared.question.Answer.TheVariants as answers
 use Rattle.tally_clock.specs.Rows.{ClockRows}
 use Rattle.tally_line.specs.declared.job.Form.{Form}
 use Rattle.tally_line.specs.declared.job.Form.TheVariants.{Text, Csv}

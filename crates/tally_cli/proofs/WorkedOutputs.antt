@@ -2,8 +2,8 @@
 use Rattle.std.proofs.Common.{◌≡◌, ℕ, List, [], ◌∷◌, ◌++◌, false, true, map, Option, Some, None, ℤ, pos, refl, replicate}
 use Rattle.std.specs.Fmt.{digits}
 use Rattle.std.specs.Prelude.{codes}
-use Rattle.tally_book.specs.Answers.{answer_of}
-use Rattle.tally_book.specs.declared.question.Answer.TheVariants as answers
+use Rattle.tally_answers.specs.Answers.{answer_of}
+use Rattle.tally_answers.specs.declared.question.Answer.TheVariants as answers
 use Rattle.tally_clock.specs.Days.{seconds_from}
 use Rattle.tally_clock.specs.Rows.{utc}
 use Rattle.tally_desk.specs.Batches.{records_in}

@@ -1,8 +1,8 @@
 -- Worked examples, computed by the definitions.
 use Rattle.std.proofs.Common.{◌≡◌, ⊎_elim, List, ℕ, [], ◌∷◌, ◌++◌, true, false, Ok, Err, Some, None, arith, inl, inr, map, refl}
 use Rattle.std.specs.Prelude.{pos}
-use Rattle.tally_book.specs.declared.question.Question.{Question}
-use Rattle.tally_book.specs.declared.question.Question.TheVariants as questions
+use Rattle.tally_answers.specs.declared.question.Question.{Question}
+use Rattle.tally_answers.specs.declared.question.Question.TheVariants as questions
 use Rattle.tally_book.specs.declared.fault.AskFault.TheVariants as ask
 use Rattle.tally_desk.specs.declared.fault.FeedFault.TheVariants as feed
 use Rattle.tally_records.specs.Choice.{every_login}

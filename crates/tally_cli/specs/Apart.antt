@@ -3,8 +3,8 @@ use Rattle.std.specs.Prelude.{◌+◌, ◌++◌, ◌∷◌, ◌&&◌, [], ℕ, �
 use Rattle.std.specs.Borrow.{Bor}
 use Rattle.std.specs.List.{flat_map, range_with_len}
 use Rattle.tally_clock.specs.Rows.{ClockRows}
-use Rattle.tally_book.specs.declared.question.Answer.{Answer}
-use Rattle.tally_book.specs.declared.question.Answer.TheVariants as answers
+use Rattle.tally_answers.specs.declared.question.Answer.{Answer}
+use Rattle.tally_answers.specs.declared.question.Answer.TheVariants as answers
 use Rattle.tally_line.specs.declared.job.Form.{Form}
 use Rattle.tally_line.specs.declared.job.Form.TheVariants.{Text, Csv}
 use Rattle.tally_line.specs.declared.job.Job.{Job}

@@ -4,8 +4,8 @@ use Rattle.std.specs.List.{All}
 use Rattle.tally_book.specs.Contents.{Contents}
 use Rattle.tally_book.specs.Deeds.{Ask, SameOfEachHost, deeds_of}
 use Rattle.tally_book.specs.Rooms.{batches_in}
-use Rattle.tally_book.specs.declared.question.Question.{Question}
-use Rattle.tally_book.specs.declared.question.Question.TheVariants as questions
+use Rattle.tally_answers.specs.declared.question.Question.{Question}
+use Rattle.tally_answers.specs.declared.question.Question.TheVariants as questions
 use Rattle.tally_book.specs.declared.room.TheConstants.{MILLION, MOST_MILLIONS}
 use Rattle.tally_desk.specs.Rounds.{in_rounds}
 use Rattle.tally_line.specs.declared.job.Job.{Job}

@@ -2,7 +2,7 @@
 use Rattle.std.specs.Prelude.{◌∷◌, [], ℕ, List, filter, if◌then◌else◌, map}
 use Rattle.std.specs.List.{enumerate_from, flat_map}
 use Rattle.tally_clock.specs.Rows.{ClockRows}
-use Rattle.tally_book.specs.declared.question.Answer.{Answer}
+use Rattle.tally_answers.specs.declared.question.Answer.{Answer}
 use Rattle.tally_line.specs.declared.job.Job.{Job}
 use Rattle.tally_usage.specs.Choice.{is_chosen}
 use Rattle.tally_usage.specs.declared.choice.ProcChoice.{ProcChoice}

@@ -6,7 +6,7 @@ use Rattle.std.proofs.lemmas.List.Concat.{flat_map-append}
 use Rattle.std.specs.List.{flat_map}
 use Rattle.tally_book.specs.Deeds.{Deed, Ask}
 use Rattle.tally_book.specs.Refusals.{IsAskRefusal}
-use Rattle.tally_book.specs.declared.question.Question.{Question}
+use Rattle.tally_answers.specs.declared.question.Question.{Question}
 use Rattle.tally_book.specs.declared.fault.AskFault.{AskFault}
 use Rattle.tally_desk.specs.Passes.{PassState, deeds}
 use Rattle.tally_desk.specs.Rounds.{AskStops, Asks, in_rounds}

@@ -6,8 +6,8 @@ use mathlib.Core.List.{IsPrefix}
 use Rattle.tally_book.specs.declared.history.Call.{Call}
 use Rattle.tally_book.specs.Contents.{Contents}
 use Rattle.tally_book.specs.declared.history.Call.TheVariants.{Posted, Asked}
-use Rattle.tally_book.specs.declared.question.Question.{Question}
-use Rattle.tally_book.specs.Answers.{answer_of}
+use Rattle.tally_answers.specs.declared.question.Question.{Question}
+use Rattle.tally_answers.specs.Answers.{answer_of}
 use Rattle.tally_book.specs.Books.{calls_of, caller_of, counts_of, counts_with, IsLegal, posted, asked}
 use Rattle.tally_records.specs.Records.{Records, logins_in, procs_in}
 use Rattle.tally_sessions.specs.Hosts.{posted_by}

@@ -9,8 +9,8 @@ use Rattle.tally_book.specs.declared.history.Call.TheVariants.{Posted, Asked}
 use Rattle.tally_book.specs.declared.history.Counts.{Counts}
 use Rattle.tally_book.specs.declared.history.Receipt.{Receipt}
 use Rattle.tally_book.specs.declared.history.Served.{Served}
-use Rattle.tally_book.specs.declared.question.Question.{Question}
-use Rattle.tally_book.specs.Answers.{answer_of}
+use Rattle.tally_answers.specs.declared.question.Question.{Question}
+use Rattle.tally_answers.specs.Answers.{answer_of}
 use Rattle.tally_book.specs.Books.{IsLegal, IsReceipt, IsServed, caller_of, calls_of, counts_of, counts_with, posted, asked}
 use Rattle.tally_book.specs.Contents.{Contents}
 use Rattle.tally_book.specs.Deeds.{Deed, Post, Ask, deed}

@@ -4,7 +4,7 @@ use Rattle.std.specs.List.{flat_map}
 use Rattle.tally_book.specs.Deeds.{Ask}
 use Rattle.tally_book.specs.Refusals.{IsAskRefusal}
 use Rattle.tally_book.specs.declared.fault.AskFault.{AskFault}
-use Rattle.tally_book.specs.declared.question.Question.{Question}
+use Rattle.tally_answers.specs.declared.question.Question.{Question}
 use Rattle.tally_desk.specs.Passes.{PassState, deeds}
 
 -- what the caller did between are these questions

@@ -1,7 +1,7 @@
 //! Questions that are asked of a desk in rounds.
 ghost use Rattle.std.specs.Prelude.{◌≡◌, ◌+◌, ◌*◌, ◌≤◌, ◌⊎◌, ◌∷◌, [], IfErr, IfOk, OnErr, OnOk, length};
 ghost use Rattle.std.specs.List.{All};
-ghost use Rattle.tally_book.specs.Answers.{IsAskable};
+ghost use Rattle.tally_answers.specs.Answers.{IsAskable};
 ghost use Rattle.tally_book.specs.Refusals.{IsAskRefusal};
 ghost use Rattle.tally_desk.specs.Rounds.{AskStops, Asks, in_rounds};
 ghost use Rattle.tally_desk.specs.Passes.{IsCurrent, Keeps, deeds};

@@ -3,7 +3,7 @@ ghost use Rattle.std.specs.Prelude.{◌≡◌, ◌<◌, ◌≤◌, [], ◌∷◌
 ghost use Rattle.std.specs.List.{All, sum_by};
 ghost use Rattle.std.specs.Vec.{vec_capacity};
 ghost use Rattle.tally_book.specs.declared.history.Call.TheVariants.{Asked, Posted};
-ghost use Rattle.tally_book.specs.Answers.{HasDays, IsAskable, answer_of};
+ghost use Rattle.tally_answers.specs.Answers.{HasDays, IsAskable, answer_of};
 ghost use Rattle.tally_book.specs.Books.{IsLegal, counts_of};
 ghost use Rattle.tally_book.specs.Deeds.{Ask, Post};
 ghost use Rattle.tally_book.specs.Refusals.{IsAskRefusal, IsPostRefusal};

@@ -1,6 +1,6 @@
 //! A ticket lock over a book, by the steps of a table.
 ghost use Rattle.std.specs.Prelude.{◌≡◌, ◌<◌, ◌≤◌, [], ◌∷◌, ℕ, length, List, IfOk, MatchResult, OnOk, sum_by};
-ghost use Rattle.tally_book.specs.Answers.{HasDays, IsAskable};
+ghost use Rattle.tally_answers.specs.Answers.{HasDays, IsAskable};
 ghost use Rattle.tally_book.specs.Books.{IsLegal, IsReceipt, IsServed, asked, counts_of, empty_with_room, posted};
 ghost use Rattle.tally_book.specs.Contents.{Contents};
 ghost use Rattle.tally_book.specs.Refusals.{IsAskRefusal, IsPostRefusal};

@@ -4,7 +4,7 @@ use Rattle.std.specs.Prelude.{decimal}
 use Rattle.std.proofs.lemmas.List.{append_assoc}
 use Rattle.std.proofs.lemmas.Grind.{flat_map-append}
 use Rattle.csv.specs.Writing.{default_writer, field_text, row_text}
-use Rattle.tally_book.specs.declared.question.ConnectRow.{ConnectRow}
+use Rattle.tally_answers.specs.declared.question.ConnectRow.{ConnectRow}
 use Rattle.tally_print.specs.ConnectTable.{connect_fields, day_field, user_field}
 use Rattle.tally_print.specs.Tables.{Row, asked}
 use Rattle.tally_print.specs.inside.Tables.{before_last}

@@ -6,8 +6,8 @@ use Rattle.std.proofs.lemmas.List.{append_assoc, append_cancel_left, append-nil}
 use Rattle.std.proofs.lemmas.Simd.{map-map}
 use Rattle.csv.specs.Writing.{default_writer, field_text, row_text}
 use Rattle.tally_attempts.specs.declared.attempt.Attempt.{Attempt}
-use Rattle.tally_book.specs.declared.question.Answer.{Answer}
-use Rattle.tally_book.specs.declared.question.Answer.TheVariants as answers
+use Rattle.tally_answers.specs.declared.question.Answer.{Answer}
+use Rattle.tally_answers.specs.declared.question.Answer.TheVariants as answers
 use Rattle.tally_records.specs.declared.period.Period.{Period}
 use Rattle.tally_sessions.specs.Choice.{seconds_within}
 use Rattle.tally_sessions.specs.declared.entry.Stay.{Stay}

@@ -2,7 +2,7 @@
 use Rattle.std.proofs.Common.{◌≡◌, ℕ, ℤ, ◌++◌, ◌∙◌, List, flat_map, map, ap}
 use Rattle.std.proofs.lemmas.List.Folds.{flat_map-map}
 use Rattle.csv.specs.Writing.{default_writer, row_text}
-use Rattle.tally_book.specs.declared.question.Answer.{Answer}
+use Rattle.tally_answers.specs.declared.question.Answer.{Answer}
 use Rattle.tally_print.specs.ReportTable.{answer_rows, header, table_text}
 use Rattle.tally_print.specs.Tables.{csv_text}
 use Rattle.tally_print.specs.declared.report_table.Table.{Table}

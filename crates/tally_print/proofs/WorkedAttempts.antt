@@ -5,7 +5,7 @@ use Rattle.std.specs.Prelude.{codes}
 use Rattle.csv.specs.Writing.{escaped, fields_text, is_blank}
 use Rattle.tally_attempts.specs.declared.attempt.Attempt.{Attempt}
 use Rattle.tally_attempts.specs.declared.attempt.AttemptSum.{AttemptSum}
-use Rattle.tally_book.specs.declared.question.Answer.TheVariants as answers
+use Rattle.tally_answers.specs.declared.question.Answer.TheVariants as answers
 use Rattle.tally_records.specs.Choice.{every_login}
 use Rattle.tally_records.specs.Text.{padded}
 use Rattle.tally_sessions.specs.declared.entry.Entry.{Entry}

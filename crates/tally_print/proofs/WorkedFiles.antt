@@ -3,7 +3,7 @@ use Rattle.std.proofs.Common.{◌≡◌, [], ◌∷◌, ◌++◌, List, ℕ, Opt
 use Rattle.std.specs.Fmt.{digits}
 use Rattle.std.specs.Prelude.{codes}
 use Rattle.csv.specs.Writing.{escaped, fields_text, is_blank}
-use Rattle.tally_book.specs.declared.question.ConnectRow.{ConnectRow}
+use Rattle.tally_answers.specs.declared.question.ConnectRow.{ConnectRow}
 use Rattle.tally_records.specs.Text.{padded}
 use Rattle.tally_usage.specs.Names.{names_of}
 use Rattle.tally_usage.specs.declared.command.CommandRow.{CommandRow}

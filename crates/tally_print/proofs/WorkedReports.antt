@@ -5,8 +5,8 @@ use Rattle.std.specs.Prelude.{codes}
 use Rattle.csv.specs.Machine.{next_record}
 use Rattle.csv.specs.Reading.{records_from, strip_bom}
 use Rattle.csv.specs.Writing.{fields_text, is_blank}
-use Rattle.tally_book.specs.declared.question.Answer.TheVariants as answers
-use Rattle.tally_book.specs.declared.question.ConnectRow.{ConnectRow}
+use Rattle.tally_answers.specs.declared.question.Answer.TheVariants as answers
+use Rattle.tally_answers.specs.declared.question.ConnectRow.{ConnectRow}
 use Rattle.tally_records.specs.Period.{always}
 use Rattle.tally_records.specs.Text.{padded}
 use Rattle.tally_sessions.specs.declared.entry.End.{End}

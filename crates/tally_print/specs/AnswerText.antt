@@ -1,7 +1,7 @@
 -- The text of an answer.
 use Rattle.std.specs.Prelude.{ℤ, ℕ, List, Option}
-use Rattle.tally_book.specs.declared.question.Answer.{Answer}
-use Rattle.tally_book.specs.declared.question.Answer.TheVariants as answers
+use Rattle.tally_answers.specs.declared.question.Answer.{Answer}
+use Rattle.tally_answers.specs.declared.question.Answer.TheVariants as answers
 use Rattle.tally_print.specs.AttemptText.{attempt_sums_text, attempts_text}
 use Rattle.tally_print.specs.ConnectText.{connect_text}
 use Rattle.tally_print.specs.LastText.{last_text}

@@ -1,6 +1,6 @@
 -- Connect times as a table: days as dates, users as printed, whole seconds.
 use Rattle.std.specs.Prelude.{ℕ, Bool, List, [], ◌∷◌, ◌++◌, ℤ, codes, decimal, Option, Some, None}
-use Rattle.tally_book.specs.declared.question.ConnectRow.{ConnectRow}
+use Rattle.tally_answers.specs.declared.question.ConnectRow.{ConnectRow}
 use Rattle.tally_print.specs.Tables.{Row, asked}
 use Rattle.tally_print.specs.Text.{shown, date}
 

@@ -1,6 +1,6 @@
 -- The text of a report of connect times, as ac(1) prints it.
 use Rattle.std.specs.Prelude.{ℕ, List, [], ◌++◌, flat_map, ℤ, codes, Option, Some, None}
-use Rattle.tally_book.specs.declared.question.ConnectRow.{ConnectRow}
+use Rattle.tally_answers.specs.declared.question.ConnectRow.{ConnectRow}
 use Rattle.tally_print.specs.Text.{shown, left, right, hours, date}
 
 -- the date of a row that has a day, and a blank

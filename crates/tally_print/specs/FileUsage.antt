@@ -1,6 +1,6 @@
 -- Usage of each file by itself: the line above what a file has as text, and a table with the columns of the file.
 use Rattle.std.specs.Prelude.{ℕ, Bool, List, ◌++◌, codes, Option}
-use Rattle.tally_book.specs.declared.question.ConnectRow.{ConnectRow}
+use Rattle.tally_answers.specs.declared.question.ConnectRow.{ConnectRow}
 use Rattle.tally_usage.specs.declared.command.CommandRow.{CommandRow}
 use Rattle.tally_usage.specs.declared.user.UidRow.{UidRow}
 use Rattle.tally_print.specs.ConnectTable.{connect_fields, connect_header}

@@ -1,7 +1,7 @@
 -- Stays and failed logins as tables with the path of each file, as it was given.
 use Rattle.std.specs.Prelude.{ℕ, ℤ, List, [], ◌∷◌, codes, flat_map, get_or, map}
 use Rattle.std.specs.List.{enumerate_from}
-use Rattle.tally_book.specs.declared.question.Answer.{Answer}
+use Rattle.tally_answers.specs.declared.question.Answer.{Answer}
 use Rattle.tally_print.specs.ReportTable.{answer_rows, header}
 use Rattle.tally_print.specs.Tables.{Row, csv_text}
 use Rattle.tally_print.specs.Text.{shown}

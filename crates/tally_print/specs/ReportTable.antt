@@ -1,8 +1,8 @@
 -- A report as one table: the names of its columns, and the rows of its answers.
 use Rattle.std.specs.Prelude.{ℕ, ℤ, Bool, false, List, [], ◌∷◌, flat_map, map, None, Some}
-use Rattle.tally_book.specs.declared.question.Answer.{Answer}
-use Rattle.tally_book.specs.declared.question.Answer.TheVariants as answers
-use Rattle.tally_book.specs.declared.question.ConnectRow.{ConnectRow}
+use Rattle.tally_answers.specs.declared.question.Answer.{Answer}
+use Rattle.tally_answers.specs.declared.question.Answer.TheVariants as answers
+use Rattle.tally_answers.specs.declared.question.ConnectRow.{ConnectRow}
 use Rattle.tally_print.specs.AttemptTable.{attempt_fields, attempt_header, attempt_sum_fields, attempt_sum_header}
 use Rattle.tally_print.specs.ConnectTable.{connect_fields, connect_header}
 use Rattle.tally_print.specs.StayTable.{part_fields, part_header, stay_fields, stay_header}

@@ -1,7 +1,7 @@
 -- A section of an output, and the answer that it prints.
 use Rattle.std.specs.Prelude.{ℕ, ◌<◌, List}
-use Rattle.tally_book.specs.declared.question.Answer.{Answer}
-use Rattle.tally_book.specs.declared.question.Answer.TheVariants as answers
+use Rattle.tally_answers.specs.declared.question.Answer.{Answer}
+use Rattle.tally_answers.specs.declared.question.Answer.TheVariants as answers
 use Rattle.tally_sessions.specs.Totals.{first_time, latest_stays}
 use Rattle.tally_sessions.specs.declared.entry.Entry.{Entry}
 use Rattle.tally_print.specs.declared.section.Section.{Section}

@@ -1,6 +1,6 @@
 -- The text of several answers: a section for each.
 use Rattle.std.specs.Prelude.{ℕ, ℤ, List, [], ◌∷◌, ◌++◌, Option, flat_map, map}
-use Rattle.tally_book.specs.declared.question.Answer.{Answer}
+use Rattle.tally_answers.specs.declared.question.Answer.{Answer}
 use Rattle.tally_print.specs.AnswerText.{answer_text}
 
 -- texts with an empty line between each two

@@ -1,4 +1,4 @@
-ghost use Rattle.tally_book.specs.Answers.{HasDays};
+ghost use Rattle.tally_answers.specs.Answers.{HasDays};
 ghost use Rattle.tally_print.specs.AnswerText.{answer_text};
 ghost use Rattle.tally_sessions.specs.Days.{IsOffset, local};
 ghost use Rattle.tally_print.specs.Output.{IsWritable, Prints, failed_calls};
@@ -8,7 +8,7 @@ use crate::{
     print_last, print_users,
 };
 use std::alloc::Global;
-use tally_book::Answer;
+use tally_answers::Answer;
 use tally_clock::Clock;
 
 /// Prints an answer as its kind of report, moments by a clock with an offset in minutes east of it,

@@ -1,5 +1,5 @@
 ghost use Rattle.std.specs.Prelude.{◌≡◌, ◌++◌, All, IfSome, None, OnOk};
-ghost use Rattle.tally_book.specs.Answers.{HasDay};
+ghost use Rattle.tally_answers.specs.Answers.{HasDay};
 ghost use Rattle.tally_sessions.specs.Days.{IsDay};
 ghost use Rattle.tally_print.specs.Output.{IsWritable, Prints, failed_calls};
 ghost use Rattle.tally_print.specs.Text.{left};
@@ -12,7 +12,7 @@ use crate::put::{new_page, put_all};
 use crate::text::{push_left, push_left_shown, push_right_hours};
 use crate::{Output, PrintFault};
 use std::alloc::{AllocError, Global};
-use tally_book::ConnectRow;
+use tally_answers::ConnectRow;
 use tally_records::Name;
 
 fn push_day(line: &mut Vec<u8>, day: Option<i32>) -> Result<(), AllocError>

@@ -1,7 +1,7 @@
 //! Connect times as CSV.
 ghost use Rattle.std.specs.Prelude.{◌≡◌, ◌++◌, IfSome, OnOk, refl};
 ghost use Rattle.csv.specs.Writing.{default_writer, row_text};
-ghost use Rattle.tally_book.specs.Answers.{HasDay};
+ghost use Rattle.tally_answers.specs.Answers.{HasDay};
 ghost use Rattle.tally_sessions.specs.Days.{IsDay};
 ghost use Rattle.tally_print.specs.ConnectTable.{connect_fields, connect_header, day_field, user_field};
 ghost use Rattle.tally_print.specs.Tables.{asked};
@@ -11,7 +11,7 @@ use crate::fields::{push_date_field, push_seconds, push_shown_field};
 use crate::lines::{Fields, Line};
 use crate::printed_day::PrintedDays;
 use std::alloc::AllocError;
-use tally_book::ConnectRow;
+use tally_answers::ConnectRow;
 use tally_records::Name;
 
 fn push_day(line: &mut Vec<u8>, by_day: bool, day: Option<i32>) -> Result<(), AllocError>

@@ -1,7 +1,7 @@
 //! Usage of each file by itself: what stands around it as text, and its rows as CSV, after the columns of the file.
 ghost use Rattle.std.specs.Prelude.{◌≡◌, ◌++◌, ◌∷◌, [], All, OnOk, codes, flat_map, map, ⊤};
 ghost use Rattle.csv.specs.Writing.{default_writer, row_text};
-ghost use Rattle.tally_book.specs.Answers.{HasDay};
+ghost use Rattle.tally_answers.specs.Answers.{HasDay};
 ghost use Rattle.tally_print.specs.FileColumns.{columns_of, rows_after};
 ghost use Rattle.tally_print.specs.FileUsage.{file_command_rows, file_connect_rows, file_header, file_named_user_rows, file_user_rows, header_of, path_line};
 ghost use Rattle.tally_print.specs.Output.{IsWritable, Prints, failed_calls};
@@ -21,7 +21,7 @@ use crate::text::shown_byte;
 use crate::usage_table::{CommandFields, UserFields, command_header, user_header};
 use crate::{FileColumns, Output, PrintFault};
 use std::alloc::{AllocError, Global};
-use tally_book::ConnectRow;
+use tally_answers::ConnectRow;
 use tally_usage::{CommandRow, UidRow, UserNames};
 
 /// Which table the usage of each file is as CSV: this says its columns after those of the file.

@@ -1,7 +1,7 @@
 //! A report as one table.
 ghost use Rattle.std.specs.Prelude.{◌≡◌, All};
 ghost use Rattle.csv.specs.Writing.{default_writer, row_text};
-ghost use Rattle.tally_book.specs.Answers.{HasDays};
+ghost use Rattle.tally_answers.specs.Answers.{HasDays};
 ghost use Rattle.tally_sessions.specs.Days.{IsOffset, local};
 ghost use Rattle.tally_print.specs.Output.{IsWritable, Prints, failed_calls};
 ghost use Rattle.tally_print.specs.ReportTable.{answer_rows, header, table_text};
@@ -18,7 +18,7 @@ use crate::stay_table::{StayFields, stay_header};
 use crate::usage_table::{CommandFields, UserFields, command_header, user_header};
 use crate::{Output, PrintFault};
 use std::alloc::Global;
-use tally_book::Answer;
+use tally_answers::Answer;
 use tally_clock::Clock;
 use tally_records::Period;
 

@@ -1,6 +1,6 @@
 //! Sections of an output, of which those of stays hold no list.
 ghost use Rattle.std.specs.Prelude.{◌≡◌, ◌<◌, All, map};
-ghost use Rattle.tally_book.specs.Answers.{HasDays};
+ghost use Rattle.tally_answers.specs.Answers.{HasDays};
 ghost use Rattle.tally_print.specs.AnswerText.{answer_text};
 ghost use Rattle.tally_print.specs.Output.{IsWritable, Prints, failed_calls};
 ghost use Rattle.tally_print.specs.ReportTable.{answer_rows, table_text};
@@ -21,7 +21,7 @@ use crate::stay_table::StayFields;
 use crate::stays::put_stays;
 use crate::{Output, PrintFault, Table, print_answer};
 use std::alloc::Global;
-use tally_book::Answer;
+use tally_answers::Answer;
 use tally_clock::Clock;
 use tally_records::LoginChoice;
 use tally_sessions::{Sessions, Stay};

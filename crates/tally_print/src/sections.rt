@@ -1,6 +1,6 @@
 //! Several answers, a section for each.
 ghost use Rattle.std.specs.Prelude.{All};
-ghost use Rattle.tally_book.specs.Answers.{HasDays};
+ghost use Rattle.tally_answers.specs.Answers.{HasDays};
 ghost use Rattle.tally_print.specs.Output.{IsWritable, Prints, failed_calls};
 ghost use Rattle.tally_print.specs.Sections.{sections_text};
 ghost use Rattle.tally_sessions.specs.Days.{IsOffset, local};
@@ -8,7 +8,7 @@ ghost use Rattle.tally_sessions.specs.Days.{IsOffset, local};
 use crate::put::put_all;
 use crate::{Output, PrintFault, print_answer};
 use std::alloc::Global;
-use tally_book::Answer;
+use tally_answers::Answer;
 use tally_clock::Clock;
 
 /// Prints the answers, each as its kind of report, with an empty line between each two, moments by

@@ -2,8 +2,8 @@
 ghost use Rattle.std.specs.Prelude.{◌≡◌, ◌<◌, ◌^◌, ℤ, All, Bool, List, map};
 ghost use Rattle.csv.specs.Reading.{default_config, records};
 ghost use Rattle.csv.specs.Writing.{read_back};
-ghost use Rattle.tally_book.specs.declared.question.Answer.{Answer};
-ghost use Rattle.tally_book.specs.declared.question.ConnectRow.{ConnectRow};
+ghost use Rattle.tally_answers.specs.declared.question.Answer.{Answer};
+ghost use Rattle.tally_answers.specs.declared.question.ConnectRow.{ConnectRow};
 ghost use Rattle.tally_print.specs.ConnectTable.{connect_fields};
 ghost use Rattle.tally_print.specs.ReportTable.{report_rows, table_text};
 ghost use Rattle.tally_print.specs.Tables.{Row, csv_rows, csv_text, last_number};

@@ -1,6 +1,6 @@
 //! Answers of a book to questions on failed logins.
 ghost use Rattle.std.specs.Prelude.{◌≡◌, ◌<◌};
-ghost use Rattle.tally_book.specs.Answers.{IsAskable, NamesHostBelow};
+ghost use Rattle.tally_answers.specs.Answers.{IsAskable, NamesHostBelow};
 
 use crate::equal::expect_equal;
 use crate::makers::login_record;

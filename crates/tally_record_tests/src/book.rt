@@ -1,5 +1,5 @@
 //! The limits of a book.
-ghost use Rattle.tally_book.specs.Answers.{IsAskable};
+ghost use Rattle.tally_answers.specs.Answers.{IsAskable};
 
 use crate::equal::expect_equal;
 use crate::makers::repeated;

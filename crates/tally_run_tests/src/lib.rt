@@ -1,4 +1,4 @@
-//! Tests of the command line and of whole runs, with inputs, outputs and gates that are made for them.
+//! Tests of whole runs, with inputs, outputs and gates that are made for them.
 #![tactic(auto)]
 
 #[cfg(test)]

@@ -1,97 +1,14 @@
-//! Scripts over the calls of the crates that memory can be refused to. A refused call leaves things as
-//! they were and is begun again once, so that what is printed is the same with and without a refusal.
-//! Calls that take no memory are made while each growth is refused.
+//! The scripts of `tally_scripts`, and among them a whole run that memory is refused to.
 #![tactic(auto)]
 
-mod book;
-mod bytes;
-mod days;
-mod desk;
-mod entries;
-mod feeds;
-mod held;
-mod printing;
-mod quiet;
-mod reports;
 mod runs;
-mod sections;
-mod session_answers;
-mod sessions;
-mod stopped;
-mod summary;
-mod watched;
-mod window;
-mod words;
 
-use crate::desk::Calls;
-use crate::stopped::Stopped;
 use std::hash::RandomState;
 use std::process::ExitCode;
 use std::random::RandomSource;
 use std::sync::Wait;
 use std::thread::Threads;
-
-/// The scripts, each of which prints what its calls answer.
-#[derive(Clone, Copy)]
-enum Script {
-    Sessions,
-    Summary,
-    Entries,
-    Book,
-    Work,
-    Nights,
-    Sections,
-    Desk(Calls),
-    List,
-    Batches,
-    Input,
-    Output,
-    Runs,
-    Words,
-}
-
-/// The scripts in their order.
-const SCRIPTS: [Script; 16] = [
-    Script::Sessions,
-    Script::Summary,
-    Script::Entries,
-    Script::Book,
-    Script::Work,
-    Script::Nights,
-    Script::Sections,
-    Script::Desk(Calls::All),
-    Script::Desk(Calls::Feeds),
-    Script::List,
-    Script::Batches,
-    Script::Input,
-    Script::Output,
-    Script::Desk(Calls::Numbers),
-    Script::Runs,
-    Script::Words,
-];
-
-fn print<R: Print + AllocGlobal + Threads + Wait + Sync>(
-    rt: &R,
-    keys: RandomState,
-    script: Script,
-) -> Result<(), Stopped> {
-    match script {
-        Script::Sessions => sessions::script(rt, keys),
-        Script::Summary => summary::script(rt, keys),
-        Script::Entries => entries::script(rt, keys),
-        Script::Book => book::script(rt, keys),
-        Script::Work => reports::script(rt, keys),
-        Script::Nights => reports::nights(rt, keys),
-        Script::Sections => sections::script(rt, keys),
-        Script::Desk(calls) => desk::script(rt, keys, calls),
-        Script::List => quiet::print_list(rt),
-        Script::Batches => quiet::print_batches(rt),
-        Script::Input => quiet::print_input(rt),
-        Script::Output => quiet::print_output(rt),
-        Script::Runs => runs::script(rt, keys),
-        Script::Words => words::script(rt),
-    }
-}
+use tally_scripts::{Stopped, print_scripts, print_words};
 
 /// Runs the scripts.
 fn scripts<R: Print + AllocGlobal + RandomSource + Threads + Wait + Sync>(
@@ -100,10 +17,9 @@ fn scripts<R: Print + AllocGlobal + RandomSource + Threads + Wait + Sync>(
     let Ok(keys) = RandomState::new(rt) else {
         return Err(Stopped::Refused("random bytes"));
     };
-    for script in SCRIPTS {
-        print(rt, keys, script)?;
-    }
-    Ok(())
+    print_scripts(rt, keys)?;
+    runs::script(rt, keys)?;
+    print_words(rt)
 }
 
 fn main(rt: HostRuntime) -> ExitCode {

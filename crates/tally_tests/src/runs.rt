@@ -1,9 +1,6 @@
 //! A run of all reports over two login files in memory, with two feeders and an asker.
 ghost use Rattle.std.specs.Prelude.{◌≡◌, IfOk};
 
-use crate::bytes::{login_record, put};
-use crate::stopped::{Stopped, after};
-use crate::watched::{Watched, print_watched};
 use std::alloc::{AllocError, Global};
 use std::hash::RandomState;
 use std::sync::Wait;
@@ -13,6 +10,7 @@ use tally_cli::{FilesApart, Form, Job, Report, RunFault, Source, run};
 use tally_clock::Clock;
 use tally_desk::{Bytes, FeedFault, OpenGate};
 use tally_records::Kind;
+use tally_scripts::{Stopped, Watched, after, login_record, print_watched, put};
 
 /// All reports, by two feeders and beside an asker.
 const JOB: Job = Job {

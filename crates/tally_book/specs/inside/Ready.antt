@@ -1,7 +1,7 @@
 -- Which questions are about sessions.
 use Rattle.std.specs.Prelude.{◌≡◌, Bool, true}
-use Rattle.tally_book.specs.declared.question.Question.{Question}
-use Rattle.tally_book.specs.declared.question.Question.TheVariants.{Last, Connect, Commands, Users, Attempts, AttemptSums}
+use Rattle.tally_answers.specs.declared.question.Question.{Question}
+use Rattle.tally_answers.specs.declared.question.Question.TheVariants.{Last, Connect, Commands, Users, Attempts, AttemptSums}
 
 -- the sessions are kept where a question is about them
 abbrev pub IsReady : Question → Bool → Type 0

@@ -2,8 +2,8 @@
 use Rattle.std.specs.Prelude.{ℕ, ◌≤◌}
 use Rattle.tally_book.specs.declared.fault.AskFault.{AskFault}
 use Rattle.tally_book.specs.declared.fault.AskFault.TheVariants as ask
-use Rattle.tally_book.specs.declared.question.Question.{Question}
-use Rattle.tally_book.specs.Answers.{NamesHost}
+use Rattle.tally_answers.specs.declared.question.Question.{Question}
+use Rattle.tally_answers.specs.Answers.{NamesHost}
 
 -- the fault names the question's host, which is none of so many
 abbrev pub IsNoSuchHost : ℕ → Question → AskFault → Type 0

@@ -1,6 +1,6 @@
 -- The seconds of rows of connect times.
 use Rattle.std.specs.Prelude.{◌≡◌, ◌<◌, ◌^◌, ℕ, List, sum_by}
-use Rattle.tally_book.specs.declared.question.ConnectRow.{ConnectRow}
+use Rattle.tally_answers.specs.declared.question.ConnectRow.{ConnectRow}
 
 -- the seconds of rows
 abbrev pub seconds_of : List ConnectRow → ℕ

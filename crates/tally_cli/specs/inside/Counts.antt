@@ -1,8 +1,8 @@
 -- What the counts of files of process records come to.
 use Rattle.std.specs.Prelude.{◌≡◌, ◌<◌, ◌≤◌, ◌+◌, ◌∷◌, [], ℕ, ℤ, Bool, List, Option, Some, true, ⊤, flat_map, length, map, slice_index_or, take}
 use Rattle.std.specs.List.{All}
-use Rattle.tally_book.specs.Answers.{answer_of}
-use Rattle.tally_book.specs.declared.question.Answer.{Answer}
+use Rattle.tally_answers.specs.Answers.{answer_of}
+use Rattle.tally_answers.specs.declared.question.Answer.{Answer}
 use Rattle.tally_clock.specs.Rows.{ClockRows}
 use Rattle.tally_desk.specs.Counting.{IsCounted, IsCountFault}
 use Rattle.tally_desk.specs.declared.fault.CountFault.{CountFault}

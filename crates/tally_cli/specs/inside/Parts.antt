@@ -1,9 +1,9 @@
 -- The parts of a report by file.
 use Rattle.std.specs.Prelude.{◌≡◌, ◌++◌, ◌<◌, ◌∷◌, [], ℕ, ℤ, Bool, List, Option, Some, None, ⊤, length, map, if◌then◌else◌, option_map, slice_index_or}
 use Rattle.std.specs.Borrow.{Bor}
-use Rattle.tally_book.specs.Answers.{HasDays, answer_of}
-use Rattle.tally_book.specs.declared.question.Answer.{Answer}
-use Rattle.tally_book.specs.declared.question.Question.TheVariants as questions
+use Rattle.tally_answers.specs.Answers.{HasDays, answer_of}
+use Rattle.tally_answers.specs.declared.question.Answer.{Answer}
+use Rattle.tally_answers.specs.declared.question.Question.TheVariants as questions
 use Rattle.tally_clock.specs.Rows.{ClockRows}
 use Rattle.tally_line.specs.declared.job.Job.{Job}
 use Rattle.tally_line.specs.declared.job.Report.{Report}

@@ -1,7 +1,7 @@
 -- What a worker does of its tasks.
 use Rattle.std.specs.Prelude.{◌≡◌, ◌<◌, ℕ, Bool, List, Option, Some, true, ⊤, length, slice_index_or}
 use Rattle.std.specs.List.{All, Contains}
-use Rattle.tally_book.specs.declared.question.Question.{Question}
+use Rattle.tally_answers.specs.declared.question.Question.{Question}
 use Rattle.tally_book.specs.Rooms.{batches_in}
 use Rattle.tally_desk.specs.Feeds.{Counts, IsFeedRefusal, IsStopped, IsWhole, Posts, Stops}
 use Rattle.tally_desk.specs.Passes.{DeskState, Keeps, PassState}

@@ -1,7 +1,7 @@
 //! Connect time by file: that of each file alone, and then that of all.
 ghost use Rattle.std.specs.Prelude.{◌≡◌, ◌++◌, ◌<◌, ◌≤◌, None, IfErr, IfOk, length, map, true};
 ghost use Rattle.std.specs.List.{All, flat_map, range_with_len};
-ghost use Rattle.tally_book.specs.Answers.{HasDays};
+ghost use Rattle.tally_answers.specs.Answers.{HasDays};
 ghost use Rattle.tally_cli.specs.Apart.{apart_of, by_file_text, file_table, files_head, files_tail, is_by_file};
 ghost use Rattle.tally_cli.specs.Output.{report_text};
 ghost use Rattle.tally_cli.specs.Runs.{failed_writes};

@@ -1,7 +1,7 @@
 //! The two forms of a report: text in sections, and one table in CSV.
 ghost use Rattle.std.specs.Prelude.{◌≡◌, ◌≤◌, map};
 ghost use Rattle.std.specs.List.{All};
-ghost use Rattle.tally_book.specs.Answers.{HasDays};
+ghost use Rattle.tally_answers.specs.Answers.{HasDays};
 ghost use Rattle.tally_line.specs.declared.job.Report.TheVariants as reports;
 ghost use Rattle.tally_print.specs.AttemptSections.{attempt_answers};
 ghost use Rattle.tally_print.specs.Output.{IsWritable, Prints, failed_calls};

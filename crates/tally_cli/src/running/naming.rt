@@ -1,6 +1,6 @@
 //! Answers on processes, printed with the names of users where they are given.
 ghost use Rattle.std.specs.Prelude.{◌≡◌, ◌∷◌, []};
-ghost use Rattle.tally_book.specs.Answers.{HasDays};
+ghost use Rattle.tally_answers.specs.Answers.{HasDays};
 ghost use Rattle.tally_cli.specs.Apart.{answers_text, named_text, names_given};
 ghost use Rattle.tally_print.specs.Output.{IsWritable, Prints, failed_calls};
 ghost use Rattle.tally_sessions.specs.Days.{IsOffset};

@@ -1,7 +1,7 @@
 //! A report by file: each file's part of it.
 ghost use Rattle.std.specs.Prelude.{◌≡◌, ◌++◌, ◌∷◌, ◌<◌, [], IfSome, OnOk, codes};
 ghost use Rattle.std.specs.List.{All, flat_map};
-ghost use Rattle.tally_book.specs.Answers.{HasDays};
+ghost use Rattle.tally_answers.specs.Answers.{HasDays};
 ghost use Rattle.tally_cli.specs.Apart.{answers_text, apart_of, columns_at, file_rows, file_table, names_given};
 ghost use Rattle.tally_cli.specs.Usages.{IsUsage};
 ghost use Rattle.tally_cli.specs.inside.Parts.{HasPart, IsWithPart, part_text, report_lent};

@@ -1,7 +1,7 @@
 //! A report as a table with the paths of files.
 ghost use Rattle.std.specs.Prelude.{◌≡◌, ◌<◌, ◌≤◌, IfErr, length, map};
 ghost use Rattle.std.specs.List.{All, enumerate_from, flat_map};
-ghost use Rattle.tally_book.specs.Answers.{HasDays};
+ghost use Rattle.tally_answers.specs.Answers.{HasDays};
 ghost use Rattle.tally_cli.specs.Apart.{apart_of, path_csv_of};
 ghost use Rattle.tally_cli.specs.Output.{answers_of, table_of};
 ghost use Rattle.tally_cli.specs.Runs.{failed_writes};

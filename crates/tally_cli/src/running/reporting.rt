@@ -1,7 +1,7 @@
 //! The job's report on the closed book, printed.
 ghost use Rattle.std.specs.Prelude.{◌≡◌, ◌<◌, ◌≤◌, [], IfErr, IfOk, OnOk, length, map};
 ghost use Rattle.std.specs.List.{All, list_any};
-ghost use Rattle.tally_book.specs.Answers.{HasDays, answer_of};
+ghost use Rattle.tally_answers.specs.Answers.{HasDays, answer_of};
 ghost use Rattle.tally_cli.specs.Apart.{apart_of, apart_text};
 ghost use Rattle.tally_cli.specs.Output.{form_text, questions_of, report_text};
 ghost use Rattle.tally_cli.specs.Runs.{failed_writes};

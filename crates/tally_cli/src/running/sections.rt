@@ -1,7 +1,7 @@
 //! The sections of an output: their questions and answers.
 ghost use Rattle.std.specs.Prelude.{◌≡◌, ◌+◌, ◌<◌, ◌≤◌, ◌∷◌, [], IfOk, OnOk, length, map};
 ghost use Rattle.std.specs.List.{All};
-ghost use Rattle.tally_book.specs.Answers.{HasDays, IsAskable, NamesHostBelow, answer_of};
+ghost use Rattle.tally_answers.specs.Answers.{HasDays, IsAskable, NamesHostBelow, answer_of};
 ghost use Rattle.tally_book.specs.Books.{asked};
 ghost use Rattle.tally_cli.specs.Output.{attempts_asked, is_wanted, questions_of, stays_asked};
 ghost use Rattle.tally_cli.specs.inside.Asked.{IsAskedOnce};

@@ -1,7 +1,7 @@
 //! A run that reports the connect time of all sessions: files are counted, and no record is kept.
 ghost use Rattle.std.specs.Prelude.{◌≡◌, ◌+◌, ◌<◌, ◌≤◌, ◌↔◌, [], ◌∷◌, ℕ, IfErr, IfOk, IsTrue, List, OnOk, length, sum_by, true};
 ghost use Rattle.std.specs.List.{All};
-ghost use Rattle.tally_book.specs.Answers.{HasDays};
+ghost use Rattle.tally_answers.specs.Answers.{HasDays};
 ghost use Rattle.tally_cli.specs.Apart.{Apart, apart_of};
 ghost use Rattle.tally_cli.specs.Output.{form_text, report_text};
 ghost use Rattle.tally_cli.specs.Runs.{IsFailedRun, IsReadable, IsWholeRun, failed_writes};

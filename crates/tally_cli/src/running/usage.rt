@@ -1,7 +1,7 @@
 //! A run that reports on processes: files are counted, and no record is kept.
 ghost use Rattle.std.specs.Prelude.{◌≡◌, ◌+◌, ◌<◌, ◌≤◌, ◌↔◌, ◌∷◌, [], Err, IfErr, IfOk, IsTrue, List, OnErr, OnOk, length, map};
 ghost use Rattle.std.specs.List.{All};
-ghost use Rattle.tally_book.specs.Answers.{HasDays};
+ghost use Rattle.tally_answers.specs.Answers.{HasDays};
 ghost use Rattle.tally_cli.specs.Output.{answers_of};
 ghost use Rattle.tally_cli.specs.Runs.{IsReadable, IsWrongNumber, Told};
 ghost use Rattle.tally_cli.specs.Apart.{answers_text, names_given};

@@ -1,6 +1,6 @@
 //! The worked script of a desk of two callers: a post of the first, a report of the second, and then the other way round.
 ghost use Rattle.std.specs.Prelude.{◌≡◌};
-ghost use Rattle.tally_book.specs.Answers.{IsAskable};
+ghost use Rattle.tally_answers.specs.Answers.{IsAskable};
 
 use crate::desk::makers::{hour, makes};
 use std::alloc::Global;

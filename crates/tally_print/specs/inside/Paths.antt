@@ -2,8 +2,8 @@
 use Rattle.std.specs.Prelude.{◌≡◌, ℕ, ℤ, ◌+◌, ◌∷◌, List, [], decimal, drop, refl}
 use Rattle.csv.specs.Writing.{is_blank}
 use Rattle.tally_attempts.specs.declared.attempt.Attempt.{Attempt}
-use Rattle.tally_book.specs.declared.question.Answer.{Answer}
-use Rattle.tally_book.specs.declared.question.Answer.TheVariants as answers
+use Rattle.tally_answers.specs.declared.question.Answer.{Answer}
+use Rattle.tally_answers.specs.declared.question.Answer.TheVariants as answers
 use Rattle.tally_records.specs.declared.period.Period.{Period}
 use Rattle.tally_sessions.specs.declared.entry.Stay.{Stay}
 use Rattle.tally_print.specs.AttemptTable.{attempt_fields}

@@ -1,13 +1,13 @@
 //! Failed logins and their sums, as lines and as tables.
 ghost use Rattle.std.specs.Prelude.{◌≤◌, length};
-ghost use Rattle.tally_book.specs.Answers.{HasDays};
+ghost use Rattle.tally_answers.specs.Answers.{HasDays};
 ghost use Rattle.tally_sessions.specs.Days.{IsOffset};
 
 use super::{berlin, is_printed, name};
 use std::alloc::Global;
 use std::process::Abort;
+use tally_answers::Answer;
 use tally_attempts::{Attempt, AttemptSum};
-use tally_book::Answer;
 use tally_clock::Clock;
 use tally_print::{Kept, Table, print_attempt_sums, print_attempts, print_table};
 use tally_records::{List, Remote};

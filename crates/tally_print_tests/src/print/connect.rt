@@ -1,12 +1,12 @@
 //! The lines of ac(1).
 ghost use Rattle.std.specs.Prelude.{◌≡◌, ◌≤◌, ◌↔◌, All, IfSome, None, length};
-ghost use Rattle.tally_book.specs.Answers.{HasDay};
+ghost use Rattle.tally_answers.specs.Answers.{HasDay};
 ghost use Rattle.tally_sessions.specs.Days.{IsDay};
 
 use super::{is_printed, name};
 use std::alloc::Global;
 use std::process::Abort;
-use tally_book::ConnectRow;
+use tally_answers::ConnectRow;
 use tally_print::{Kept, print_connect};
 
 /// Asserts that the rows and the total print this text.

@@ -1,11 +1,11 @@
 //! Tables of each file by itself.
 ghost use Rattle.std.specs.Prelude.{All};
-ghost use Rattle.tally_book.specs.Answers.{HasDay};
+ghost use Rattle.tally_answers.specs.Answers.{HasDay};
 
 use super::{command, is_printed, name};
 use std::alloc::Global;
 use std::process::Abort;
-use tally_book::ConnectRow;
+use tally_answers::ConnectRow;
 use tally_print::{
     FileColumns, FileTable, Kept, print_file_commands, print_file_connect, print_file_header,
     print_file_users,

@@ -1,6 +1,6 @@
 //! Sections of stays, beside the printers of the answers that they stand for.
 ghost use Rattle.std.specs.Prelude.{◌≡◌, ◌+◌, ◌<◌, ◌≤◌, length};
-ghost use Rattle.tally_book.specs.Answers.{HasDays};
+ghost use Rattle.tally_answers.specs.Answers.{HasDays};
 ghost use Rattle.tally_print.specs.Section.{NamesHostBelow, answer_in};
 ghost use Rattle.tally_sessions.specs.Days.{IsOffset};
 
@@ -10,7 +10,8 @@ use std::hash::RandomState;
 use std::process::Abort;
 use std::random::RandomSource;
 use std::thread::Threads;
-use tally_book::{Answer, Book};
+use tally_answers::Answer;
+use tally_book::Book;
 use tally_clock::Clock;
 use tally_print::{
     Kept, Section, Table, print_all_sections, print_last, print_path_header, print_path_section,

@@ -1,12 +1,12 @@
 //! Tables as CSV.
 ghost use Rattle.std.specs.Prelude.{◌≡◌, ◌≤◌, ◌↔◌, All, length};
-ghost use Rattle.tally_book.specs.Answers.{HasDay, HasDays};
+ghost use Rattle.tally_answers.specs.Answers.{HasDay, HasDays};
 ghost use Rattle.tally_sessions.specs.Days.{IsDay, IsOffset};
 
 use super::{berlin, boot, command, is_printed, login, name};
 use std::alloc::Global;
 use std::process::Abort;
-use tally_book::{Answer, ConnectRow};
+use tally_answers::{Answer, ConnectRow};
 use tally_clock::Clock;
 use tally_print::{Kept, Table, print_table};
 use tally_records::{List, Period};

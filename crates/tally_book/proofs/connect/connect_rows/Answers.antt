@@ -1,6 +1,6 @@
 use Rattle.std.proofs.Common.{◌∙◌, ap, map}
 use Rattle.std.proofs.lemmas.Result.{IfOk-weaker}
-use Rattle.tally_book.specs.Answers.{row_of_day, row_of_day_user}
+use Rattle.tally_answers.specs.Answers.{row_of_day, row_of_day_user}
 use Rattle.tally_book.proofs.RowDays.{day_rows_have_days, day_user_rows_have_days}
 use Rattle.tally_book.proofs.connect.connect_rows.Goals as goal
 

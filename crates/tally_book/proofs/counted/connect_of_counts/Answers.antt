@@ -1,6 +1,6 @@
 use Rattle.std.proofs.Common.{◌≡◌, ◌∙◌, ℤ, Bool, FitsSigned, true, false, List, Option, map, refl, sym, ap, to_z-of_z, w32}
-use Rattle.tally_book.specs.declared.question.Answer.TheVariants as answers
-use Rattle.tally_book.specs.Answers.{answer_of, connect_rows, row_of_day, row_of_day_user, row_of_user}
+use Rattle.tally_answers.specs.declared.question.Answer.TheVariants as answers
+use Rattle.tally_answers.specs.Answers.{answer_of, connect_rows, row_of_day, row_of_day_user, row_of_user}
 use Rattle.tally_records.specs.Choice.{every_login}
 use Rattle.tally_records.specs.declared.choice.LoginChoice.{LoginChoice}
 use Rattle.tally_sessions.specs.Days.{local}

@@ -2,7 +2,7 @@ use Rattle.std.proofs.Common.{◌≡◌, ap, ◌∷◌, Err, flat_map, FitsSigne
 use Rattle.std.proofs.lemmas.Int.{to_z-of_z}
 use Rattle.std.proofs.lemmas.List.{take_all}
 use Rattle.std.proofs.lemmas.List.Elements.{All-get_or, All-rest}
-use Rattle.tally_book.specs.Answers.{HasDays}
+use Rattle.tally_answers.specs.Answers.{HasDays}
 use Rattle.tally_sessions.specs.Days.{local}
 use Rattle.tally_print.specs.AnswerText.{answer_text}
 use Rattle.tally_print.specs.Output.{Prints, failed_calls}

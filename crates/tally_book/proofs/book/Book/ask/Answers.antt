@@ -3,7 +3,7 @@ use Rattle.std.proofs.lemmas.Result.{err_from_is_err_and}
 use Rattle.tally_sessions.specs.declared.entry.Entry.{Entry}
 use Rattle.tally_book.specs.declared.book.Book.TheInside.{Inside}
 use Rattle.tally_book.specs.declared.history.Call.TheVariants.{Asked}
-use Rattle.tally_book.specs.Answers.{answer_of}
+use Rattle.tally_answers.specs.Answers.{answer_of}
 use Rattle.tally_book.specs.Books.{IsLegal, asked, counts_of}
 use Rattle.tally_book.specs.Contents.{Contents}
 use Rattle.tally_book.specs.inside.Kept.{contents_of}

@@ -1,7 +1,7 @@
 use Rattle.std.proofs.Common.{◌∙◌, ap, arith, length, map, subst, sym}
 use Rattle.std.proofs.lemmas.Result.{IfOk-weaker}
 use Rattle.std.specs.List.{All}
-use Rattle.tally_book.specs.Answers.{IsAskable, NamesHostBelow, answer_of}
+use Rattle.tally_answers.specs.Answers.{IsAskable, NamesHostBelow, answer_of}
 use Rattle.tally_book.specs.Contents.{Contents}
 use Rattle.tally_cli.proofs.Asked.{all_questions, question_count}
 use Rattle.tally_cli.proofs.running.reporting.answers_in.Goals as goal

@@ -1,5 +1,5 @@
 use Rattle.std.proofs.Common.{◌≡◌, ◌∙◌, List, ap, false, length, map, refl, subst, sym, true}
-use Rattle.tally_book.specs.Answers.{answer_of}
+use Rattle.tally_answers.specs.Answers.{answer_of}
 use Rattle.tally_line.specs.declared.job.Report.{Report}
 use Rattle.tally_print.specs.AttemptSections.{attempt_answers}
 use Rattle.tally_print.specs.Output.{Prints, failed_calls}

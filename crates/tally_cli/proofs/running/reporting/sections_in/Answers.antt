@@ -2,7 +2,7 @@ use Rattle.std.proofs.Common.{◌≡◌, ◌∙◌, ap, arith, length, map, subs
 use Rattle.std.proofs.lemmas.Result.{IfOk-weaker}
 use Rattle.std.specs.List.{All}
 use Rattle.std.specs.Prelude.{IfOk}
-use Rattle.tally_book.specs.Answers.{HasDays, IsAskable, NamesHostBelow, answer_of}
+use Rattle.tally_answers.specs.Answers.{HasDays, IsAskable, NamesHostBelow, answer_of}
 use Rattle.tally_book.specs.Contents.{Contents}
 use Rattle.tally_print.specs.Section.{NamesHostBelow as HasHostBelow, answer_in}
 use Rattle.tally_cli.proofs.Asked.{all_questions, question_count}

@@ -1,7 +1,7 @@
 use Rattle.std.proofs.Common.{◌≡◌, ◌∙◌, ◌<◌, ◌++◌, ◌∷◌, [], ap, arith, length, length-append, map, rules, sym, take}
 use Rattle.std.proofs.Math.Seq.{take-length}
 use Rattle.std.proofs.lemmas.List.Elements.{All-push, All-same}
-use Rattle.tally_book.specs.Answers.{HasDays, answer_of}
+use Rattle.tally_answers.specs.Answers.{HasDays, answer_of}
 use Rattle.tally_book.specs.Contents.{Contents}
 use Rattle.tally_cli.proofs.Texts.{answer_same, map_next}
 use Rattle.tally_cli.proofs.running.sections.answers_to.Goals as goal

@@ -1,6 +1,6 @@
 use Rattle.std.proofs.Common.{◌∙◌, ◌+◌, ◌≡◌, ◌++◌, ◌∷◌, [], ap, arith, sym}
 use Rattle.std.proofs.lemmas.List.FromFn.{map-range_with_len_more}
-use Rattle.tally_book.specs.declared.question.Question.TheVariants as questions
+use Rattle.tally_answers.specs.declared.question.Question.TheVariants as questions
 use Rattle.tally_cli.proofs.running.sections.attempts_asked.Goals as goal
 
 pub loop-host-preserved : goal.loop-host-preserved

@@ -1,6 +1,6 @@
 use Rattle.std.proofs.Common.{◌≡◌, map}
 use Rattle.std.specs.List.{range_with_len}
-use Rattle.tally_book.specs.declared.question.Question.TheVariants as questions
+use Rattle.tally_answers.specs.declared.question.Question.TheVariants as questions
 use Rattle.tally_cli.proofs.running.sections.attempts_asked.Given as goal
 
 abbrev pub invariant-loop-host : goal.invariant-loop-host

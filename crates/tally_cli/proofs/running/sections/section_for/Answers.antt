@@ -1,5 +1,5 @@
 use Rattle.std.proofs.Common.{ap, sym}
-use Rattle.tally_book.specs.Answers.{answer_of}
+use Rattle.tally_answers.specs.Answers.{answer_of}
 use Rattle.tally_cli.proofs.running.sections.section_for.Goals as goal
 
 pub returns-in-Last-clause-value : goal.returns-in-Last-clause-value

@@ -2,7 +2,7 @@ use Rattle.std.proofs.Common.{◌≡◌, ◌∙◌, ◌<◌, ◌++◌, ◌∷◌
 use Rattle.std.proofs.Math.Seq.{take-length}
 use Rattle.std.proofs.lemmas.List.{map-append}
 use Rattle.std.proofs.lemmas.List.Elements.{All-push, All-same}
-use Rattle.tally_book.specs.Answers.{HasDays, answer_of}
+use Rattle.tally_answers.specs.Answers.{HasDays, answer_of}
 use Rattle.tally_print.specs.Section.{NamesHostBelow, answer_in}
 use Rattle.tally_print.specs.declared.section.Section.{Section}
 use Rattle.tally_cli.proofs.Texts.{answer_same, map_next}

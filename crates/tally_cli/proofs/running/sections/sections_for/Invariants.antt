@@ -1,7 +1,7 @@
 use Rattle.std.proofs.Common.{◌≡◌, ◌+◌, ◌≤◌, length, map, take}
 use Rattle.std.specs.List.{All}
 use Rattle.std.specs.Vec.{vec_capacity}
-use Rattle.tally_book.specs.Answers.{HasDays, answer_of}
+use Rattle.tally_answers.specs.Answers.{HasDays, answer_of}
 use Rattle.tally_print.specs.Section.{NamesHostBelow, answer_in}
 use Rattle.tally_cli.proofs.running.sections.sections_for.Given as goal
 

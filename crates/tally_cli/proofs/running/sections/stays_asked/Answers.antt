@@ -1,5 +1,5 @@
 use Rattle.std.proofs.Common.{◌∙◌, ◌<◌, ◌++◌, ◌∷◌, [], ap, length, rules, sym}
-use Rattle.tally_book.specs.declared.question.Question.TheVariants as questions
+use Rattle.tally_answers.specs.declared.question.Question.TheVariants as questions
 use Rattle.tally_cli.proofs.Texts.{stays_more, stays_same}
 use Rattle.tally_cli.proofs.running.sections.stays_asked.Goals as goal
 

@@ -1,8 +1,8 @@
 use Rattle.std.proofs.Common.{◌≡◌, [], ◌∷◌, ℤ, Bool, FitsSigned, List, ap, refl, rules, subst, sym, to_z-of_z, w32}
 use Rattle.std.proofs.lemmas.Result.{IfOk-weaker}
-use Rattle.tally_book.specs.Answers.{IsAnswerOfCounts, answer_of}
-use Rattle.tally_book.specs.declared.question.Answer.{Answer}
-use Rattle.tally_book.specs.declared.question.Question.TheVariants as questions
+use Rattle.tally_answers.specs.Answers.{IsAnswerOfCounts, answer_of}
+use Rattle.tally_answers.specs.declared.question.Answer.{Answer}
+use Rattle.tally_answers.specs.declared.question.Question.TheVariants as questions
 use Rattle.tally_clock.specs.Rows.{ClockRows}
 use Rattle.tally_line.specs.declared.job.Job.{Job}
 use Rattle.tally_line.specs.declared.job.Report.TheVariants as report

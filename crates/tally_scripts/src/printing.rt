@@ -1,6 +1,6 @@
 //! Receipts, and answers that are copied and printed.
 ghost use Rattle.std.specs.Prelude.{◌≡◌, IfOk};
-ghost use Rattle.tally_book.specs.Answers.{HasDays};
+ghost use Rattle.tally_answers.specs.Answers.{HasDays};
 
 use crate::stopped::{Stopped, after, stop};
 use crate::watched::{Watched, print_watched, see_part};

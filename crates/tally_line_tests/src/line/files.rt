@@ -1,9 +1,9 @@
 //! Which files the words of a command line name.
 
 use super::answers::{Wanted, expect_all, expect_line, words_of};
-use crate::cli::expect::{expect_that, made};
+use crate::expect::{expect_that, made};
 use std::process::Abort;
-use tally_cli::file_word;
+use tally_line::file_word;
 use tally_records::Kind;
 
 #[test]

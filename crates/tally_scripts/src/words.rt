@@ -2,7 +2,7 @@
 
 use crate::stopped::{Stopped, stop};
 use std::alloc::{AllocError, Global};
-use tally_cli::{Line, LineFault, file_word, job_of};
+use tally_line::{Line, LineFault, file_word, job_of};
 
 /// The command lines.
 const LINES: [&[&str]; 3] = [
@@ -73,7 +73,7 @@ fn print_read<R: Print + AllocGlobal>(
 }
 
 /// Prints what the words are read as, read again where memory was refused.
-fn print_words<R: Print + AllocGlobal>(rt: &R, words: &[String]) -> Result<(), Stopped> {
+fn print_read_words<R: Print + AllocGlobal>(rt: &R, words: &[String]) -> Result<(), Stopped> {
     let read = match job_of(rt.alloc(), words) {
         Err(LineFault::Memory) => job_of(rt.alloc(), words),
         read => read,
@@ -86,13 +86,13 @@ fn print_words<R: Print + AllocGlobal>(rt: &R, words: &[String]) -> Result<(), S
 /// Prints what a command line is read as.
 fn print_line<R: Print + AllocGlobal>(rt: &R, given: &[&str]) -> Result<(), Stopped> {
     let words = words(rt.alloc(), given)?;
-    let printed = print_words(rt, words.as_slice());
+    let printed = print_read_words(rt, words.as_slice());
     drop(words);
     printed
 }
 
 /// Prints what each command line is read as.
-pub(crate) fn script<R: Print + AllocGlobal>(rt: &R) -> Result<(), Stopped> {
+pub fn print_words<R: Print + AllocGlobal>(rt: &R) -> Result<(), Stopped> {
     for given in LINES {
         print_line(rt, given)?;
     }

@@ -1,6 +1,6 @@
 //! The worked script on a desk of two callers, whose passes one thread uses.
 ghost use Rattle.std.specs.Prelude.{◌≡◌, All, IfOk};
-ghost use Rattle.tally_book.specs.Answers.{HasDays, IsAskable};
+ghost use Rattle.tally_answers.specs.Answers.{HasDays, IsAskable};
 
 use crate::book::{COMMANDS, TOTAL, count_parts, hour, makes};
 use crate::printing::{print_receipt, print_refusal, print_served};

@@ -3,14 +3,14 @@ ghost use Rattle.std.specs.Prelude.{◌≡◌, IfOk, Ok};
 use std::alloc::AllocError;
 use std::io;
 use tally_book::{AskFault, PostFault};
-use tally_cli::LineFault;
 use tally_clock::RuleFault;
 use tally_desk::{FeedFault, OpenFault};
+use tally_line::LineFault;
 use tally_records::{BatchFault, Memory};
 
 /// Why a script stopped.
 #[derive(Drop)]
-pub(crate) enum Stopped {
+pub enum Stopped {
     /// Memory was refused twice.
     Memory,
     Write,
@@ -22,7 +22,7 @@ pub(crate) enum Stopped {
 
 impl Stopped {
     /// The text of it, in two parts.
-    pub(crate) fn text(&self) -> (&'static str, &'static str) {
+    pub fn text(&self) -> (&'static str, &'static str) {
         match self {
             Stopped::Memory => ("out of memory twice", ""),
             Stopped::Write => ("write failed", ""),
@@ -133,7 +133,7 @@ pub(crate) fn see(is_same: bool, what: &'static str) -> Result<(), Stopped> {
 }
 
 /// The value, where what was done with it went well.
-pub(crate) fn after<T: Drop, E: Drop>(done: Result<(), E>, value: T) -> Result<T, E>
+pub fn after<T: Drop, E: Drop>(done: Result<(), E>, value: T) -> Result<T, E>
     ensures { IfOk result (λ same. same ≡ value) }
 {
     done?;

@@ -1,7 +1,7 @@
 //! What the words of `check` ask for.
 
-use crate::cli::line::answers::{Checked, Wanted, expect_all, expect_each};
-use tally_cli::Form;
+use crate::line::answers::{Checked, Wanted, expect_all, expect_each};
+use tally_line::Form;
 
 #[test]
 fn a_check_has_its_form_its_clock_and_its_paths(rt: HostRuntime) {

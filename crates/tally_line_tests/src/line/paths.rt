@@ -1,6 +1,6 @@
 //! What words on files that are told apart ask for.
 
-use crate::cli::line::answers::{Wanted, expect_each};
+use crate::line::answers::{Wanted, expect_each};
 use tally_line::FilesAsked;
 
 const NO_TABLE: &str =

@@ -1,10 +1,10 @@
 -- Worked connect times of one host, computed by the definitions.
 use Rattle.std.proofs.Common.{◌≡◌, Bool, true, false, List, [], ◌∷◌, ◌++◌, None, Some, ℕ, pos, refl}
 use Rattle.std.specs.Prelude.{codes}
-use Rattle.tally_book.specs.Answers.{answer_of}
-use Rattle.tally_book.specs.declared.question.Answer.{Answer}
-use Rattle.tally_book.specs.declared.question.Answer.TheVariants as answers
-use Rattle.tally_book.specs.declared.question.Question.TheVariants as questions
+use Rattle.tally_answers.specs.Answers.{answer_of}
+use Rattle.tally_answers.specs.declared.question.Answer.{Answer}
+use Rattle.tally_answers.specs.declared.question.Answer.TheVariants as answers
+use Rattle.tally_answers.specs.declared.question.Question.TheVariants as questions
 use Rattle.tally_clock.specs.Rows.{utc}
 use Rattle.tally_records.specs.Choice.{every_login}
 use Rattle.tally_records.specs.declared.login.LoginRecord.{LoginRecord}

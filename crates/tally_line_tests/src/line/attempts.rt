@@ -1,11 +1,10 @@
 //! What the words of `lastb` ask for.
 
-use crate::cli::expect::expect_that;
-use crate::cli::line::answers::{Wanted, expect_all, expect_each, expect_line, words_of};
+use crate::expect::expect_that;
+use crate::line::answers::{Wanted, expect_all, expect_each, expect_line, words_of};
 use std::process::Abort;
-use tally_cli::{Line, Report, job_of};
 use tally_clock::Clock;
-use tally_line::settle;
+use tally_line::{Line, Report, job_of, settle};
 use tally_records::{Kind, LoginChoice, Period};
 
 #[test]

@@ -8,13 +8,13 @@ use tally_print::{Kept, Output, OutputFault, PrintFault};
 
 /// What was written, and whether a write failed.
 #[derive(Drop)]
-pub(crate) struct Watched {
-    pub(crate) kept: Kept,
-    pub(crate) failed: bool,
+pub struct Watched {
+    pub kept: Kept,
+    pub failed: bool,
 }
 
 impl Watched {
-    pub(crate) fn new(alloc: Global) -> Watched
+    pub fn new(alloc: Global) -> Watched
         ensures { result.kept.failures ≡ 0 }
     {
         Watched {
@@ -45,7 +45,7 @@ pub(crate) fn see_part(
 }
 
 /// Prints what was written.
-pub(crate) fn print_watched<R: Print>(rt: &R, written: Watched) -> Result<(), Stopped> {
+pub fn print_watched<R: Print>(rt: &R, written: Watched) -> Result<(), Stopped> {
     let printed = io::writer(rt).write_all(written.kept.bytes());
     drop(written);
     stop(printed)

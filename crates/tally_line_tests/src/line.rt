@@ -8,8 +8,8 @@ mod moments;
 mod paths;
 mod zones;
 
-use crate::cli::line::answers::{Wanted, expect_all, expect_each};
-use tally_cli::Report;
+use crate::line::answers::{Wanted, expect_all, expect_each};
+use tally_line::Report;
 use tally_usage::Order;
 
 #[test]

@@ -1,7 +1,7 @@
 //! The moments of a command line, and the job that they make on a clock.
 
-use crate::cli::expect::expect_that;
-use crate::cli::line::answers::{Wanted, expect_all, expect_each};
+use crate::expect::expect_that;
+use crate::line::answers::{Wanted, expect_all, expect_each};
 use tally_clock::Clock;
 use tally_line::{Form, Job, Report, Times, TimesFault, known_fault, settle};
 use tally_moments::Moment;

@@ -1,10 +1,10 @@
 -- The answer to a question, over the stored entries.
 use Rattle.std.specs.Prelude.{◌≡◌, ℕ, ℤ, ◌<◌, All, IfSome, List, [], Bool, true, false, Option, Some, None, map}
-use Rattle.tally_book.specs.declared.question.Question.{Question}
-use Rattle.tally_book.specs.declared.question.Question.TheVariants as questions
-use Rattle.tally_book.specs.declared.question.Answer.{Answer}
-use Rattle.tally_book.specs.declared.question.Answer.TheVariants as answers
-use Rattle.tally_book.specs.declared.question.ConnectRow.{ConnectRow}
+use Rattle.tally_answers.specs.declared.question.Question.{Question}
+use Rattle.tally_answers.specs.declared.question.Question.TheVariants as questions
+use Rattle.tally_answers.specs.declared.question.Answer.{Answer}
+use Rattle.tally_answers.specs.declared.question.Answer.TheVariants as answers
+use Rattle.tally_answers.specs.declared.question.ConnectRow.{ConnectRow}
 use Rattle.tally_attempts.specs.Attempts.{latest_attempts}
 use Rattle.tally_attempts.specs.Sums.{attempt_sums}
 use Rattle.tally_clock.specs.Rows.{ClockRows}

@@ -1,9 +1,8 @@
 //! What a command line is read as, compared with what is wanted by one function that owns it.
 
-use crate::cli::expect::{expect_that, made};
+use crate::expect::{expect_that, made};
 use std::process::Abort;
-use tally_cli::{FileArg, Form, Job, Line, LineFault, Report, job_of};
-use tally_line::{Check, FilesAsked};
+use tally_line::{Check, FileArg, FilesAsked, Form, Job, Line, LineFault, Report, job_of};
 use tally_moments::Moment;
 use tally_records::{Kind, LoginChoice};
 use tally_usage::Order;

@@ -1,6 +1,6 @@
 //! The sessions that a book of running times and a night hands out: their stays one by one, and printed as sections.
 ghost use Rattle.std.specs.Prelude.{◌≡◌, ◌<◌, All, IfOk};
-ghost use Rattle.tally_book.specs.Answers.{HasDays};
+ghost use Rattle.tally_answers.specs.Answers.{HasDays};
 ghost use Rattle.tally_print.specs.Section.{NamesHostBelow, answer_in};
 
 use crate::book::new_book;

@@ -5,12 +5,12 @@ use Rattle.std.specs.Prelude.{codes}
 use Rattle.tally_attempts.specs.Sums.{sum_rows}
 use Rattle.tally_attempts.specs.declared.attempt.Attempt.{Attempt}
 use Rattle.tally_attempts.specs.declared.attempt.AttemptSum.{AttemptSum}
-use Rattle.tally_book.specs.Answers.{answer_of}
-use Rattle.tally_book.specs.declared.question.Answer.{Answer}
-use Rattle.tally_book.specs.declared.question.Answer.TheVariants as answers
-use Rattle.tally_book.specs.declared.question.ConnectRow.{ConnectRow}
-use Rattle.tally_book.specs.declared.question.Question.{Question}
-use Rattle.tally_book.specs.declared.question.Question.TheVariants as questions
+use Rattle.tally_answers.specs.Answers.{answer_of}
+use Rattle.tally_answers.specs.declared.question.Answer.{Answer}
+use Rattle.tally_answers.specs.declared.question.Answer.TheVariants as answers
+use Rattle.tally_answers.specs.declared.question.ConnectRow.{ConnectRow}
+use Rattle.tally_answers.specs.declared.question.Question.{Question}
+use Rattle.tally_answers.specs.declared.question.Question.TheVariants as questions
 use Rattle.tally_clock.specs.Days.{seconds_from}
 use Rattle.tally_clock.specs.Rows.{ClockRows, no_row, utc}
 use Rattle.tally_clock.specs.declared.row.Row.{Row}

@@ -1,6 +1,6 @@
 //! The worked script of a book of two callers: one session of an hour, and three runs of make.
 ghost use Rattle.std.specs.Prelude.{◌≡◌, ◌<◌, IfOk};
-ghost use Rattle.tally_book.specs.Answers.{IsAskable, HasDays};
+ghost use Rattle.tally_answers.specs.Answers.{IsAskable, HasDays};
 
 use crate::bytes::{logins, make_record, procs, put, session};
 use crate::held::{Held, held_by, holds};

@@ -6,14 +6,14 @@ use std::alloc::Global;
 use tally_records::{Batch, BatchFault};
 
 /// Writes a text into bytes at a place.
-pub(crate) fn put(bytes: &mut [u8], at: usize, text: &[u8]) {
+pub fn put(bytes: &mut [u8], at: usize, text: &[u8]) {
     for (to, from) in bytes.iter_mut().skip(at).zip(text) {
         *to = *from;
     }
 }
 
 /// The login record of these fields, all others zero.
-pub(crate) fn login_record(kind: u8, line: &str, user: &str, time: i32) -> [u8; 384] {
+pub fn login_record(kind: u8, line: &str, user: &str, time: i32) -> [u8; 384] {
     let mut bytes = [0; 384];
     bytes[0] = kind;
     put(&mut bytes, 8, line.as_bytes());

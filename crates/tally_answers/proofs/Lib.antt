@@ -1,0 +1,2 @@
+pub mod WorkedAnswers
+pub mod WorkedHosts
