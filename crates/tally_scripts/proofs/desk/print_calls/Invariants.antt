@@ -1,5 +1,5 @@
 use Rattle.std.proofs.Common.{◌≡◌}
-use Rattle.tally_tests.proofs.desk.print_calls.Given as goal
+use Rattle.tally_scripts.proofs.desk.print_calls.Given as goal
 
 abbrev pub invariant-loop-turn : goal.invariant-loop-turn
 invariant-loop-turn g l = record {
